@@ -1,0 +1,16 @@
+pub mod Lists
+pub mod Names
+pub mod Table
+pub mod Direct
+pub mod Says
+pub mod Nodes
+pub mod Numbers
+pub mod Deepest
+pub mod Step
+pub mod TableStep
+pub mod NodeStep
+pub mod Alike
+pub mod Symbols
+pub mod Machine
+pub mod Claim
+pub mod Examples

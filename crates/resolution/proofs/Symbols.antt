@@ -1,0 +1,130 @@
+-- Laws of symbols: a URN's symbol is one of the table's, and folding symbols gives direct resolution's signals.
+use Prim.Native.Nat.{ℕ, zero, suc, _+_, _≤_, _<_}
+use mathlib.Core.Path.{_≡_, refl, sym, ap, _∙_}
+use mathlib.Core.Logic.{_⊎_, inl, inr, _≢_}
+use mathlib.Core.Bool.{Bool, true, false, cond, not, _&&_, _||_, true≢false, false≢true, and-eq-true-iff}
+use mathlib.Core.List.{List, [], _∷_, _++_, foldl, List·Memᴰ, List·Memᴰ·head, List·Memᴰ·tail, Memᴰ·append-left, Memᴰ·append-right}
+use lib.Dec.{eqb}
+use borrow.Author.Tests.{eqb-true, eqb-false, eq-eqb}
+use lib.ListN.{length, getD}
+use native.Mathlib.Omega.{arith}
+use Rattle.resolution.specs.Names.{Name, Parts, sameParts, longer}
+use Rattle.resolution.specs.Table.{Urn, urn, Table, WellFormed}
+use Rattle.resolution.specs.Direct.{State, start, envOf, direct, Used}
+use Rattle.resolution.specs.Nodes.{sameUrn, member, isNode, leaf, firstNode, deepest, nodes}
+use Rattle.resolution.specs.Symbols.{Symbol, node, other, isOther, symbolOf, nodeSymbols, symbolsFrom, symbols, stepSymbol, symbolAt, sameBool, sameSymbol, symbolIndex}
+use Rattle.resolution.proofs.Lists.{Exact, member-of, index-member}
+use Rattle.resolution.proofs.Names.{parts-exact}
+use Rattle.resolution.proofs.TableStep.{table-laws, valid-start}
+use Rattle.resolution.proofs.Alike.{alike-run}
+
+bool-to : (a b : Bool) → sameBool a b ≡ true → a ≡ b
+bool-to true true e = refl
+bool-to true false e = sym e
+bool-to false true e = e
+bool-to false false e = refl
+
+bool-self : (a : Bool) → sameBool a a ≡ true
+bool-self true = refl
+bool-self false = refl
+
+symbol-to : (a b : Symbol) → sameSymbol a b ≡ true → a ≡ b
+symbol-to a b e =
+    let h = and-eq-true-iff (eqb (a .cat) (b .cat)) (sameParts (a .path) (b .path) && sameBool (a .other) (b .other)) .0 e in
+    let k = and-eq-true-iff (sameParts (a .path) (b .path)) (sameBool (a .other) (b .other)) .0 (h .1) in
+    let p = eqb-true (a .cat) (b .cat) (h .0) in
+    let q = parts-exact .to (a .path) (b .path) (k .0) in
+    let r = bool-to (a .other) (b .other) (k .1) in
+    λ i. record { cat = p i; path = q i; other = r i }
+
+symbol-self : (a : Symbol) → sameSymbol a a ≡ true
+symbol-self a = rw (eq-eqb (a .cat) (a .cat) refl, parts-exact .self (a .path)) (bool-self (a .other))
+
+pub symbol-exact : Exact sameSymbol
+symbol-exact = record { to = symbol-to; self = symbol-self }
+
+-- the deepest node is a node or the root
+deep-node : (ns : List Urn) (c : ℕ) (ps : List Parts) → (firstNode ns c ps ≡ []) ⊎ (isNode ns c (firstNode ns c ps) ≡ true)
+deep-node ns c [] = inl refl
+deep-node ns c (p ∷ ps) = go (isNode ns c p) refl (deep-node ns c ps)
+  where
+    go : (b : Bool) → isNode ns c p ≡ b → (firstNode ns c ps ≡ []) ⊎ (isNode ns c (firstNode ns c ps) ≡ true) → (firstNode ns c (p ∷ ps) ≡ []) ⊎ (isNode ns c (firstNode ns c (p ∷ ps)) ≡ true)
+    go true e k = inr (rw e e)
+    go false e (inl k) = inl (rw e k)
+    go false e (inr k) = inr (rw e k)
+
+-- a node's symbols stand in its category's list
+module _ (ns : List Urn) (c : ℕ) (p : Parts) where
+  node-listed : (ms : List Urn) → member (urn c p) ms ≡ true → List·Memᴰ (node c p) (nodeSymbols ns c ms)
+  node-listed [] h = absurd (false≢true h)
+  node-listed (n ∷ ms) h = go (sameUrn (urn c p) n) refl (λ k. node-listed ms k)
+    where
+      go : (b : Bool) → sameUrn (urn c p) n ≡ b → (member (urn c p) ms ≡ true → List·Memᴰ (node c p) (nodeSymbols ns c ms)) → List·Memᴰ (node c p) (nodeSymbols ns c (n ∷ ms))
+      go true e ih =
+          let k = and-eq-true-iff (eqb c (n .cat)) (sameParts p (n .path)) .0 e in
+          rw (← eqb-true c (n .cat) (k .0), eq-eqb c c refl, ← parts-exact .to p (n .path) (k .1)) (List·Memᴰ·head refl)
+      go false e ih = Memᴰ·append-right (cond (eqb (n .cat) c) (node c (n .path) ∷ cond (leaf ns c (n .path)) [] (other c (n .path) ∷ [])) []) (ih (rw e at h))
+
+  other-listed : leaf ns c p ≡ false → (ms : List Urn) → member (urn c p) ms ≡ true → List·Memᴰ (other c p) (nodeSymbols ns c ms)
+  other-listed l [] h = absurd (false≢true h)
+  other-listed l (n ∷ ms) h = go (sameUrn (urn c p) n) refl (λ k. other-listed l ms k)
+    where
+      go : (b : Bool) → sameUrn (urn c p) n ≡ b → (member (urn c p) ms ≡ true → List·Memᴰ (other c p) (nodeSymbols ns c ms)) → List·Memᴰ (other c p) (nodeSymbols ns c (n ∷ ms))
+      go true e ih =
+          let k = and-eq-true-iff (eqb c (n .cat)) (sameParts p (n .path)) .0 e in
+          rw (← eqb-true c (n .cat) (k .0), eq-eqb c c refl, ← parts-exact .to p (n .path) (k .1), l) (List·Memᴰ·tail (List·Memᴰ·head refl))
+      go false e ih = Memᴰ·append-right (cond (eqb (n .cat) c) (node c (n .path) ∷ cond (leaf ns c (n .path)) [] (other c (n .path) ∷ [])) []) (ih (rw e at h))
+
+-- a symbol of category c stands among those of the k categories from b on
+listed : (ns : List Urn) (s : Symbol) (c b k : ℕ) → b ≤ c → c < b + k → List·Memᴰ s (nodeSymbols ns c ns) ⊎ (s ≡ other c []) → List·Memᴰ s (symbolsFrom ns b k)
+listed ns s c b zero lo hi m = absurd (omega arith)
+listed ns s c b (suc k) lo hi m = go (eqb b c) refl m (λ l h. listed ns s c (suc b) k l h m)
+  where
+    here : b ≡ c → List·Memᴰ s (nodeSymbols ns c ns) ⊎ (s ≡ other c []) → List·Memᴰ s (nodeSymbols ns b ns ++ other b [] ∷ symbolsFrom ns (suc b) k)
+    here e (inl x) = Memᴰ·append-left {s = nodeSymbols ns b ns} (other b [] ∷ symbolsFrom ns (suc b) k) (rw e x)
+    here e (inr x) = Memᴰ·append-right (nodeSymbols ns b ns) (List·Memᴰ·head (x ∙ ap (λ i. other i []) (sym e)))
+
+    go : (t : Bool) → eqb b c ≡ t → List·Memᴰ s (nodeSymbols ns c ns) ⊎ (s ≡ other c []) → (suc b ≤ c → c < suc b + k → List·Memᴰ s (symbolsFrom ns (suc b) k))
+        → List·Memᴰ s (nodeSymbols ns b ns ++ other b [] ∷ symbolsFrom ns (suc b) k)
+    go true e x ih = here (eqb-true b c e) x
+    go false e x ih =
+        let n = eqb-false b c e in
+        Memᴰ·append-right (nodeSymbols ns b ns) (List·Memᴰ·tail (ih (omega arith) (omega arith)))
+
+which : (ns : List Urn) (c : ℕ) (p d : Parts) → p ≢ [] → (d ≡ []) ⊎ (isNode ns c d ≡ true)
+    → List·Memᴰ (record { cat = c; path = d; other = isOther ns c p d }) (nodeSymbols ns c ns) ⊎ (record { cat = c; path = d; other = isOther ns c p d } ≡ other c [])
+unfolding leaf
+which ns c p d some-part r = go (sameParts d p) refl (leaf ns c d) refl r
+  where
+    go : (b : Bool) → sameParts d p ≡ b → (l : Bool) → leaf ns c d ≡ l → (d ≡ []) ⊎ (isNode ns c d ≡ true)
+        → List·Memᴰ (record { cat = c; path = d; other = isOther ns c p d }) (nodeSymbols ns c ns) ⊎ (record { cat = c; path = d; other = isOther ns c p d } ≡ other c [])
+    go true e l k (inl z) = absurd (some-part (sym (parts-exact .to d p e) ∙ z))
+    go true e l k (inr n) = inl (rw e (node-listed ns c d ns n))
+    go false e true k (inl z) = let w : false ≡ true = rw z at k in absurd (false≢true w)
+    go false e true k (inr n) = inl (rw (e, k) (node-listed ns c d ns n))
+    go false e false k (inl z) = inr (rw (e, k, z))
+    go false e false k (inr n) = inl (rw (e, k) (other-listed ns c d k ns n))
+
+pub symbol-listed : (t : Table) (u : Urn) → Used t u → List·Memᴰ (symbolOf (nodes t) u) (symbols t)
+unfolding deepest
+symbol-listed t u used =
+    listed (nodes t) (symbolOf (nodes t) u) (u .cat) 0 (t .cats) (omega arith) (omega (arith, used .known))
+    (which (nodes t) (u .cat) (u .path) (deepest (nodes t) (u .cat) (u .path)) (used .some-part) (deep-node (nodes t) (u .cat) (longer [] (u .path))))
+
+-- a used URN's symbol stands at its number
+pub symbol-at-index : (t : Table) (u : Urn) → Used t u
+    → (symbolIndex (symbolOf (nodes t) u) (symbols t) < length (symbols t)) × (symbolAt t (symbolIndex (symbolOf (nodes t) u) (symbols t)) ≡ symbolOf (nodes t) u)
+symbol-at-index t u used =
+    index-member sameSymbol symbol-exact (other 0 []) (symbolOf (nodes t) u) (symbols t)
+    (member-of sameSymbol symbol-exact (symbolOf (nodes t) u) (symbols t) (symbol-listed t u used))
+
+module _ (t : Table) (wf : WellFormed t) where
+  -- the state after a list's symbols
+  abbrev pub bySymbols : List Urn → State
+  bySymbols us = foldl (λ st u. stepSymbol t st (symbolOf (nodes t) u)) (start (t .cats)) us
+
+  -- by URNs and by symbols: the same signal after every list
+  pub same-signals : (us : List Urn) → ((u : Urn) → List·Memᴰ u us → u .cat < t .cats) → direct t us .signal ≡ bySymbols us .signal
+  same-signals us known =
+      alike-run (envOf t) (t .cats) (nodes t) (table-laws t wf) (start (t .cats)) (start (t .cats)) us known (valid-start t wf) (valid-start t wf)
+      (record { same = refl; each = λ c h. inl refl }) .same

@@ -1,0 +1,77 @@
+-- Symbols: which one a URN is turned into, the step by a symbol, and a table's symbols in their order.
+use Prim.Native.Nat.{ℕ, zero, suc}
+use mathlib.Core.Bool.{Bool, true, false, cond, not, _&&_, _||_}
+use mathlib.Core.List.{List, [], _∷_, _++_}
+use lib.Dec.{eqb}
+use lib.ListN.{getD}
+use Rattle.resolution.specs.Lists.{indexBy}
+use Rattle.resolution.specs.Names.{Parts, sameParts}
+use Rattle.resolution.specs.Table.{Urn, urn, Table}
+use Rattle.resolution.specs.Direct.{State, step, envOf}
+use Rattle.resolution.specs.Nodes.{nodes, leaf, deepest}
+
+-- a node, or Other under a node or the root: what lies under it and is no node
+pub record Symbol : Type 0 where
+  pub cat : ℕ
+  pub path : Parts
+  pub other : Bool
+
+abbrev pub node : ℕ → Parts → Symbol
+node c p = record { cat = c; path = p; other = false }
+
+abbrev pub other : ℕ → Parts → Symbol
+other c p = record { cat = c; path = p; other = true }
+
+-- the symbol of a URN u whose deepest node or root is d: d itself, if it is u or a leaf; else Other under d
+abbrev pub isOther : List Urn → ℕ → Parts → Parts → Bool
+isOther ns c u d = not (sameParts d u || leaf ns c d)
+
+abbrev pub symbolOf : List Urn → Urn → Symbol
+symbolOf ns u =
+    record {
+      cat = u .cat;
+      path = deepest ns (u .cat) (u .path);
+      other = isOther ns (u .cat) (u .path) (deepest ns (u .cat) (u .path));
+    }
+
+-- the path that a symbol steps as; for Other with one more part that no node has: the empty name
+abbrev pub stepsAsPath : Bool → Parts → Parts
+stepsAsPath false p = p
+stepsAsPath true p = p ++ [] ∷ []
+
+abbrev pub stepsAs : Symbol → Urn
+stepsAs s = urn (s .cat) (stepsAsPath (s .other) (s .path))
+
+-- the state after one symbol
+abbrev pub stepSymbol : Table → State → Symbol → State
+stepSymbol t st s = step (envOf t) st (stepsAs s)
+
+-- the symbols of category c's nodes, by number: each node and, unless it is a leaf, its Other
+abbrev pub nodeSymbols : List Urn → ℕ → List Urn → List Symbol
+nodeSymbols ns c [] = []
+nodeSymbols ns c (n ∷ rest) =
+    cond (eqb (n .cat) c) (node c (n .path) ∷ cond (leaf ns c (n .path)) [] (other c (n .path) ∷ [])) [] ++ nodeSymbols ns c rest
+
+-- the symbols of the k categories from c on, each category's own Other last
+abbrev pub symbolsFrom : List Urn → ℕ → ℕ → List Symbol
+symbolsFrom ns c zero = []
+symbolsFrom ns c (suc k) = nodeSymbols ns c ns ++ other c [] ∷ symbolsFrom ns (suc c) k
+
+abbrev pub symbols : Table → List Symbol
+symbols t = symbolsFrom (nodes t) 0 (t .cats)
+
+-- the symbol with number k, counted from 0
+abbrev pub symbolAt : Table → ℕ → Symbol
+symbolAt t k = getD (symbols t) k (other 0 [])
+
+abbrev pub sameBool : Bool → Bool → Bool
+sameBool true b = b
+sameBool false true = false
+sameBool false false = true
+
+abbrev pub sameSymbol : Symbol → Symbol → Bool
+sameSymbol a b = eqb (a .cat) (b .cat) && (sameParts (a .path) (b .path) && sameBool (a .other) (b .other))
+
+-- a symbol's number in the list
+abbrev pub symbolIndex : Symbol → List Symbol → ℕ
+symbolIndex = indexBy sameSymbol
