@@ -12,5 +12,7 @@ pub mod NodeStep
 pub mod Alike
 pub mod Symbols
 pub mod Machine
+pub mod Discovery
+pub mod Build
 pub mod Claim
 pub mod Examples

@@ -1,14 +1,16 @@
 -- Laws of lists: tests of equality, members, adding, and places in lists without repeats.
-use Prim.Native.Nat.{ℕ, zero, suc, _+_, _<_}
-use mathlib.Core.Path.{_≡_, refl, sym, ap, _∙_}
+use Prim.Native.Nat.{ℕ, zero, suc, _+_, _≤_, _<_}
+use mathlib.Core.Path.{_≡_, refl, sym, ap, ap₂, _∙_}
 use mathlib.Core.Logic.{_⊎_, inl, inr}
 use mathlib.Core.Bool.{Bool, true, false, cond, _&&_, _||_, true≢false, false≢true, and-eq-true-iff}
 use mathlib.Core.List.{List, [], _∷_, _++_, append-assoc, append-nil, List·Memᴰ, List·Memᴰ·head, List·Memᴰ·tail, List·Memᴰ·cases-cons, List·Memᴰ·not-nil}
 use lib.Dec.{eqb}
 use borrow.Author.Tests.{eqb-true, eq-eqb}
-use lib.ListN.{length, getD, set, take, List·getD-append}
+use lib.ListN.{length, getD, set, take, length-append, List·getD-append}
+use lib.Seq.{getD-at}
+use native.Mathlib.Decide.{ℕ-discrete}
 use native.Mathlib.Omega.{arith}
-use Rattle.resolution.specs.Lists.{sameList, memberBy, addBy, indexBy, Distinct}
+use Rattle.resolution.specs.Lists.{sameList, memberBy, addBy, indexBy, Distinct, tabulate}
 
 -- a test that tells equality
 pub record Exact {A : Type 0} (f : A → A → Bool) : Type 0 where
@@ -202,3 +204,61 @@ module _ {A : Type 0} (f : A → A → Bool) (ex : Exact f) where
           let z : true ≡ false = sym (member-of (getD l k d) l (mem-at l k d (omega arith))) ∙ ap (λ u. memberBy f u l) q ∙ n .0 in
           absurd (true≢false z)
       go false e ih = rw e (ap suc ih)
+
+  -- the list without the first x
+  abbrev remove : A → List A → List A
+  remove x [] = []
+  remove x (y ∷ l) = cond (f x y) l (y ∷ remove x l)
+
+  remove-length : (x : A) (l : List A) → memberBy f x l ≡ true → length l ≡ suc (length (remove x l))
+  remove-length x [] h = absurd (false≢true h)
+  remove-length x (y ∷ l) h = go (f x y) refl (λ e. remove-length x l e)
+    where
+      go : (b : Bool) → f x y ≡ b → (memberBy f x l ≡ true → length l ≡ suc (length (remove x l))) → length (y ∷ l) ≡ suc (length (remove x (y ∷ l)))
+      go true e ih = rw e
+      go false e ih = rw e (ap suc (ih (rw e at h)))
+
+  remove-keeps : (x y : A) (l : List A) → memberBy f y l ≡ true → f x y ≡ false → memberBy f y (remove x l) ≡ true
+  remove-keeps x y [] h n = absurd (false≢true h)
+  remove-keeps x y (z ∷ l) h n = go (f x z) refl (f y z) refl (λ e. remove-keeps x y l e n)
+    where
+      go : (b : Bool) → f x z ≡ b → (c : Bool) → f y z ≡ c → (memberBy f y l ≡ true → memberBy f y (remove x l) ≡ true) → memberBy f y (remove x (z ∷ l)) ≡ true
+      go true e true i ih =
+          let k : f x y ≡ true = ap (f x) (ex .to y z i) ∙ e in
+          absurd (true≢false (sym k ∙ n))
+      go true e false i ih = rw e (rw i at h)
+      go false e true i ih = rw (e, i)
+      go false e false i ih = rw (e, i) (ih (rw i at h))
+
+  -- a list without repeats, all of whose elements are in another, is no longer than that
+  pub distinct-fits : (l k : List A) → Distinct f l → ((x : A) → List·Memᴰ x l → memberBy f x k ≡ true) → length l ≤ length k
+  distinct-fits [] k d h = omega arith
+  distinct-fits (x ∷ l) k d h =
+      omega (arith, remove-length x k (h x (List·Memᴰ·head refl)), distinct-fits l (remove x k) (d .1) (λ y m. remove-keeps x y k (h y (List·Memᴰ·tail m)) (other y m)))
+    where
+      other : (y : A) → List·Memᴰ y l → f x y ≡ false
+      other y m = go (f x y) refl
+        where
+          go : (b : Bool) → f x y ≡ b → b ≡ false
+          go false e = refl
+          go true e = let i : memberBy f x l ≡ true = rw (ex .to x y e) (member-of y l m) in absurd (true≢false (sym i ∙ d .0))
+
+-- entries of a table of values
+pub tabulate-length : {A : Type 0} (f : ℕ → A) (n : ℕ) → length (tabulate f n) ≡ n
+unfolding tabulate
+tabulate-length f zero = refl
+tabulate-length f (suc n) = omega (arith, length-append (tabulate f n) (f n ∷ []), tabulate-length f n)
+
+pub tabulate-at : {A : Type 0} (f : ℕ → A) (n k : ℕ) (d : A) → k < n → getD (tabulate f n) k d ≡ f k
+unfolding tabulate
+tabulate-at f zero k d h = absurd (omega arith)
+tabulate-at f (suc n) k d h = go (ℕ-discrete k n) (λ i. tabulate-at f n k d i)
+  where
+    go : Dec (k ≡ n) → (k < n → getD (tabulate f n) k d ≡ f k) → getD (tabulate f n ++ f n ∷ []) k d ≡ f k
+    go (yes e) ih = getD-at (tabulate f n) (f n) [] d k (tabulate-length f n ∙ sym e) ∙ ap f (sym e)
+    go (no e) ih = List·getD-append (tabulate f n) (f n ∷ []) d k (omega (arith, tabulate-length f n)) ∙ ih (omega arith)
+
+pub tabulate-same : {A : Type 0} (f g : ℕ → A) (n : ℕ) → ((k : ℕ) → k < n → f k ≡ g k) → tabulate f n ≡ tabulate g n
+unfolding tabulate
+tabulate-same f g zero h = refl
+tabulate-same f g (suc n) h = ap₂ (λ l x. l ++ x ∷ []) (tabulate-same f g n (λ k i. h k (omega arith))) (h n (omega arith))

@@ -1,0 +1,69 @@
+-- Laws of the built machine: it is right where the discovery has come to its end, which it does unless too many states
+-- are reachable.
+use Prim.Native.Nat.{ℕ, zero, suc, _+_, _≤_, _<_}
+use mathlib.Core.Path.{_≡_, refl, sym, ap, _∙_}
+use mathlib.Core.Bool.{Bool, true}
+use mathlib.Core.List.{List, [], _∷_, map, foldl, List·Memᴰ}
+use lib.ListN.{length, getD, length-map}
+use native.Mathlib.Omega.{arith}
+use Rattle.resolution.specs.Lists.{indexBy}
+use Rattle.resolution.specs.Table.{Table}
+use Rattle.resolution.specs.Direct.{State, start, sameState}
+use Rattle.resolution.specs.Symbols.{Symbol, symbols, symbolAt, stepSymbol}
+use Rattle.resolution.specs.Machine.{MachineState, Machine, blank, machineState, target, Accepted}
+use Rattle.resolution.specs.Discovery.{discover, targets, Reached, ReachedOver}
+use Rattle.resolution.specs.Build.{stepAt, discovered, Reachable, ReachableOver, machineOf}
+use Rattle.resolution.proofs.Lists.{index-member, tabulate-at}
+use Rattle.resolution.proofs.Direct.{state-exact}
+use Rattle.resolution.proofs.Discovery.{Closed, discover-some, discover-start, discover-closed}
+
+getD-map-lt : {A B : Type 0} (f : A → B) (l : List A) (k : ℕ) (d : A) (e : B) → k < length l → getD (map f l) k e ≡ f (getD l k d)
+getD-map-lt f [] k d e h = absurd (omega arith)
+getD-map-lt f (x ∷ l) zero d e h = refl
+getD-map-lt f (x ∷ l) (suc k) d e h = getD-map-lt f l k d e (omega arith)
+
+module _ (t : Table) where
+  abbrev count : ℕ
+  count = length (symbols t)
+
+  abbrev begin : State
+  begin = start (t .cats)
+
+  module _ (l : List State) where
+    abbrev made : State → MachineState
+    made st = record { pair = st; row = targets sameState (stepAt t) count l st }
+
+    pub machine-length : length (machineOf t l) ≡ length l
+    machine-length = length-map l made
+
+    -- state j of the machine is state j of the list, with its targets' numbers
+    pub machine-state : (j : ℕ) → j < length l → machineState (machineOf t l) j ≡ made (getD l j begin)
+    machine-state j h = getD-map-lt made l j begin blank h
+
+    pub machine-target : (j k : ℕ) → j < length l → k < count → target (machineOf t l) j k ≡ indexBy sameState (stepAt t (getD l j begin) k) l
+    machine-target j k h i =
+        ap (λ e. getD (e .row) k 0) (machine-state j h)
+        ∙ tabulate-at (λ x. indexBy sameState (stepAt t (getD l j begin) x) l) count k 0 i
+
+    -- the machine of a list that begins with the start and has every target is right
+    pub machine-accepted : 0 < length l → getD l 0 begin ≡ begin → Closed sameState state-exact (stepAt t) count begin (length l) l → Accepted t (machineOf t l)
+    machine-accepted some-state begins closed =
+        record {
+          some-state = rw machine-length some-state;
+          begins = ap (λ e. e .pair) (machine-state 0 some-state) ∙ begins;
+          leads = λ j k h i. rw (machine-length, machine-target j k (rw machine-length at h) i) (known j k (rw machine-length at h) i .0);
+          right = λ j k h i.
+              rw (machine-target j k (rw machine-length at h) i, machine-state (indexBy sameState (stepAt t (getD l j begin) k) l) (known j k (rw machine-length at h) i .0), machine-state j (rw machine-length at h))
+              (known j k (rw machine-length at h) i .1);
+        }
+      where
+        known : (j k : ℕ) → j < length l → k < count
+            → (indexBy sameState (stepAt t (getD l j begin) k) l < length l) × (getD l (indexBy sameState (stepAt t (getD l j begin) k) l) begin ≡ stepAt t (getD l j begin) k)
+        known j k h i = index-member sameState state-exact begin (stepAt t (getD l j begin) k) l (closed j k h h i)
+
+  -- the machine of the states discovered is right, if they are no more than n after n turns
+  pub built-accepted : (n : ℕ) → length (discovered t n) ≤ n → Accepted t (machineOf t (discovered t n))
+  built-accepted n h =
+      machine-accepted (discovered t n)
+      (discover-some sameState state-exact (stepAt t) count begin n) (discover-start sameState state-exact (stepAt t) count begin n)
+      (λ j k a b d. discover-closed sameState state-exact (stepAt t) count begin n j k (omega arith) b d)
