@@ -36,6 +36,12 @@ module _ {A : Type 0} (f : A → A → Bool) (ex : Exact f) where
 pub list-exact : {A : Type 0} {f : A → A → Bool} → Exact f → Exact (sameList f)
 list-exact {f} ex = record { to = list-to f ex; self = list-self f ex }
 
+-- two tests with the same yes are one
+pub same-test : (a b : Bool) → (a ≡ true → b ≡ true) → (b ≡ true → a ≡ true) → a ≡ b
+same-test true b f g = sym (f refl)
+same-test false true f g = g refl
+same-test false false f g = refl
+
 or-true : (b : Bool) → b || true ≡ true
 or-true true = refl
 or-true false = refl

@@ -7,7 +7,7 @@ use mathlib.Core.Option.{Option, none, some}
 use mathlib.Core.List.{List, [], _∷_, _++_, foldl, append-assoc, List·Memᴰ, List·Memᴰ·head, List·Memᴰ·tail, List·Memᴰ·cases-cons, List·Memᴰ·not-nil, List·Memᴰ·append-cases, List·Memᴰ·eq-of-singleton, Memᴰ·append-right, Memᴰ·cast}
 use lib.Dec.{eqb}
 use borrow.Author.Tests.{eqb-true, eq-eqb, ltb-true, ltb-false}
-use lib.ListN.{length, getD, List·getD-eq-default, replicate, length-replicate}
+use lib.ListN.{length, getD, List·getD-eq-default, length-append}
 use native.Mathlib.Omega.{arith}
 use native.Mathlib.Decide.{decLt}
 use Rattle.resolution.specs.Names.{Name, Parts, sameParts}
@@ -15,7 +15,7 @@ use Rattle.resolution.proofs.Names.{parts-exact}
 use Rattle.resolution.specs.Lists.{addBy}
 use Rattle.resolution.proofs.Lists.{Exact, add-keeps, add-has, add-all, member-to}
 use Rattle.resolution.specs.Table.{Urn, urn, Table, Row, placeIn, place, rowFrom, rowOf, find, WellFormed}
-use Rattle.resolution.proofs.Table.{find-sound, find-start, row-place, row-length}
+use Rattle.resolution.proofs.Table.{find-sound, find-row, row-place, row-length}
 use Rattle.resolution.specs.Nodes.{sameUrn, member, past, prefixes, addUrn, addSignal, nodes, isNode, RootOrNode}
 
 -- a place is the root, or the path of one of the signal's URNs
@@ -136,6 +136,44 @@ past-named q (x ∷ r) p n m i = go (List·Memᴰ·cases-cons i) (λ k. past-nam
     go (inl e) ih = rw e longer
     go (inr k) ih = ih k
 
+past-some : (q r p : Parts) → List·Memᴰ p (past q r) → p ≢ []
+past-some q [] p m = absurd (List·Memᴰ·not-nil m)
+past-some q (x ∷ r) p m = go (List·Memᴰ·cases-cons m) (λ k. past-some (q ++ x ∷ []) r p k)
+  where
+    go : (p ≡ q ++ x ∷ []) ⊎ List·Memᴰ p (past (q ++ x ∷ []) r) → (List·Memᴰ p (past (q ++ x ∷ []) r) → p ≢ []) → p ≢ []
+    go (inl e) ih = λ z. omega (arith, length-append q (x ∷ []), ap length e, ap length z)
+    go (inr k) ih = ih k
+
+abbrev AllSome : List Urn → Type 0
+AllSome l = (u : Urn) → List·Memᴰ u l → u .path ≢ []
+
+-- a node has at least one part
+pub nodes-some : (t : Table) (u : Urn) → List·Memᴰ u (nodes t) → u .path ≢ []
+unfolding nodes
+nodes-some t =
+    fold-all AllSome addSignal [] (t .signals)
+    (λ s sig ms. fold-all AllSome addUrn s sig
+    (λ s u mu. fold-all AllSome (λ s p. addBy sameUrn s (urn (u .cat) p)) s (prefixes (u .path))
+    (λ s p mp h. add-all sameUrn urn-exact (λ v. v .path ≢ []) s (urn (u .cat) p) h (past-some [] (u .path) p mp))))
+    (λ u m. absurd (List·Memᴰ·not-nil m))
+
+-- the root is no node
+pub root-free : (t : Table) (c : ℕ) → isNode (nodes t) c [] ≡ false
+root-free t c = go (isNode (nodes t) c []) refl
+  where
+    go : (b : Bool) → isNode (nodes t) c [] ≡ b → b ≡ false
+    go false e = refl
+    go true e = absurd (nodes-some t (urn c []) (member-to sameUrn urn-exact (urn c []) (nodes t) e) refl)
+
+-- a category that some signal names has a node
+pub named-node : (t : Table) (sig : List Urn) (u : Urn) → List·Memᴰ sig (t .signals) → List·Memᴰ u sig → u .path ≢ []
+    → (p : Parts) × (isNode (nodes t) (u .cat) p ≡ true)
+named-node t sig u ms mu n = go (u .path) refl n
+  where
+    go : (p : Parts) → u .path ≡ p → p ≢ [] → (q : Parts) × (isNode (nodes t) (u .cat) q ≡ true)
+    go [] e n = absurd (n refl)
+    go (x ∷ p) e n = (x ∷ p, prefix-node t sig u (x ∷ p) ms mu (rw e (prefixes-self x p)))
+
 module _ (t : Table) (wf : WellFormed t) where
   pub nodes-named : AllNamed (nodes t)
   unfolding nodes
@@ -168,3 +206,7 @@ module _ (t : Table) (wf : WellFormed t) where
       go : (getD r c [] ≡ []) ⊎ From r c → RootOrNode (nodes t) c (getD r c [])
       go (inl e) = inl e
       go (inr k) = at k (getD r c []) (k .5)
+
+  -- every place of a signal of the table is the root or a node
+  pub row-nodes : (s : ℕ) → s < length (t .signals) → (c : ℕ) → RootOrNode (nodes t) c (getD (rowOf t s) c [])
+  row-nodes s h c = let w = find-row (t .cats) 0 (t .signals) s h in noded (rowOf t s) (w .0) c (w .1)

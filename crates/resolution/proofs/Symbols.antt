@@ -15,6 +15,7 @@ use Rattle.resolution.specs.Nodes.{sameUrn, member, isNode, leaf, firstN
 use Rattle.resolution.specs.Symbols.{Symbol, node, other, isOther, symbolOf, nodeSymbols, symbolsFrom, symbols, stepSymbol, symbolAt, sameBool, sameSymbol, symbolIndex}
 use Rattle.resolution.proofs.Lists.{Exact, member-of, index-member}
 use Rattle.resolution.proofs.Names.{parts-exact}
+use Rattle.resolution.proofs.Deepest.{deepest-node}
 use Rattle.resolution.proofs.TableStep.{table-laws, valid-start}
 use Rattle.resolution.proofs.Alike.{alike-run}
 
@@ -42,16 +43,6 @@ symbol-self a = rw (eq-eqb (a .cat) (a .cat) refl, parts-exact .self (a .path)) 
 
 pub symbol-exact : Exact sameSymbol
 symbol-exact = record { to = symbol-to; self = symbol-self }
-
--- the deepest node is a node or the root
-deep-node : (ns : List Urn) (c : ℕ) (ps : List Parts) → (firstNode ns c ps ≡ []) ⊎ (isNode ns c (firstNode ns c ps) ≡ true)
-deep-node ns c [] = inl refl
-deep-node ns c (p ∷ ps) = go (isNode ns c p) refl (deep-node ns c ps)
-  where
-    go : (b : Bool) → isNode ns c p ≡ b → (firstNode ns c ps ≡ []) ⊎ (isNode ns c (firstNode ns c ps) ≡ true) → (firstNode ns c (p ∷ ps) ≡ []) ⊎ (isNode ns c (firstNode ns c (p ∷ ps)) ≡ true)
-    go true e k = inr (rw e e)
-    go false e (inl k) = inl (rw e k)
-    go false e (inr k) = inr (rw e k)
 
 -- a node's symbols stand in its category's list
 module _ (ns : List Urn) (c : ℕ) (p : Parts) where
@@ -105,11 +96,11 @@ which ns c p d some-part r = go (sameParts d p) refl (leaf ns c d) refl r
     go false e false k (inl z) = inr (rw (e, k, z))
     go false e false k (inr n) = inl (rw (e, k) (other-listed ns c d k ns n))
 
+-- a used URN's symbol is one of the table's
 pub symbol-listed : (t : Table) (u : Urn) → Used t u → List·Memᴰ (symbolOf (nodes t) u) (symbols t)
-unfolding deepest
 symbol-listed t u used =
     listed (nodes t) (symbolOf (nodes t) u) (u .cat) 0 (t .cats) (omega arith) (omega (arith, used .known))
-    (which (nodes t) (u .cat) (u .path) (deepest (nodes t) (u .cat) (u .path)) (used .some-part) (deep-node (nodes t) (u .cat) (longer [] (u .path))))
+    (which (nodes t) (u .cat) (u .path) (deepest (nodes t) (u .cat) (u .path)) (used .some-part) (deepest-node (nodes t) (u .cat) (u .path)))
 
 -- a used URN's symbol stands at its number
 pub symbol-at-index : (t : Table) (u : Urn) → Used t u

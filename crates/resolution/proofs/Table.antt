@@ -40,6 +40,38 @@ find-start t h = go (t .signals) h
     go [] h = absurd (omega arith)
     go (sig ∷ sigs) h = rw (row-exact .self (rowFrom sig 0 (t .cats)))
 
+-- a signal that is found is one of the table
+pub find-below : (n i : ℕ) (sigs : List (List Urn)) (r : Row) (s : ℕ) → findFrom n i sigs r ≡ some s → s < i + length sigs
+find-below n i [] r s e = let z : _≡_ {A = ℕ} 0 1 = cc in absurd (omega arith)
+find-below n i (sig ∷ sigs) r s e = go (sameRow (rowFrom sig 0 n) r) refl (λ h. find-below n (suc i) sigs r s h)
+  where
+    go : (b : Bool) → sameRow (rowFrom sig 0 n) r ≡ b → (findFrom n (suc i) sigs r ≡ some s → s < suc i + length sigs) → s < i + length (sig ∷ sigs)
+    go true h ih =
+        let e′ : some i ≡ some s = rw h at e in
+        let e₁ : i ≡ s = cc in
+        omega arith
+    go false h ih = omega (arith, ih (rw h at e))
+
+-- at a signal's own places there is a signal
+pub find-row : (n i : ℕ) (sigs : List (List Urn)) (k : ℕ) → k < length sigs → (s : ℕ) × (findFrom n i sigs (rowFrom (getD sigs k []) 0 n) ≡ some s)
+find-row n i [] k h = absurd (omega arith)
+find-row n i (sig ∷ sigs) zero h = (i, rw (row-exact .self (rowFrom sig 0 n)))
+find-row n i (sig ∷ sigs) (suc k) h = go (sameRow (rowFrom sig 0 n) (rowFrom (getD sigs k []) 0 n)) refl (find-row n (suc i) sigs k (omega arith))
+  where
+    go : (b : Bool) → sameRow (rowFrom sig 0 n) (rowFrom (getD sigs k []) 0 n) ≡ b
+        → (s : ℕ) × (findFrom n (suc i) sigs (rowFrom (getD sigs k []) 0 n) ≡ some s)
+        → (s : ℕ) × (findFrom n i (sig ∷ sigs) (rowFrom (getD sigs k []) 0 n) ≡ some s)
+    go true e ih = (i, rw e)
+    go false e ih = (ih .0, rw e (ih .1))
+
+-- and where no two signals have the same places, it is that signal
+pub find-self : (t : Table) → ((i j : ℕ) → i < length (t .signals) → j < length (t .signals) → rowOf t i ≡ rowOf t j → i ≡ j)
+    → (s : ℕ) → s < length (t .signals) → find t (rowOf t s) ≡ some s
+find-self t rows s h =
+    let w = find-row (t .cats) 0 (t .signals) s h in
+    let b = find-below (t .cats) 0 (t .signals) (rowOf t s) (w .0) (w .1) in
+    w .1 ∙ ap some (rows (w .0) s (omega (arith, b)) h (find-sound t (rowOf t s) (w .0) (w .1)))
+
 -- a row's entry is the place
 pub row-at : (sig : List Urn) (c n k : ℕ) → k < n → getD (rowFrom sig c n) k [] ≡ placeIn sig (c + k)
 row-at sig c zero k h = absurd (omega arith)
