@@ -11,6 +11,7 @@ pub mod TableStep
 pub mod NodeStep
 pub mod Alike
 pub mod Symbols
+pub mod SymbolCount
 pub mod Machine
 pub mod Discovery
 pub mod Build

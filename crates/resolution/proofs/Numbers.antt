@@ -142,53 +142,45 @@ parent-less t c p x n =
     go e (inl i) = omega (arith, ap (number (nodes t) c) i, root-number t c)
     go e (inr i) = omega arith
 
-ancestor-by : (t : Table) (c k : ℕ) (p r : Parts) → length r < k → RootOrNode (nodes t) c (p ++ r) → number (nodes t) c p ≤ number (nodes t) c (p ++ r)
+-- a node's ancestor is the root or a node, and has no greater number
+ancestor-by : (t : Table) (c k : ℕ) (p r : Parts) → length r < k → RootOrNode (nodes t) c (p ++ r)
+    → RootOrNode (nodes t) c p × (number (nodes t) c p ≤ number (nodes t) c (p ++ r))
 ancestor-by t c zero p r h a = absurd (omega arith)
 ancestor-by t c (suc k) p r h a = by (snoc-view r) (λ e l b. ancestor-by t c k p e l b)
   where
     by : (r ≡ []) ⊎ ((e : Parts) × (x : Name) × (r ≡ e ++ x ∷ []))
-        → ((e : Parts) → length e < k → RootOrNode (nodes t) c (p ++ e) → number (nodes t) c p ≤ number (nodes t) c (p ++ e))
-        → number (nodes t) c p ≤ number (nodes t) c (p ++ r)
-    by (inl i) ih = omega (arith, ap (λ z. number (nodes t) c z) (ap (λ z. p ++ z) i ∙ append-nil p))
+        → ((e : Parts) → length e < k → RootOrNode (nodes t) c (p ++ e) → RootOrNode (nodes t) c p × (number (nodes t) c p ≤ number (nodes t) c (p ++ e)))
+        → RootOrNode (nodes t) c p × (number (nodes t) c p ≤ number (nodes t) c (p ++ r))
+    by (inl i) ih = let j : p ++ r ≡ p = ap (λ z. p ++ z) i ∙ append-nil p in (rw j at a, omega (arith, ap (number (nodes t) c) j))
     by (inr w) ih = on (rw j at a)
       where
         j : p ++ r ≡ p ++ w .0 ++ w .1 ∷ []
         j = ap (λ z. p ++ z) (w .2) ∙ sym (append-assoc p (w .0) (w .1 ∷ []))
 
-        on : RootOrNode (nodes t) c (p ++ w .0 ++ w .1 ∷ []) → number (nodes t) c p ≤ number (nodes t) c (p ++ r)
+        on : RootOrNode (nodes t) c (p ++ w .0 ++ w .1 ∷ []) → RootOrNode (nodes t) c p × (number (nodes t) c p ≤ number (nodes t) c (p ++ r))
         on (inl i) = absurd (omega (arith, length-append (p ++ w .0) (w .1 ∷ []), ap length i))
         on (inr n) =
-            omega (arith, parent-less t c (p ++ w .0) (w .1) n, ap (number (nodes t) c) j,
-            ih (w .0) (omega (arith, length-append (w .0) (w .1 ∷ []), ap length (w .2))) (parent-node t c (p ++ w .0) (w .1) n))
+            let v = ih (w .0) (omega (arith, length-append (w .0) (w .1 ∷ []), ap length (w .2))) (parent-node t c (p ++ w .0) (w .1) n) in
+            (v .0, omega (arith, v .1, parent-less t c (p ++ w .0) (w .1) n, ap (number (nodes t) c) j))
 
--- ancestors come before descendants: no greater number, and a smaller one for a proper ancestor
-pub ancestor-le : (t : Table) (c : ℕ) (p u : Parts) → Above p u → RootOrNode (nodes t) c u → number (nodes t) c p ≤ number (nodes t) c u
-ancestor-le t c p u a n =
-    omega (arith, ancestor-by t c (suc (length (a .rest))) p (a .rest) (omega arith) (rw (a .joined) n), ap (number (nodes t) c) (a .joined))
+module _ (t : Table) (c : ℕ) (p u : Parts) (a : Above p u) (n : RootOrNode (nodes t) c u) where
+  above : RootOrNode (nodes t) c p × (number (nodes t) c p ≤ number (nodes t) c (p ++ a .rest))
+  above = ancestor-by t c (suc (length (a .rest))) p (a .rest) (omega arith) (rw (a .joined) n)
 
-pub ancestor-node : (t : Table) (c : ℕ) (p r : Parts) → RootOrNode (nodes t) c (p ++ r) → RootOrNode (nodes t) c p
-ancestor-node t c p r = go (suc (length r)) r (omega arith)
-  where
-    go : (k : ℕ) (r : Parts) → length r < k → RootOrNode (nodes t) c (p ++ r) → RootOrNode (nodes t) c p
-    go zero r h a = absurd (omega arith)
-    go (suc k) r h a = by (snoc-view r) (λ e l b. go k e l b)
-      where
-        by : (r ≡ []) ⊎ ((e : Parts) × (x : Name) × (r ≡ e ++ x ∷ []))
-            → ((e : Parts) → length e < k → RootOrNode (nodes t) c (p ++ e) → RootOrNode (nodes t) c p) → RootOrNode (nodes t) c p
-        by (inl i) ih = rw (ap (λ z. p ++ z) i ∙ append-nil p) at a
-        by (inr w) ih = on (rw (ap (λ z. p ++ z) (w .2) ∙ sym (append-assoc p (w .0) (w .1 ∷ []))) at a)
-          where
-            on : RootOrNode (nodes t) c (p ++ w .0 ++ w .1 ∷ []) → RootOrNode (nodes t) c p
-            on (inl i) = absurd (omega (arith, length-append (p ++ w .0) (w .1 ∷ []), ap length i))
-            on (inr n) = ih (w .0) (omega (arith, length-append (w .0) (w .1 ∷ []), ap length (w .2))) (parent-node t c (p ++ w .0) (w .1) n)
+  pub ancestor-node : RootOrNode (nodes t) c p
+  ancestor-node = above .0
 
+  pub ancestor-le : number (nodes t) c p ≤ number (nodes t) c u
+  ancestor-le = omega (arith, above .1, ap (number (nodes t) c) (a .joined))
+
+-- ancestors come before descendants: a proper ancestor has a smaller number
 pub ancestor-less : (t : Table) (c : ℕ) (p : Parts) (x : Name) (r : Parts) → isNode (nodes t) c (p ++ x ∷ r) ≡ true
     → number (nodes t) c p < number (nodes t) c (p ++ x ∷ r)
-ancestor-less t c p x r n =
-    let j : p ++ x ∷ [] ++ r ≡ p ++ x ∷ r = append-assoc p (x ∷ []) r in
-    on (ancestor-node t c (p ++ x ∷ []) r (inr (rw j n)))
+ancestor-less t c p x r n = on (ancestor-node t c (p ++ x ∷ []) (p ++ x ∷ r) child (inr n))
   where
+    child : Above (p ++ x ∷ []) (p ++ x ∷ r)
+    child = record { rest = r; joined = append-assoc p (x ∷ []) r }
+
     on : RootOrNode (nodes t) c (p ++ x ∷ []) → number (nodes t) c p < number (nodes t) c (p ++ x ∷ r)
     on (inl i) = absurd (omega (arith, length-append p (x ∷ []), ap length i))
-    on (inr k) =
-        omega (arith, parent-less t c p x k, ancestor-le t c (p ++ x ∷ []) (p ++ x ∷ r) (record { rest = r; joined = append-assoc p (x ∷ []) r }) (inr n))
+    on (inr k) = omega (arith, parent-less t c p x k, ancestor-le t c (p ++ x ∷ []) (p ++ x ∷ r) child (inr n))

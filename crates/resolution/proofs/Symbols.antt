@@ -3,7 +3,7 @@ use Prim.Native.Nat.{ℕ, zero, suc, _+_, _≤_, _<_}
 use mathlib.Core.Path.{_≡_, refl, sym, ap, _∙_}
 use mathlib.Core.Logic.{_⊎_, inl, inr, _≢_}
 use mathlib.Core.Bool.{Bool, true, false, cond, not, _&&_, _||_, true≢false, false≢true, and-eq-true-iff}
-use mathlib.Core.List.{List, [], _∷_, _++_, foldl, List·Memᴰ, List·Memᴰ·head, List·Memᴰ·tail, Memᴰ·append-left, Memᴰ·append-right}
+use mathlib.Core.List.{List, [], _∷_, _++_, foldl, List·Memᴰ, List·Memᴰ·head, List·Memᴰ·tail, List·Memᴰ·cases-cons, List·Memᴰ·not-nil, List·Memᴰ·append-cases, List·Memᴰ·eq-of-singleton, Memᴰ·append-left, Memᴰ·append-right}
 use lib.Dec.{eqb}
 use borrow.Author.Tests.{eqb-true, eqb-false, eq-eqb}
 use lib.ListN.{length, getD}
@@ -11,10 +11,11 @@ use native.Mathlib.Omega.{arith}
 use Rattle.resolution.specs.Names.{Name, Parts, sameParts, longer}
 use Rattle.resolution.specs.Table.{Urn, urn, Table, WellFormed}
 use Rattle.resolution.specs.Direct.{State, start, envOf, direct, Used}
-use Rattle.resolution.specs.Nodes.{sameUrn, member, isNode, leaf, firstNode, deepest, nodes}
+use Rattle.resolution.specs.Nodes.{sameUrn, member, isNode, RootOrNode, leaf, deepest, nodes}
 use Rattle.resolution.specs.Symbols.{Symbol, node, other, isOther, symbolOf, nodeSymbols, symbolsFrom, symbols, stepSymbol, symbolAt, sameBool, sameSymbol, symbolIndex}
 use Rattle.resolution.proofs.Lists.{Exact, member-of, index-member}
 use Rattle.resolution.proofs.Names.{parts-exact}
+use Rattle.resolution.proofs.Nodes.{urn-exact}
 use Rattle.resolution.proofs.Deepest.{deepest-node}
 use Rattle.resolution.proofs.TableStep.{table-laws, valid-start}
 use Rattle.resolution.proofs.Alike.{alike-run}
@@ -101,6 +102,57 @@ pub symbol-listed : (t : Table) (u : Urn) → Used t u → List·Memᴰ (symbolO
 symbol-listed t u used =
     listed (nodes t) (symbolOf (nodes t) u) (u .cat) 0 (t .cats) (omega arith) (omega (arith, used .known))
     (which (nodes t) (u .cat) (u .path) (deepest (nodes t) (u .cat) (u .path)) (used .some-part) (deepest-node (nodes t) (u .cat) (u .path)))
+
+-- each of the table's symbols has a category of the table, and is a node or the root of it
+node-symbols-known : (ns : List Urn) (c : ℕ) (ms : List Urn) → ((n : Urn) → List·Memᴰ n ms → List·Memᴰ n ns) → (s : Symbol) → List·Memᴰ s (nodeSymbols ns c ms)
+    → (s .cat ≡ c) × RootOrNode ns c (s .path)
+node-symbols-known ns c [] sub s m = absurd (List·Memᴰ·not-nil m)
+node-symbols-known ns c (n ∷ ms) sub s m =
+    go (eqb (n .cat) c) refl (leaf ns c (n .path)) (List·Memᴰ·append-cases (cond (eqb (n .cat) c) (node c (n .path) ∷ cond (leaf ns c (n .path)) [] (other c (n .path) ∷ [])) []) m)
+    (λ k. node-symbols-known ns c ms (λ x i. sub x (List·Memᴰ·tail i)) s k)
+  where
+    is-node : n .cat ≡ c → isNode ns c (n .path) ≡ true
+    is-node e =
+        let i : n ≡ urn c (n .path) = λ k. record { cat = e k; path = n .path } in
+        ap (λ u. member u ns) (sym i) ∙ member-of sameUrn urn-exact n ns (sub n (List·Memᴰ·head refl))
+
+    one : n .cat ≡ c → (o : Bool) → s ≡ record { cat = c; path = n .path; other = o } → (s .cat ≡ c) × RootOrNode ns c (s .path)
+    one e o i = (ap (λ x. x .cat) i, inr (ap (λ x. isNode ns c (x .path)) i ∙ is-node e))
+
+    pair : n .cat ≡ c → (l : Bool) → List·Memᴰ s (node c (n .path) ∷ cond l [] (other c (n .path) ∷ [])) → (s .cat ≡ c) × RootOrNode ns c (s .path)
+    pair e l k = first (List·Memᴰ·cases-cons k)
+      where
+        second : (l : Bool) → List·Memᴰ s (cond l [] (other c (n .path) ∷ [])) → (s .cat ≡ c) × RootOrNode ns c (s .path)
+        second true j = absurd (List·Memᴰ·not-nil j)
+        second false j = one e true (List·Memᴰ·eq-of-singleton j)
+
+        first : (s ≡ node c (n .path)) ⊎ List·Memᴰ s (cond l [] (other c (n .path) ∷ [])) → (s .cat ≡ c) × RootOrNode ns c (s .path)
+        first (inl i) = one e false i
+        first (inr j) = second l j
+
+    go : (b : Bool) → eqb (n .cat) c ≡ b → (l : Bool)
+        → List·Memᴰ s (cond b (node c (n .path) ∷ cond l [] (other c (n .path) ∷ [])) []) ⊎ List·Memᴰ s (nodeSymbols ns c ms)
+        → (List·Memᴰ s (nodeSymbols ns c ms) → (s .cat ≡ c) × RootOrNode ns c (s .path)) → (s .cat ≡ c) × RootOrNode ns c (s .path)
+    go b e l (inr k) ih = ih k
+    go true e l (inl k) ih = pair (eqb-true (n .cat) c e) l k
+    go false e l (inl k) ih = absurd (List·Memᴰ·not-nil k)
+
+symbols-from-known : (ns : List Urn) (c k : ℕ) (s : Symbol) → List·Memᴰ s (symbolsFrom ns c k) → (s .cat < c + k) × RootOrNode ns (s .cat) (s .path)
+symbols-from-known ns c zero s m = absurd (List·Memᴰ·not-nil m)
+symbols-from-known ns c (suc k) s m = go (List·Memᴰ·append-cases (nodeSymbols ns c ns) m) (λ i. symbols-from-known ns (suc c) k s i)
+  where
+    rest : (s ≡ other c []) ⊎ List·Memᴰ s (symbolsFrom ns (suc c) k) → (List·Memᴰ s (symbolsFrom ns (suc c) k) → (s .cat < suc c + k) × RootOrNode ns (s .cat) (s .path))
+        → (s .cat < c + suc k) × RootOrNode ns (s .cat) (s .path)
+    rest (inl e) ih = (omega (arith, ap (λ x. x .cat) e), inl (ap (λ x. x .path) e))
+    rest (inr i) ih = let w = ih i in (omega (arith, w .0), w .1)
+
+    go : List·Memᴰ s (nodeSymbols ns c ns) ⊎ List·Memᴰ s (other c [] ∷ symbolsFrom ns (suc c) k)
+        → (List·Memᴰ s (symbolsFrom ns (suc c) k) → (s .cat < suc c + k) × RootOrNode ns (s .cat) (s .path)) → (s .cat < c + suc k) × RootOrNode ns (s .cat) (s .path)
+    go (inl i) ih = let w = node-symbols-known ns c ns (λ n j. j) s i in (omega (arith, w .0), rw (w .0) (w .1))
+    go (inr i) ih = rest (List·Memᴰ·cases-cons i) ih
+
+pub symbol-known : (t : Table) (s : Symbol) → List·Memᴰ s (symbols t) → (s .cat < t .cats) × RootOrNode (nodes t) (s .cat) (s .path)
+symbol-known t s m = let w = symbols-from-known (nodes t) 0 (t .cats) s m in (omega (arith, w .0), w .1)
 
 -- a used URN's symbol stands at its number
 pub symbol-at-index : (t : Table) (u : Urn) → Used t u
