@@ -9,10 +9,10 @@ use native.Mathlib.Omega.{arith}
 use Rattle.resolution.specs.Lists.{indexBy}
 use Rattle.resolution.specs.Table.{Table}
 use Rattle.resolution.specs.Direct.{State, start, sameState}
-use Rattle.resolution.specs.Symbols.{Symbol, symbols, symbolAt, stepSymbol}
+use Rattle.resolution.specs.Symbols.{symbols, stepAt}
 use Rattle.resolution.specs.Machine.{MachineState, Machine, blank, machineState, target, Accepted}
 use Rattle.resolution.specs.Discovery.{discover, targets, Reached, ReachedOver}
-use Rattle.resolution.specs.Build.{stepAt, discovered, Reachable, ReachableOver, machineOf}
+use Rattle.resolution.specs.Build.{discovered, Reachable, ReachableOver, machineOf}
 use Rattle.resolution.proofs.Lists.{index-member, tabulate-at}
 use Rattle.resolution.proofs.Direct.{state-exact}
 use Rattle.resolution.proofs.Discovery.{Closed, discover-some, discover-start, discover-closed}

@@ -10,7 +10,7 @@ use lib.ListN.{length, getD, set, take, length-append, List·getD-append}
 use lib.Seq.{getD-at}
 use native.Mathlib.Decide.{ℕ-discrete}
 use native.Mathlib.Omega.{arith}
-use Rattle.resolution.specs.Lists.{sameList, memberBy, addBy, indexBy, Distinct, tabulate}
+use Rattle.resolution.specs.Lists.{sameList, memberBy, addBy, indexBy, Distinct, tabulate, all}
 
 -- a test that tells equality
 pub record Exact {A : Type 0} (f : A → A → Bool) : Type 0 where
@@ -268,3 +268,29 @@ pub tabulate-same : {A : Type 0} (f g : ℕ → A) (n : ℕ) → ((k : ℕ) → 
 unfolding tabulate
 tabulate-same f g zero h = refl
 tabulate-same f g (suc n) h = ap₂ (λ l x. l ++ x ∷ []) (tabulate-same f g n (λ k i. h k (omega arith))) (h n (omega arith))
+
+-- a test that passes at each number below n
+pub all-to : (n : ℕ) (f : ℕ → Bool) → all n f ≡ true → (k : ℕ) → k < n → f k ≡ true
+unfolding all
+all-to zero f e k h = absurd (omega arith)
+all-to (suc n) f e k h = go (ℕ-discrete k n) (λ a i. all-to n f a k i)
+  where
+    both : (all n f ≡ true) × (f n ≡ true)
+    both = and-eq-true-iff (all n f) (f n) .0 e
+
+    go : Dec (k ≡ n) → (all n f ≡ true → k < n → f k ≡ true) → f k ≡ true
+    go (yes i) ih = rw i (both .1)
+    go (no i) ih = ih (both .0) (omega arith)
+
+pub all-of : (n : ℕ) (f : ℕ → Bool) → ((k : ℕ) → k < n → f k ≡ true) → all n f ≡ true
+unfolding all
+all-of zero f h = refl
+all-of (suc n) f h = and-eq-true-iff (all n f) (f n) .1 (all-of n f (λ k i. h k (omega arith)), h n (omega arith))
+
+-- one that fails at some number below n
+pub all-stop : (n : ℕ) (f : ℕ → Bool) (k : ℕ) → k < n → f k ≡ false → all n f ≡ false
+all-stop n f k h e = go (all n f) refl
+  where
+    go : (b : Bool) → all n f ≡ b → b ≡ false
+    go false i = refl
+    go true i = absurd (true≢false (sym (all-to n f i k h) ∙ e))

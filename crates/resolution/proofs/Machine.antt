@@ -9,56 +9,49 @@ use borrow.Author.Tests.{ltb-true, lt-ltb}
 use lib.ListN.{length, getD}
 use native.Mathlib.Omega.{arith}
 use native.Mathlib.Nat.{add-zero, zero-add, suc-add, add-suc}
+use Rattle.resolution.specs.Lists.{all}
 use Rattle.resolution.specs.Table.{Urn, Table, WellFormed}
 use Rattle.resolution.specs.Direct.{State, start, direct, Used, sameState}
 use Rattle.resolution.specs.Nodes.{nodes}
-use Rattle.resolution.specs.Symbols.{Symbol, other, symbols, symbolOf, symbolAt, symbolIndex, stepSymbol}
-use Rattle.resolution.specs.Machine.{MachineState, Machine, blank, machineState, Accepted, allAt, targetRight, rowRight, accepts, walkStep, signalAt}
+use Rattle.resolution.specs.Symbols.{symbols, symbolOf, symbolAt, symbolIndex, stepSymbol, stepAt}
+use Rattle.resolution.specs.Machine.{Machine, machineState, target, Accepted, targetRight, rowRight, accepts, walkStep, signalAt}
+use Rattle.resolution.proofs.Lists.{all-to, all-of}
 use Rattle.resolution.proofs.Direct.{state-exact}
 use Rattle.resolution.proofs.Symbols.{symbol-at-index, same-signals}
 
-module _ {A : Type 0} (f : ℕ → A → Bool) (d : A) where
-  all-to : (i : ℕ) (l : List A) → allAt f i l ≡ true → (k : ℕ) → k < length l → f (i + k) (getD l k d) ≡ true
-  all-to i [] e k h = absurd (omega arith)
-  all-to i (x ∷ l) e zero h = rw add-zero (and-eq-true-iff (f i x) (allAt f (suc i) l) .0 e .0)
-  all-to i (x ∷ l) e (suc k) h = rw (add-suc, ← suc-add) (all-to (suc i) l (and-eq-true-iff (f i x) (allAt f (suc i) l) .0 e .1) k (omega arith))
-
-  all-of : (i : ℕ) (l : List A) → ((k : ℕ) → k < length l → f (i + k) (getD l k d) ≡ true) → allAt f i l ≡ true
-  all-of i [] h = refl
-  all-of i (x ∷ l) h =
-      and-eq-true-iff (f i x) (allAt f (suc i) l) .1
-      (rw add-zero at (h 0 (omega arith)), all-of (suc i) l (λ k b. rw (suc-add, ← add-suc) (h (suc k) (omega arith))))
-
 module _ (t : Table) (m : Machine) where
-  target-to : (e : MachineState) (k : ℕ) (s : Symbol) → targetRight t m e k s ≡ true → (getD (e .row) k 0 < length m) × (machineState m (getD (e .row) k 0) .pair ≡ stepSymbol t (e .pair) s)
-  target-to e k s h =
-      let a = and-eq-true-iff (ltb (getD (e .row) k 0) (length m)) (sameState (machineState m (getD (e .row) k 0) .pair) (stepSymbol t (e .pair) s)) .0 h in
-      (ltb-true (getD (e .row) k 0) (length m) (a .0), state-exact .to (machineState m (getD (e .row) k 0) .pair) (stepSymbol t (e .pair) s) (a .1))
-
+  -- a machine that the test accepts is right
   pub accepts-to : accepts t m ≡ true → Accepted t m
-  accepts-to e = record { some-state = ltb-true 0 (length m) (a .0); begins = state-exact .to (machineState m 0 .pair) (start (t .cats)) (b .0); leads = λ j k h i. at j k h i .0; right = λ j k h i. at j k h i .1 }
+  accepts-to e =
+      record {
+        some-state = ltb-true 0 (length m) (a .0);
+        begins = state-exact .to (machineState m 0 .pair) (start (t .cats)) (b .0);
+        leads = λ j k h i. ltb-true (target m j k) (length m) (at j k h i .0);
+        right = λ j k h i. state-exact .to (machineState m (target m j k) .pair) (stepAt t (machineState m j .pair) k) (at j k h i .1);
+      }
     where
-      a : (ltb 0 (length m) ≡ true) × (sameState (machineState m 0 .pair) (start (t .cats)) && allAt (rowRight t m) 0 m ≡ true)
-      a = and-eq-true-iff (ltb 0 (length m)) (sameState (machineState m 0 .pair) (start (t .cats)) && allAt (rowRight t m) 0 m) .0 e
+      a : (ltb 0 (length m) ≡ true) × (sameState (machineState m 0 .pair) (start (t .cats)) && all (length m) (rowRight t m) ≡ true)
+      a = and-eq-true-iff (ltb 0 (length m)) (sameState (machineState m 0 .pair) (start (t .cats)) && all (length m) (rowRight t m)) .0 e
 
-      b : (sameState (machineState m 0 .pair) (start (t .cats)) ≡ true) × (allAt (rowRight t m) 0 m ≡ true)
-      b = and-eq-true-iff (sameState (machineState m 0 .pair) (start (t .cats))) (allAt (rowRight t m) 0 m) .0 (a .1)
+      b : (sameState (machineState m 0 .pair) (start (t .cats)) ≡ true) × (all (length m) (rowRight t m) ≡ true)
+      b = and-eq-true-iff (sameState (machineState m 0 .pair) (start (t .cats))) (all (length m) (rowRight t m)) .0 (a .1)
 
-      at : (j k : ℕ) → j < length m → k < length (symbols t) → (getD (machineState m j .row) k 0 < length m) × (machineState m (getD (machineState m j .row) k 0) .pair ≡ stepSymbol t (machineState m j .pair) (symbolAt t k))
+      at : (j k : ℕ) → j < length m → k < length (symbols t)
+          → (ltb (target m j k) (length m) ≡ true) × (sameState (machineState m (target m j k) .pair) (stepAt t (machineState m j .pair) k) ≡ true)
       at j k h i =
-          let r = all-to (rowRight t m) blank 0 m (b .1) j h in
-          let q = all-to (targetRight t m (machineState m j)) (other 0 []) 0 (symbols t) r k i in
-          target-to (machineState m j) k (symbolAt t k) (rw zero-add at q)
+          and-eq-true-iff (ltb (target m j k) (length m)) (sameState (machineState m (target m j k) .pair) (stepAt t (machineState m j .pair) k)) .0
+          (all-to (length (symbols t)) (targetRight t m j) (all-to (length m) (rowRight t m) (b .1) j h) k i)
 
+  -- and a right machine passes it
   pub accepts-of : Accepted t m → accepts t m ≡ true
   accepts-of a =
       rw (lt-ltb 0 (length m) (a .some-state), a .begins, state-exact .self (start (t .cats)))
-      (all-of (rowRight t m) blank 0 m (λ j h. all-of (targetRight t m (machineState m j)) (other 0 []) 0 (symbols t) (λ k i. rw zero-add (at j k h i))))
+      (all-of (length m) (rowRight t m) (λ j h. all-of (length (symbols t)) (targetRight t m j) (λ k i. at j k h i)))
     where
-      at : (j k : ℕ) → j < length m → k < length (symbols t) → targetRight t m (machineState m j) k (symbolAt t k) ≡ true
+      at : (j k : ℕ) → j < length m → k < length (symbols t) → targetRight t m j k ≡ true
       at j k h i =
-          rw (lt-ltb (getD (machineState m j .row) k 0) (length m) (a .leads j k h i), a .right j k h i)
-          (state-exact .self (stepSymbol t (machineState m j .pair) (symbolAt t k)))
+          rw (lt-ltb (target m j k) (length m) (a .leads j k h i), a .right j k h i)
+          (state-exact .self (stepAt t (machineState m j .pair) k))
 
 module _ (t : Table) (wf : WellFormed t) (m : Machine) (ok : Accepted t m) where
   -- the walk's state has the pair that the symbols lead to

@@ -34,3 +34,8 @@ module _ {A : Type 0} where
   unfoldable pub tabulate : (ℕ → A) → ℕ → List A
   tabulate f zero = []
   tabulate f (suc n) = tabulate f n ++ f n ∷ []
+
+-- the test passes at each number below n
+unfoldable pub all : ℕ → (ℕ → Bool) → Bool
+all zero f = true
+all (suc n) f = all n f && f n

@@ -1,15 +1,16 @@
 -- A machine, what makes it right for a table, and the walk.
-use Prim.Native.Nat.{ℕ, suc, _<_}
+use Prim.Native.Nat.{ℕ, _<_}
 use mathlib.Core.Path.{_≡_}
-use mathlib.Core.Bool.{Bool, true, _&&_}
+use mathlib.Core.Bool.{Bool, _&&_}
 use mathlib.Core.Option.{Option}
-use mathlib.Core.List.{List, [], _∷_, foldl}
+use mathlib.Core.List.{List, [], foldl}
 use lib.Dec.{ltb}
 use lib.ListN.{getD, length}
+use Rattle.resolution.specs.Lists.{all}
 use Rattle.resolution.specs.Table.{Urn, Table}
 use Rattle.resolution.specs.Direct.{State, start, stepUri, sameState}
 use Rattle.resolution.specs.Nodes.{nodes}
-use Rattle.resolution.specs.Symbols.{Symbol, symbols, symbolOf, symbolAt, symbolIndex, stepSymbol}
+use Rattle.resolution.specs.Symbols.{symbols, symbolOf, symbolIndex, stepAt}
 
 -- a state of a machine: its pair of signal and statuses, and its row, one target for each symbol
 pub record MachineState : Type 0 where
@@ -36,22 +37,17 @@ pub record Accepted (t : Table) (m : Machine) : Type 0 where
   pub begins : machineState m 0 .pair ≡ start (t .cats)
   pub leads : (j k : ℕ) → j < length m → k < length (symbols t) → target m j k < length m
   pub right : (j k : ℕ) → j < length m → k < length (symbols t)
-      → machineState m (target m j k) .pair ≡ stepSymbol t (machineState m j .pair) (symbolAt t k)
+      → machineState m (target m j k) .pair ≡ stepAt t (machineState m j .pair) k
 
--- a test passes at each element of a list and its place, counted from i
-abbrev pub allAt : {A : Type 0} → (ℕ → A → Bool) → ℕ → List A → Bool
-allAt f i [] = true
-allAt f i (x ∷ l) = f i x && allAt f (suc i) l
+-- the same as a test: of one target, of one row, and of the machine
+abbrev pub targetRight : Table → Machine → ℕ → ℕ → Bool
+targetRight t m j k = ltb (target m j k) (length m) && sameState (machineState m (target m j k) .pair) (stepAt t (machineState m j .pair) k)
 
-abbrev pub targetRight : Table → Machine → MachineState → ℕ → Symbol → Bool
-targetRight t m e k s = ltb (getD (e .row) k 0) (length m) && sameState (machineState m (getD (e .row) k 0) .pair) (stepSymbol t (e .pair) s)
+abbrev pub rowRight : Table → Machine → ℕ → Bool
+rowRight t m j = all (length (symbols t)) (targetRight t m j)
 
-abbrev pub rowRight : Table → Machine → ℕ → MachineState → Bool
-rowRight t m j e = allAt (targetRight t m e) 0 (symbols t)
-
--- the same as a test
 abbrev pub accepts : Table → Machine → Bool
-accepts t m = ltb 0 (length m) && (sameState (machineState m 0 .pair) (start (t .cats)) && allAt (rowRight t m) 0 m)
+accepts t m = ltb 0 (length m) && (sameState (machineState m 0 .pair) (start (t .cats)) && all (length m) (rowRight t m))
 
 -- a used URN moves the walk to the target that the present state's row holds for its symbol
 abbrev pub walkStep : Table → Machine → ℕ → Urn → ℕ

@@ -75,3 +75,7 @@ sameSymbol a b = eqb (a .cat) (b .cat) && (sameParts (a .path) (b .path) && same
 -- a symbol's number in the list
 abbrev pub symbolIndex : Symbol → List Symbol → ℕ
 symbolIndex = indexBy sameSymbol
+
+-- the state after the symbol with number k
+abbrev pub stepAt : Table → State → ℕ → State
+stepAt t st k = stepSymbol t st (symbolAt t k)
