@@ -4,19 +4,19 @@ use mathlib.Core.Path.{_≡_, refl, sym, ap, _∙_}
 use mathlib.Core.Logic.{_⊎_, inl, inr, _≢_}
 use mathlib.Core.Bool.{Bool, true, false, cond, _&&_, _||_, true≢false, false≢true, and-eq-true-iff}
 use mathlib.Core.Option.{Option, none, some}
-use mathlib.Core.List.{List, [], _∷_, _++_, foldl, append-assoc, List·Memᴰ, List·Memᴰ·head, List·Memᴰ·tail, List·Memᴰ·cases-cons, List·Memᴰ·not-nil, List·Memᴰ·append-cases, List·Memᴰ·eq-of-singleton, Memᴰ·append-right, Memᴰ·cast}
+use mathlib.Core.List.{List, [], _∷_, _++_, foldl, append-assoc, List·Memᴰ, List·Memᴰ·head, List·Memᴰ·tail, List·Memᴰ·cases-cons, List·Memᴰ·not-nil, List·Memᴰ·append-cases, List·Memᴰ·eq-of-singleton, Memᴰ·append-left, Memᴰ·append-right, Memᴰ·cast}
 use lib.Dec.{eqb}
 use borrow.Author.Tests.{eqb-true, eq-eqb, ltb-true, ltb-false}
 use lib.ListN.{length, getD, List·getD-eq-default, length-append}
 use native.Mathlib.Omega.{arith}
 use native.Mathlib.Decide.{decLt}
-use Rattle.resolution.specs.Names.{Name, Parts, sameParts}
-use Rattle.resolution.proofs.Names.{parts-exact}
+use Rattle.resolution.specs.Names.{Name, Parts, sameParts, Above}
+use Rattle.resolution.proofs.Names.{parts-exact, above-self}
 use Rattle.resolution.specs.Lists.{addBy}
 use Rattle.resolution.proofs.Lists.{Exact, add-keeps, add-has, add-all, member-to}
 use Rattle.resolution.specs.Table.{Urn, urn, Table, Row, placeIn, place, rowFrom, rowOf, find, WellFormed}
 use Rattle.resolution.proofs.Table.{find-sound, find-row, row-place, row-length}
-use Rattle.resolution.specs.Nodes.{sameUrn, member, past, prefixes, addUrn, addSignal, nodes, isNode, RootOrNode}
+use Rattle.resolution.specs.Nodes.{sameUrn, member, past, prefixes, addUrn, addSignal, nodes, isNode, RootOrNode, NodeOf}
 
 -- a place is the root, or the path of one of the signal's URNs
 place-from : (sig : List Urn) (c : ℕ) → (placeIn sig c ≡ []) ⊎ ((u : Urn) × List·Memᴰ u sig × (u .cat ≡ c) × (placeIn sig c ≡ u .path))
@@ -62,13 +62,6 @@ module _ {A : Type 0} (x : Urn) (f : List Urn → A → List Urn) (keeps : (seen
       go (inl e) ih = fold-keeps (f seen b) as' (rw (← e) (has seen))
       go (inr k) ih = ih k
 
-past-self : (q : Parts) (x : Name) (r : Parts) → List·Memᴰ (q ++ x ∷ r) (past q (x ∷ r))
-past-self q x [] = List·Memᴰ·head refl
-past-self q x (y ∷ r) = List·Memᴰ·tail (Memᴰ·cast (sym (append-assoc q (x ∷ []) (y ∷ r))) (past-self (q ++ x ∷ []) y r))
-
-prefixes-self : (x : Name) (p : Parts) → List·Memᴰ (x ∷ p) (prefixes (x ∷ p))
-prefixes-self x p = past-self [] x p
-
 urn-keeps : (x : Urn) (seen : List Urn) (u : Urn) → member x seen ≡ true → member x (addUrn seen u) ≡ true
 urn-keeps x seen u h = fold-keeps x (λ s p. addBy sameUrn s (urn (u .cat) p)) (λ s p. add-keeps sameUrn urn-exact x s (urn (u .cat) p)) seen (prefixes (u .path)) h
 
@@ -111,31 +104,6 @@ fold-all : {A : Type 0} (P : List Urn → Type 0) (f : List Urn → A → List U
 fold-all P f seen [] h p = p
 fold-all P f seen (a ∷ l) h p = fold-all P f (f seen a) l (λ s b m. h s b (List·Memᴰ·tail m)) (h seen a (List·Memᴰ·head refl) p)
 
--- no name of the path is empty
-abbrev pub Named : Parts → Type 0
-Named p = (x : Name) → List·Memᴰ x p → x ≢ []
-
-abbrev pub AllNamed : List Urn → Type 0
-AllNamed l = (u : Urn) → List·Memᴰ u l → Named (u .path)
-
-add-named : (seen : List Urn) (u : Urn) → Named (u .path) → AllNamed seen → AllNamed (addBy sameUrn seen u)
-add-named seen u n h = add-all sameUrn urn-exact (λ v. Named (v .path)) seen u h n
-
-past-named : (q r p : Parts) → Named q → Named r → List·Memᴰ p (past q r) → Named p
-past-named q [] p n m i = absurd (List·Memᴰ·not-nil i)
-past-named q (x ∷ r) p n m i = go (List·Memᴰ·cases-cons i) (λ k. past-named (q ++ x ∷ []) r p longer (λ y j. m y (List·Memᴰ·tail j)) k)
-  where
-    at : (y : Name) → List·Memᴰ y q ⊎ List·Memᴰ y (x ∷ []) → y ≢ []
-    at y (inl k) = n y k
-    at y (inr k) = rw (List·Memᴰ·eq-of-singleton k) (m x (List·Memᴰ·head refl))
-
-    longer : Named (q ++ x ∷ [])
-    longer y j = at y (List·Memᴰ·append-cases q j)
-
-    go : (p ≡ q ++ x ∷ []) ⊎ List·Memᴰ p (past (q ++ x ∷ []) r) → (List·Memᴰ p (past (q ++ x ∷ []) r) → Named p) → Named p
-    go (inl e) ih = rw e longer
-    go (inr k) ih = ih k
-
 past-some : (q r p : Parts) → List·Memᴰ p (past q r) → p ≢ []
 past-some q [] p m = absurd (List·Memᴰ·not-nil m)
 past-some q (x ∷ r) p m = go (List·Memᴰ·cases-cons m) (λ k. past-some (q ++ x ∷ []) r p k)
@@ -144,18 +112,42 @@ past-some q (x ∷ r) p m = go (List·Memᴰ·cases-cons m) (λ k. past-some (q 
     go (inl e) ih = λ z. omega (arith, length-append q (x ∷ []), ap length e, ap length z)
     go (inr k) ih = ih k
 
-abbrev AllSome : List Urn → Type 0
-AllSome l = (u : Urn) → List·Memᴰ u l → u .path ≢ []
+-- the paths on the way from q to q ++ r
+past-above : (q r p : Parts) → List·Memᴰ p (past q r) → Above p (q ++ r)
+past-above q [] p m = absurd (List·Memᴰ·not-nil m)
+past-above q (x ∷ r) p m = go (List·Memᴰ·cases-cons m) (λ k. past-above (q ++ x ∷ []) r p k)
+  where
+    go : (p ≡ q ++ x ∷ []) ⊎ List·Memᴰ p (past (q ++ x ∷ []) r) → (List·Memᴰ p (past (q ++ x ∷ []) r) → Above p (q ++ x ∷ [] ++ r)) → Above p (q ++ x ∷ r)
+    go (inl e) ih = record { rest = r; joined = ap (λ z. z ++ r) e ∙ append-assoc q (x ∷ []) r }
+    go (inr k) ih = let a = ih k in record { rest = a .rest; joined = a .joined ∙ append-assoc q (x ∷ []) r }
 
--- a node has at least one part
-pub nodes-some : (t : Table) (u : Urn) → List·Memᴰ u (nodes t) → u .path ≢ []
+above-past : (q e : Parts) (x : Name) (r : Parts) → List·Memᴰ (q ++ x ∷ e) (past q (x ∷ e ++ r))
+above-past q [] x r = List·Memᴰ·head refl
+above-past q (y ∷ e) x r = List·Memᴰ·tail (Memᴰ·cast (sym (append-assoc q (x ∷ []) (y ∷ e))) (above-past (q ++ x ∷ []) e y r))
+
+abbrev pub AllNodes : Table → List Urn → Type 0
+AllNodes t l = (u : Urn) → List·Memᴰ u l → NodeOf t (u .cat) (u .path)
+
+-- a node is what the definition says: a path with a part that is some signal's URN or above it
+pub nodes-all : (t : Table) → AllNodes t (nodes t)
 unfolding nodes
-nodes-some t =
-    fold-all AllSome addSignal [] (t .signals)
-    (λ s sig ms. fold-all AllSome addUrn s sig
-    (λ s u mu. fold-all AllSome (λ s p. addBy sameUrn s (urn (u .cat) p)) s (prefixes (u .path))
-    (λ s p mp h. add-all sameUrn urn-exact (λ v. v .path ≢ []) s (urn (u .cat) p) h (past-some [] (u .path) p mp))))
+nodes-all t =
+    fold-all (AllNodes t) addSignal [] (t .signals)
+    (λ s sig ms. fold-all (AllNodes t) addUrn s sig
+    (λ s u mu. fold-all (AllNodes t) (λ s p. addBy sameUrn s (urn (u .cat) p)) s (prefixes (u .path))
+    (λ s p mp h. add-all sameUrn urn-exact (λ v. NodeOf t (v .cat) (v .path)) s (urn (u .cat) p) h
+    (record { some-part = past-some [] (u .path) p mp; signal = sig; by = u; listed = ms; named = mu; cat = refl; above = past-above [] (u .path) p mp }))))
     (λ u m. absurd (List·Memᴰ·not-nil m))
+
+pub node-to : (t : Table) (c : ℕ) (p : Parts) → isNode (nodes t) c p ≡ true → NodeOf t c p
+node-to t c p h = nodes-all t (urn c p) (member-to sameUrn urn-exact (urn c p) (nodes t) h)
+
+pub node-of : (t : Table) (c : ℕ) (p : Parts) → NodeOf t c p → isNode (nodes t) c p ≡ true
+node-of t c p n = rw (← n .cat) (prefix-node t (n .signal) (n .by) p (n .listed) (n .named) (on p (n .some-part) (n .above)))
+  where
+    on : (p : Parts) → p ≢ [] → Above p (n .by .path) → List·Memᴰ p (prefixes (n .by .path))
+    on [] s a = absurd (s refl)
+    on (x ∷ p) s a = rw (← a .joined) (above-past [] p x (a .rest))
 
 -- the root is no node
 pub root-free : (t : Table) (c : ℕ) → isNode (nodes t) c [] ≡ false
@@ -163,50 +155,39 @@ root-free t c = go (isNode (nodes t) c []) refl
   where
     go : (b : Bool) → isNode (nodes t) c [] ≡ b → b ≡ false
     go false e = refl
-    go true e = absurd (nodes-some t (urn c []) (member-to sameUrn urn-exact (urn c []) (nodes t) e) refl)
+    go true e = absurd (node-to t c [] e .some-part refl)
 
--- a category that some signal names has a node
-pub named-node : (t : Table) (sig : List Urn) (u : Urn) → List·Memᴰ sig (t .signals) → List·Memᴰ u sig → u .path ≢ []
-    → (p : Parts) × (isNode (nodes t) (u .cat) p ≡ true)
-named-node t sig u ms mu n = go (u .path) refl n
+-- a signal's URN with a part is a node
+pub urn-node : (t : Table) (sig : List Urn) (u : Urn) → List·Memᴰ sig (t .signals) → List·Memᴰ u sig → u .path ≢ [] → isNode (nodes t) (u .cat) (u .path) ≡ true
+urn-node t sig u ms mu n =
+    node-of t (u .cat) (u .path)
+    (record { some-part = n; signal = sig; by = u; listed = ms; named = mu; cat = refl; above = above-self (u .path) })
+
+-- a place is the root or a node
+pub noded : (t : Table) (r : Row) (s c : ℕ) → find t r ≡ some s → RootOrNode (nodes t) c (getD r c [])
+noded t r s c f = go (place-of t r s c f)
   where
-    go : (p : Parts) → u .path ≡ p → p ≢ [] → (q : Parts) × (isNode (nodes t) (u .cat) q ≡ true)
-    go [] e n = absurd (n refl)
-    go (x ∷ p) e n = (x ∷ p, prefix-node t sig u (x ∷ p) ms mu (rw e (prefixes-self x p)))
+    at : (p : Parts) (sig : List Urn) (u : Urn) → List·Memᴰ sig (t .signals) → List·Memᴰ u sig → u .cat ≡ c → p ≡ u .path → RootOrNode (nodes t) c p
+    at [] sig u ms mu e j = inl refl
+    at (x ∷ p) sig u ms mu e j = inr (rw (← e, j) (urn-node t sig u ms mu (λ z. omega (arith, ap length j, ap length z))))
 
-module _ (t : Table) (wf : WellFormed t) where
-  pub nodes-named : AllNamed (nodes t)
-  unfolding nodes
-  nodes-named =
-      fold-all AllNamed addSignal [] (t .signals)
-      (λ s sig ms. fold-all AllNamed addUrn s sig
-      (λ s u mu. fold-all AllNamed (λ s p. addBy sameUrn s (urn (u .cat) p)) s (prefixes (u .path))
-      (λ s p mp. add-named s (urn (u .cat) p) (past-named [] (u .path) p (λ x i. absurd (List·Memᴰ·not-nil i)) (wf .named sig ms u mu) mp))))
-      (λ u m. absurd (List·Memᴰ·not-nil m))
+    go : (getD r c [] ≡ []) ⊎ ((sig : List Urn) × (u : Urn) × List·Memᴰ sig (t .signals) × List·Memᴰ u sig × (u .cat ≡ c) × (getD r c [] ≡ u .path))
+        → RootOrNode (nodes t) c (getD r c [])
+    go (inl e) = inl e
+    go (inr k) = at (getD r c []) (k .0) (k .1) (k .2) (k .3) (k .4) (k .5)
 
-  -- no node ends in the empty name
-  pub fresh-node : (c : ℕ) (d : Parts) → isNode (nodes t) c (d ++ [] ∷ []) ≡ false
-  fresh-node c d = go (isNode (nodes t) c (d ++ [] ∷ [])) refl
-    where
-      go : (b : Bool) → isNode (nodes t) c (d ++ [] ∷ []) ≡ b → b ≡ false
-      go false e = refl
-      go true e = absurd (nodes-named (urn c (d ++ [] ∷ [])) (member-to sameUrn urn-exact (urn c (d ++ [] ∷ [])) (nodes t) e) [] (Memᴰ·append-right d (List·Memᴰ·head refl)) refl)
+-- every place of a signal of the table is the root or a node
+pub row-nodes : (t : Table) (s : ℕ) → s < length (t .signals) → (c : ℕ) → RootOrNode (nodes t) c (getD (rowOf t s) c [])
+row-nodes t s h c = let w = find-row (t .cats) 0 (t .signals) s h in noded t (rowOf t s) (w .0) c (w .1)
 
-  abbrev From : Row → ℕ → Type 0
-  From r c = (sig : List Urn) × (u : Urn) × List·Memᴰ sig (t .signals) × List·Memᴰ u sig × (u .cat ≡ c) × (getD r c [] ≡ u .path)
-
-  -- a place is the root or a node
-  pub noded : (r : Row) (s c : ℕ) → find t r ≡ some s → RootOrNode (nodes t) c (getD r c [])
-  noded r s c f = go (place-of t r s c f)
-    where
-      at : (k : From r c) (p : Parts) → p ≡ k .1 .path → (p ≡ []) ⊎ (isNode (nodes t) c p ≡ true)
-      at k [] e = inl refl
-      at k (x ∷ p) e = inr (rw (← k .4) (prefix-node t (k .0) (k .1) (x ∷ p) (k .2) (k .3) (rw (← e) (prefixes-self x p))))
-
-      go : (getD r c [] ≡ []) ⊎ From r c → RootOrNode (nodes t) c (getD r c [])
-      go (inl e) = inl e
-      go (inr k) = at k (getD r c []) (k .5)
-
-  -- every place of a signal of the table is the root or a node
-  pub row-nodes : (s : ℕ) → s < length (t .signals) → (c : ℕ) → RootOrNode (nodes t) c (getD (rowOf t s) c [])
-  row-nodes s h c = let w = find-row (t .cats) 0 (t .signals) s h in noded (rowOf t s) (w .0) c (w .1)
+-- no node ends in the empty name
+pub fresh-node : (t : Table) → WellFormed t → (c : ℕ) (d : Parts) → isNode (nodes t) c (d ++ [] ∷ []) ≡ false
+fresh-node t wf c d = go (isNode (nodes t) c (d ++ [] ∷ [])) refl
+  where
+    go : (b : Bool) → isNode (nodes t) c (d ++ [] ∷ []) ≡ b → b ≡ false
+    go false e = refl
+    go true e =
+        let n = node-to t c (d ++ [] ∷ []) e in
+        let k : List·Memᴰ [] (d ++ [] ∷ []) = Memᴰ·append-right d (List·Memᴰ·head refl) in
+        let m : List·Memᴰ [] (n .by .path) = rw (n .above .joined) at (Memᴰ·append-left (n .above .rest) k) in
+        absurd (wf .named (n .signal) (n .listed) (n .by) (n .named) [] m refl)

@@ -14,7 +14,7 @@ use Rattle.resolution.specs.Nodes.{sameUrn, nodes, isNode, hasUnder, isR
 use Rattle.resolution.specs.Symbols.{other, nodeSymbols, symbolsFrom, symbols}
 use Rattle.resolution.proofs.Lists.{member-to}
 use Rattle.resolution.proofs.Names.{proper-to}
-use Rattle.resolution.proofs.Nodes.{urn-exact, nodes-some}
+use Rattle.resolution.proofs.Nodes.{urn-exact, nodes-all}
 
 by-test : {A : Type 0} (b : Bool) → (b ≡ true → A) → (b ≡ false → A) → A
 by-test true f g = f refl
@@ -146,7 +146,7 @@ unfolding leaf
 leaf-in t c p h = go (longest c (nodes t))
   where
     some-path : (u : Urn) → List·Memᴰ u (nodes t) → isRoot (u .path) ≡ false
-    some-path u m = from (u .path) (nodes-some t u m)
+    some-path u m = from (u .path) (nodes-all t u m .some-part)
       where
         from : (q : Parts) → q ≢ [] → isRoot q ≡ false
         from [] n = absurd (n refl)

@@ -12,7 +12,7 @@ use Rattle.resolution.specs.Names.{Name, Parts, sameParts, longer}
 use Rattle.resolution.specs.Table.{Urn, urn, Table, WellFormed}
 use Rattle.resolution.specs.Direct.{State, start, envOf, direct, Used}
 use Rattle.resolution.specs.Nodes.{sameUrn, member, isNode, RootOrNode, leaf, deepest, nodes}
-use Rattle.resolution.specs.Symbols.{Symbol, node, other, isOther, symbolOf, nodeSymbols, symbolsFrom, symbols, stepSymbol, symbolAt, sameBool, sameSymbol, symbolIndex}
+use Rattle.resolution.specs.Symbols.{Symbol, node, other, isOther, symbolOf, nodeSymbols, symbolsFrom, symbols, stepSymbol, bySymbols, symbolAt, sameBool, sameSymbol, symbolIndex}
 use Rattle.resolution.proofs.Lists.{Exact, member-of, index-member}
 use Rattle.resolution.proofs.Names.{parts-exact}
 use Rattle.resolution.proofs.Nodes.{urn-exact}
@@ -162,12 +162,8 @@ symbol-at-index t u used =
     (member-of sameSymbol symbol-exact (symbolOf (nodes t) u) (symbols t) (symbol-listed t u used))
 
 module _ (t : Table) (wf : WellFormed t) where
-  -- the state after a list's symbols
-  abbrev pub bySymbols : List Urn → State
-  bySymbols us = foldl (λ st u. stepSymbol t st (symbolOf (nodes t) u)) (start (t .cats)) us
-
   -- by URNs and by symbols: the same signal after every list
-  pub same-signals : (us : List Urn) → ((u : Urn) → List·Memᴰ u us → u .cat < t .cats) → direct t us .signal ≡ bySymbols us .signal
+  pub same-signals : (us : List Urn) → ((u : Urn) → List·Memᴰ u us → u .cat < t .cats) → direct t us .signal ≡ bySymbols t us .signal
   same-signals us known =
       alike-run (envOf t) (t .cats) (nodes t) (table-laws t wf) (start (t .cats)) (start (t .cats)) us known (valid-start t wf) (valid-start t wf)
       (record { same = refl; each = λ c h. inl refl }) .same

@@ -80,6 +80,11 @@ step env st u =
 abbrev pub direct : Table → List Urn → State
 direct t us = foldl (step (envOf t)) (start (t .cats)) us
 
+-- a state of a table: the search finds its signal at the signal's own places, and there is a status for each category
+pub record StateOf (t : Table) (st : State) : Type 0 where
+  pub live : find t (rowOf t (st .signal)) ≡ some (st .signal)
+  pub sized : length (st .status) ≡ t .cats
+
 -- a used URN of a table: its category is in the table, and its path has at least one part
 pub record Used (t : Table) (u : Urn) : Type 0 where
   pub known : u .cat < t .cats

@@ -1,13 +1,13 @@
 -- The nodes of a table and their numbers, its leaves, and the deepest node that is a path or above it.
 use Prim.Native.Nat.{ℕ, suc}
 use mathlib.Core.Path.{_≡_}
-use mathlib.Core.Logic.{_⊎_}
+use mathlib.Core.Logic.{_⊎_, _≢_}
 use mathlib.Core.Bool.{Bool, true, false, cond, not, _&&_, _||_}
-use mathlib.Core.List.{List, [], _∷_, _++_, foldl}
+use mathlib.Core.List.{List, [], _∷_, _++_, foldl, List·Memᴰ}
 use lib.Dec.{eqb}
 use lib.ListN.{getD}
 use Rattle.resolution.specs.Lists.{memberBy, addBy, indexBy}
-use Rattle.resolution.specs.Names.{Parts, sameParts, properAncestor, longer}
+use Rattle.resolution.specs.Names.{Parts, sameParts, properAncestor, Above, longer}
 use Rattle.resolution.specs.Table.{Urn, urn, Table}
 
 abbrev pub sameUrn : Urn → Urn → Bool
@@ -51,6 +51,16 @@ nodeAt ns k = getD ns k (urn 0 [])
 -- p is the root, or a node of category c
 abbrev pub RootOrNode : List Urn → ℕ → Parts → Type 0
 RootOrNode ns c p = (p ≡ []) ⊎ (isNode ns c p ≡ true)
+
+-- what makes a path a node, without the list: it has a part, and some signal's URN is it or below it
+pub record NodeOf (t : Table) (c : ℕ) (p : Parts) : Type 0 where
+  pub some-part : p ≢ []
+  pub signal : List Urn
+  pub by : Urn
+  pub listed : List·Memᴰ signal (t .signals)
+  pub named : List·Memᴰ by signal
+  pub cat : by .cat ≡ c
+  pub above : Above p (by .path)
 
 -- some node of category c lies under p
 abbrev pub hasUnder : List Urn → ℕ → Parts → Bool

@@ -1,13 +1,13 @@
 -- Symbols: which one a URN is turned into, the step by a symbol, and a table's symbols in their order.
 use Prim.Native.Nat.{ℕ, zero, suc}
 use mathlib.Core.Bool.{Bool, true, false, cond, not, _&&_, _||_}
-use mathlib.Core.List.{List, [], _∷_, _++_}
+use mathlib.Core.List.{List, [], _∷_, _++_, foldl}
 use lib.Dec.{eqb}
 use lib.ListN.{getD}
 use Rattle.resolution.specs.Lists.{indexBy}
 use Rattle.resolution.specs.Names.{Parts, sameParts}
 use Rattle.resolution.specs.Table.{Urn, urn, Table}
-use Rattle.resolution.specs.Direct.{State, step, envOf}
+use Rattle.resolution.specs.Direct.{State, start, step, envOf}
 use Rattle.resolution.specs.Nodes.{nodes, leaf, deepest}
 
 -- a node, or Other under a node or the root: what lies under it and is no node
@@ -45,6 +45,10 @@ stepsAs s = urn (s .cat) (stepsAsPath (s .other) (s .path))
 -- the state after one symbol
 abbrev pub stepSymbol : Table → State → Symbol → State
 stepSymbol t st s = step (envOf t) st (stepsAs s)
+
+-- the state after the symbols of a list of used URNs
+abbrev pub bySymbols : Table → List Urn → State
+bySymbols t us = foldl (λ st u. stepSymbol t st (symbolOf (nodes t) u)) (start (t .cats)) us
 
 -- the symbols of category c's nodes, by number: each node and, unless it is a leaf, its Other
 abbrev pub nodeSymbols : List Urn → ℕ → List Urn → List Symbol
