@@ -17,3 +17,4 @@ pub mod Discovery
 pub mod Build
 pub mod Claim
 pub mod Examples
+pub mod Theorems
