@@ -4,11 +4,11 @@ use mathlib.Core.Path.{_≡_, refl, sym, ap, subst, _∙_}
 use mathlib.Core.Logic.{_⊎_, inl, inr}
 use mathlib.Core.Bool.{Bool, true, false, not, _&&_, _||_, true≢false}
 use mathlib.Core.Option.{Option, none, some}
-use mathlib.Core.List.{List, [], _∷_, _++_, foldl, append-nil, List·Memᴰ, List·Memᴰ·head, List·Memᴰ·tail}
-use lib.ListN.{length, getD, set}
+use mathlib.Core.List.{List, [], _∷_, foldl, append-nil, List·Memᴰ, List·Memᴰ·head, List·Memᴰ·tail}
+use lib.ListN.{getD, set}
 use lib.Seq.{getD-set-same, getD-set-other}
 use native.Mathlib.Decide.{ℕ-discrete}
-use Rattle.resolution.specs.Names.{Name, Parts, sameParts, below, candidates}
+use Rattle.resolution.specs.Names.{Parts, sameParts, below, candidates}
 use Rattle.resolution.proofs.Names.{parts-exact, below-to}
 use Rattle.resolution.specs.Table.{Urn}
 use Rattle.resolution.specs.Nodes.{leaf, deepest}

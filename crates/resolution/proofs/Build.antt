@@ -1,18 +1,17 @@
 -- Laws of the built machine: it is right where the discovery has come to its end, which it does unless too many states
 -- are reachable.
-use Prim.Native.Nat.{ℕ, zero, suc, _+_, _≤_, _<_}
-use mathlib.Core.Path.{_≡_, refl, sym, ap, _∙_}
-use mathlib.Core.Bool.{Bool, true}
-use mathlib.Core.List.{List, [], _∷_, map, foldl, List·Memᴰ}
+use Prim.Native.Nat.{ℕ, zero, suc, _≤_, _<_}
+use mathlib.Core.Path.{_≡_, refl, ap, _∙_}
+use mathlib.Core.List.{List, [], _∷_, map}
 use lib.ListN.{length, getD, length-map}
 use native.Mathlib.Omega.{arith}
 use Rattle.resolution.specs.Lists.{indexBy}
 use Rattle.resolution.specs.Table.{Table}
 use Rattle.resolution.specs.Direct.{State, start, sameState}
 use Rattle.resolution.specs.Symbols.{symbols, stepAt}
-use Rattle.resolution.specs.Machine.{MachineState, Machine, blank, machineState, target, Accepted}
-use Rattle.resolution.specs.Discovery.{discover, targets, Reached, ReachedOver}
-use Rattle.resolution.specs.Build.{discovered, Reachable, ReachableOver, machineOf}
+use Rattle.resolution.specs.Machine.{MachineState, blank, machineState, target, Accepted}
+use Rattle.resolution.specs.Discovery.{targets}
+use Rattle.resolution.specs.Build.{discovered, machineOf}
 use Rattle.resolution.proofs.Lists.{index-member, tabulate-at}
 use Rattle.resolution.proofs.Direct.{state-exact}
 use Rattle.resolution.proofs.Discovery.{Closed, discover-some, discover-start, discover-closed}

@@ -5,14 +5,13 @@ use mathlib.Core.Path.{_≡_, refl, sym, ap, ap₂, _∙_}
 use mathlib.Core.Logic.{_⊎_, inl, inr}
 use mathlib.Core.Bool.{Bool, true, false, cond, _||_}
 use mathlib.Core.List.{List, [], _∷_, _++_, map, foldl, foldl-append, List·Memᴰ, List·Memᴰ·head, List·Memᴰ·tail, List·Memᴰ·not-nil, List·Memᴰ·append-cases, List·Memᴰ·eq-of-singleton}
-use lib.Dec.{ltb}
-use borrow.Author.Tests.{lt-ltb, le-ltb, ltb-true}
+use borrow.Author.Tests.{lt-ltb, le-ltb}
 use lib.ListN.{length, getD, length-append, length-map, List·getD-map}
 use native.Mathlib.Omega.{arith}
 use native.Mathlib.Decide.{decLt, ℕ-discrete}
-use Rattle.resolution.specs.Lists.{memberBy, addBy, indexBy, Distinct, tabulate}
+use Rattle.resolution.specs.Lists.{memberBy, addBy, indexBy, Distinct}
 use Rattle.resolution.specs.Discovery.{expand, turn, discover, targets, Reached, ReachedOver}
-use Rattle.resolution.proofs.Lists.{Exact, Extends, extends-self, extends-trans, at-extends, mem-at, member-of, member-to, member-extends, add-extends, add-has, add-all, distinct-add, distinct-fits, index-member, tabulate-same}
+use Rattle.resolution.proofs.Lists.{Exact, Extends, extends-self, extends-trans, at-extends, mem-at, member-of, member-extends, add-extends, add-has, add-all, distinct-add, distinct-fits, index-member, tabulate-same}
 
 module _ {S : Type 0} (same : S → S → Bool) (ex : Exact same) (next : S → ℕ → S) where
   pub expand-extends : (s : S) (k : ℕ) (l : List S) → Extends l (expand same next s k l)

@@ -2,17 +2,17 @@
 use Prim.Native.Nat.{ℕ, zero, suc, _+_, _≤_, _<_}
 use mathlib.Core.Path.{_≡_, refl, sym, ap, _∙_}
 use mathlib.Core.Logic.{_⊎_, inl, inr, _≢_}
-use mathlib.Core.Bool.{Bool, true, false, cond, not, _&&_, _||_, true≢false, false≢true, and-eq-true-iff}
-use mathlib.Core.List.{List, [], _∷_, _++_, foldl, List·Memᴰ, List·Memᴰ·head, List·Memᴰ·tail, List·Memᴰ·cases-cons, List·Memᴰ·not-nil, List·Memᴰ·append-cases, List·Memᴰ·eq-of-singleton, Memᴰ·append-left, Memᴰ·append-right}
+use mathlib.Core.Bool.{Bool, true, false, cond, _&&_, false≢true, and-eq-true-iff}
+use mathlib.Core.List.{List, [], _∷_, _++_, List·Memᴰ, List·Memᴰ·head, List·Memᴰ·tail, List·Memᴰ·cases-cons, List·Memᴰ·not-nil, List·Memᴰ·append-cases, List·Memᴰ·eq-of-singleton, Memᴰ·append-left, Memᴰ·append-right}
 use lib.Dec.{eqb}
 use borrow.Author.Tests.{eqb-true, eqb-false, eq-eqb}
-use lib.ListN.{length, getD}
+use lib.ListN.{length}
 use native.Mathlib.Omega.{arith}
-use Rattle.resolution.specs.Names.{Name, Parts, sameParts, longer}
+use Rattle.resolution.specs.Names.{Parts, sameParts}
 use Rattle.resolution.specs.Table.{Urn, urn, Table, WellFormed}
-use Rattle.resolution.specs.Direct.{State, start, envOf, direct, Used}
+use Rattle.resolution.specs.Direct.{start, envOf, direct, Used}
 use Rattle.resolution.specs.Nodes.{sameUrn, member, isNode, RootOrNode, leaf, deepest, nodes}
-use Rattle.resolution.specs.Symbols.{Symbol, node, other, isOther, symbolOf, nodeSymbols, symbolsFrom, symbols, stepSymbol, bySymbols, symbolAt, sameBool, sameSymbol, symbolIndex}
+use Rattle.resolution.specs.Symbols.{Symbol, node, other, isOther, symbolOf, nodeSymbols, symbolsFrom, symbols, bySymbols, symbolAt, sameBool, sameSymbol, symbolIndex}
 use Rattle.resolution.proofs.Lists.{Exact, member-of, index-member}
 use Rattle.resolution.proofs.Names.{parts-exact}
 use Rattle.resolution.proofs.Nodes.{urn-exact}

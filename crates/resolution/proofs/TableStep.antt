@@ -1,7 +1,7 @@
 -- A table's rows, search and nodes have the laws that the steps ask for.
 use Prim.Native.Nat.{ℕ, _<_}
-use mathlib.Core.Path.{_≡_, refl}
-use mathlib.Core.List.{List, []}
+use mathlib.Core.Path.{_≡_}
+use mathlib.Core.List.{[]}
 use lib.ListN.{length, getD, length-replicate}
 use Rattle.resolution.specs.Table.{Urn, Table, rowOf, WellFormed}
 use Rattle.resolution.specs.Direct.{Open, State, start, step, envOf, StateOf}

@@ -6,7 +6,7 @@ use mathlib.Core.Bool.{cond}
 use mathlib.Core.Option.{Option, none, some}
 use mathlib.Core.List.{List, [], _∷_}
 use lib.Dec.{eqb}
-use Rattle.resolution.specs.Names.{Name, Parts}
+use Rattle.resolution.specs.Names.{Parts}
 use Rattle.resolution.specs.Table.{Urn, urn, Table}
 use Rattle.resolution.specs.Direct.{Status, Open, Shut}
 use Rattle.resolution.specs.Machine.{MachineState, Machine}

@@ -1,14 +1,14 @@
 -- The laws, as types: what holds of every well-formed table, over lists of any length, also empty.
 -- proofs/Theorems.antt proves each.
-use Prim.Native.Nat.{ℕ, zero, suc, _+_, _*_, _≤_, _<_}
+use Prim.Native.Nat.{ℕ, suc, _*_, _≤_, _<_}
 use mathlib.Core.Path.{_≡_}
-use mathlib.Core.Bool.{Bool, true, not}
+use mathlib.Core.Bool.{true, not}
 use mathlib.Core.Option.{Option, some}
 use mathlib.Core.List.{List, [], _∷_, _++_, List·Memᴰ}
 use lib.ListN.{getD, length}
 use Rattle.resolution.specs.Lists.{Distinct}
 use Rattle.resolution.specs.Names.{Name, Parts, sameParts, candidates}
-use Rattle.resolution.specs.Table.{Urn, urn, Table, mostParts, place, rowOf}
+use Rattle.resolution.specs.Table.{Urn, Table, mostParts, rowOf}
 use Rattle.resolution.specs.Direct.{State, start, envOf, Hit, firstHit, step, direct, StateOf, Used, AllUsed, changes}
 use Rattle.resolution.specs.Says.{Says, Given}
 use Rattle.resolution.specs.Nodes.{sameUrn, nodes, isNode, number, nodeAt, RootOrNode, NodeOf, deepest}

@@ -3,7 +3,7 @@
 use Prim.Native.Nat.{ℕ}
 use mathlib.Core.Bool.{Bool, true, false, not, _&&_}
 use mathlib.Core.Option.{Option, none, some}
-use mathlib.Core.List.{List, [], _∷_}
+use mathlib.Core.List.{[], _∷_}
 use lib.ListN.{getD, set}
 use Rattle.resolution.specs.Names.{Parts, sameParts, below, candidates}
 use Rattle.resolution.specs.Direct.{Status, Open, Shut, State, Env, Hit, firstHit, openIf}
