@@ -27,7 +27,7 @@ use Rattle.resolution.proofs.NodeStep.{direct-at-node, symbol-at-node}
 use Rattle.resolution.proofs.Symbols.{symbol-known, symbol-listed, same-signals}
 use Rattle.resolution.proofs.SymbolCount.{few-symbols}
 use Rattle.resolution.proofs.Machine.{accepts-to, accepts-of}
-use Rattle.resolution.proofs.Discovery.{discover-start, discover-reached, discover-distinct, discover-complete, over-reached, reached-over}
+use Rattle.resolution.proofs.Discovery.{discover-start, discover-numbered, discover-reached, discover-distinct, discover-complete, over-reached, reached-over}
 use Rattle.resolution.proofs.Build.{built-accepted}
 use Rattle.resolution.proofs.Claim.{claim}
 
@@ -86,6 +86,7 @@ pub build-law : (t : Table) (n : ℕ) → BuildLaw t n
 build-law t n =
     record {
       begins = discover-start sameState state-exact (stepAt t) (length (symbols t)) (start (t .cats)) n;
+      numbered = discover-numbered sameState state-exact (stepAt t) (length (symbols t)) (start (t .cats)) n;
       reachable = discover-reached sameState state-exact (stepAt t) (length (symbols t)) (start (t .cats)) n;
       distinct = λ i j a b e.
           sym (own i a) ∙ ap (λ st. indexBy sameState st (discovered t n)) e ∙ own j b;

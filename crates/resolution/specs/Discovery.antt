@@ -2,11 +2,12 @@
 -- symbols and a start.
 use Prim.Native.Nat.{ℕ, zero, suc, _<_}
 use mathlib.Core.Path.{_≡_}
-use mathlib.Core.Bool.{Bool, cond}
+use mathlib.Core.Logic.{_⊎_}
+use mathlib.Core.Bool.{Bool, true, cond}
 use mathlib.Core.List.{List, [], _∷_, foldl, List·Memᴰ}
 use lib.Dec.{ltb}
-use lib.ListN.{getD, length}
-use Rattle.resolution.specs.Lists.{addBy, indexBy, tabulate, Distinct}
+use lib.ListN.{getD, length, take}
+use Rattle.resolution.specs.Lists.{memberBy, addBy, indexBy, tabulate, Distinct}
 
 module _ {S : Type 0} (same : S → S → Bool) (next : S → ℕ → S) where
   -- the list after the targets of s at the symbols below k, in order, each at the end unless it is there
@@ -40,3 +41,13 @@ module _ {S : Type 0} (next : S → ℕ → S) (count : ℕ) (begin : S) where
     pub distinct : Distinct same states
     pub reached : (s : S) → List·Memᴰ s states → Reached s
     pub over : n < length states
+
+  -- how breadth-first numbers are given: the state with number j is first met from state `from` by `symbol`, and what the
+  -- pairs before that one lead to, smaller states first and then smaller symbols, has a smaller number than j
+  pub record FirstMet (same : S → S → Bool) (l : List S) (j : ℕ) : Type 0 where
+    pub from : ℕ
+    pub symbol : ℕ
+    pub earlier : from < j
+    pub listed : symbol < count
+    pub leads : next (getD l from begin) symbol ≡ getD l j begin
+    pub before : (a b : ℕ) → (a < from) ⊎ ((a ≡ from) × (b < symbol)) → b < count → memberBy same (next (getD l a begin) b) (take j l) ≡ true
