@@ -1,4 +1,5 @@
--- Laws of the step over a table's nodes: when it stays, what it takes, what it keeps, and that nothing is found past the deepest node.
+-- Laws of the step over a table's nodes: when it stays, what it takes, what it keeps, and that nothing is found past
+-- the deepest node.
 use Prim.Native.Nat.{ℕ, _<_}
 use mathlib.Core.Path.{_≡_, refl, sym, ap, _∙_}
 use mathlib.Core.Logic.{_⊎_, inl, inr, _≢_}

@@ -3,10 +3,11 @@ use Prim.Native.Nat.{ℕ, _<_}
 use mathlib.Core.Path.{_≡_}
 use mathlib.Core.List.{[]}
 use lib.ListN.{length, getD, length-replicate}
+use native.Mathlib.Omega.{arith}
 use Rattle.resolution.specs.Table.{Urn, Table, rowOf, WellFormed}
 use Rattle.resolution.specs.Direct.{Open, State, start, step, envOf, StateOf}
 use Rattle.resolution.specs.Nodes.{nodes}
-use Rattle.resolution.proofs.Table.{find-sound, find-start, find-self, row-length}
+use Rattle.resolution.proofs.Table.{find-sound, find-start, find-below, find-self, row-length}
 use Rattle.resolution.proofs.Nodes.{noded, fresh-node}
 use Rattle.resolution.proofs.Step.{EnvLaws, Valid, valid-step}
 
@@ -34,3 +35,6 @@ module _ (t : Table) where
   pub state-of : ((i j : ℕ) → i < length (t .signals) → j < length (t .signals) → rowOf t i ≡ rowOf t j → i ≡ j)
       → (st : State) → st .signal < length (t .signals) → length (st .status) ≡ t .cats → StateOf t st
   state-of rows st h e = record { live = find-self t rows (st .signal) h; sized = e }
+
+  pub state-signal : (st : State) → StateOf t st → st .signal < length (t .signals)
+  state-signal st g = omega (arith, find-below (t .cats) 0 (t .signals) (rowOf t (st .signal)) (st .signal) (g .live))

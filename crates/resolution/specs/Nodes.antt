@@ -71,7 +71,7 @@ abbrev pub isRoot : Parts → Bool
 isRoot [] = true
 isRoot (x ∷ p) = false
 
--- a leaf: no other node lies under it, and it is not the root
+-- a leaf, asked of a node or the root: no node lies under it, and it is not the root
 unfoldable pub leaf : List Urn → ℕ → Parts → Bool
 leaf ns c p = not (isRoot p) && not (hasUnder ns c p)
 

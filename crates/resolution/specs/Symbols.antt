@@ -50,11 +50,14 @@ stepSymbol t st s = step (envOf t) st (stepsAs s)
 abbrev pub bySymbols : Table → List Urn → State
 bySymbols t us = foldl (λ st u. stepSymbol t st (symbolOf (nodes t) u)) (start (t .cats)) us
 
--- the symbols of category c's nodes, by number: each node and, unless it is a leaf, its Other
+-- a node's own symbols: itself and, unless it is a leaf, its Other
+abbrev pub ownSymbols : List Urn → ℕ → Parts → List Symbol
+ownSymbols ns c p = node c p ∷ cond (leaf ns c p) [] (other c p ∷ [])
+
+-- the symbols of category c's nodes, by number
 abbrev pub nodeSymbols : List Urn → ℕ → List Urn → List Symbol
 nodeSymbols ns c [] = []
-nodeSymbols ns c (n ∷ rest) =
-    cond (eqb (n .cat) c) (node c (n .path) ∷ cond (leaf ns c (n .path)) [] (other c (n .path) ∷ [])) [] ++ nodeSymbols ns c rest
+nodeSymbols ns c (n ∷ rest) = cond (eqb (n .cat) c) (ownSymbols ns c (n .path)) [] ++ nodeSymbols ns c rest
 
 -- the symbols of the k categories from c on, each category's own Other last
 abbrev pub symbolsFrom : List Urn → ℕ → ℕ → List Symbol

@@ -64,7 +64,7 @@ abbrev pub mostParts : List (List Urn) → ℕ
 mostParts [] = 0
 mostParts (sig ∷ sigs) = max (partsOf sig) (mostParts sigs)
 
--- what the laws ask of a table: there is a signal 0, it has no URN, and no name is empty
+-- all that the laws ask of a table: there is a signal 0, it has no URN, and no name is empty
 pub record WellFormed (t : Table) : Type 0 where
   pub some-signal : 0 < length (t .signals)
   pub silent : getD (t .signals) 0 [] ≡ []
