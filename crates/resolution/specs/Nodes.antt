@@ -29,6 +29,7 @@ prefixes p = past [] p
 abbrev pub addUrn : List Urn → Urn → List Urn
 addUrn seen u = foldl (λ s p. addBy sameUrn s (urn (u .cat) p)) seen (prefixes (u .path))
 
+-- with those of all URNs of a signal
 abbrev pub addSignal : List Urn → List Urn → List Urn
 addSignal seen sig = foldl addUrn seen sig
 
@@ -37,6 +38,7 @@ addSignal seen sig = foldl addUrn seen sig
 unfoldable pub nodes : Table → List Urn
 nodes t = foldl addSignal [] (t .signals)
 
+-- p is a node of category c
 abbrev pub isNode : List Urn → ℕ → Parts → Bool
 isNode ns c p = member (urn c p) ns
 
@@ -67,6 +69,7 @@ abbrev pub hasUnder : List Urn → ℕ → Parts → Bool
 hasUnder [] c p = false
 hasUnder (n ∷ ns) c p = (eqb (n .cat) c && properAncestor p (n .path)) || hasUnder ns c p
 
+-- p is the root
 abbrev pub isRoot : Parts → Bool
 isRoot [] = true
 isRoot (x ∷ p) = false
