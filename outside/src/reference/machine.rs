@@ -1,21 +1,29 @@
 //! The machine: discovery, the stored image, the checker, and the walk of an image.
 use super::direct::{start, step, State};
-use super::table::{Symbol, Table};
+use super::table::{Node, Symbol, Table};
 use super::value::uris;
 use crate::Resolution;
 use std::collections::{BTreeSet, HashMap};
 
+/// States, and for each its row: the number of the state that each symbol leads to.
+pub type Machine = (Vec<State>, Vec<Vec<usize>>);
+
 /// The states that some symbol sequence reaches, by breadth-first discovery, symbols in order, with their rows.
 /// Nothing if there are more than `limit`.
-pub fn discover(table: &Table, limit: usize) -> Option<(Vec<State>, Vec<Vec<usize>>)> {
-    let mut states = vec![start()];
-    let mut numbers = HashMap::from([(start(), 0)]);
+pub fn discover(table: &Table, limit: usize) -> Option<Machine> {
+    discover_from(table, vec![start()], limit)
+}
+
+/// The same from several states at once.
+pub fn discover_from(table: &Table, mut states: Vec<State>, limit: usize) -> Option<Machine> {
+    let urns: Vec<Node> = table.symbols.iter().map(|&symbol| table.steps_as(symbol)).collect();
+    let mut numbers: HashMap<State, usize> = states.iter().cloned().zip(0..).collect();
     let mut rows = Vec::new();
     while rows.len() < states.len() {
         let from = states[rows.len()].clone();
         let mut row = Vec::new();
-        for &symbol in &table.symbols {
-            let to = step(table, &from, &table.steps_as(symbol));
+        for urn in &urns {
+            let to = step(table, &from, urn);
             let number = *numbers.entry(to.clone()).or_insert(states.len());
             if number == states.len() {
                 states.push(to);
@@ -31,7 +39,7 @@ pub fn discover(table: &Table, limit: usize) -> Option<(Vec<State>, Vec<Vec<usiz
 }
 
 /// Bit c for category c.
-fn shut_bits(shut: &BTreeSet<usize>) -> u8 {
+pub fn shut_bits(shut: &BTreeSet<usize>) -> u8 {
     shut.iter().map(|c| 1 << c).sum()
 }
 
@@ -105,9 +113,10 @@ pub fn check(table: &[u8], image: &[u8]) -> Result<(), u8> {
     if image.states[0] != start() {
         return Err(16);
     }
+    let urns: Vec<Node> = table.symbols.iter().map(|&symbol| table.steps_as(symbol)).collect();
     for (state, row) in image.states.iter().zip(&image.rows) {
-        for (&symbol, &target) in table.symbols.iter().zip(row) {
-            if image.states[target] != step(&table, state, &table.steps_as(symbol)) {
+        for (urn, &target) in urns.iter().zip(row) {
+            if image.states[target] != step(&table, state, urn) {
                 return Err(17);
             }
         }
