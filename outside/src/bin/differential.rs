@@ -1,4 +1,5 @@
-//! Random cases against every implementation: `differential [CASES [SEED]]`.
+//! Cases against every implementation: tables at the limits, every byte at every place of a small table, machine and
+//! value, then so many random ones: `differential [CASES [SEED]]`.
 //!
 //! The reference says what is right. A difference is printed as a line that crates/conformance/data could hold. At the
 //! end stands how often each function gave each refusal number; one that was never given is a failure.
@@ -253,6 +254,50 @@ fn limits(tally: &mut Tally, random: &mut Random) {
     }
 }
 
+/// Values in which every byte is tried at the place of `#`.
+const HOLES: [&[u8]; 22] = [
+    b"#", b"#<a>", b"<#>", b"<a#b>", b"<a>#", b"<a>#,<b>", b"<a>,#<b>", b"<a>;#", b"<a>;#x", b"<a>;x#", b"<a>;x#=y",
+    b"<a>;x=#", b"<a>;x=#y", b"<a>;x=y#", b"<a>;x=y#,<b>", b"<a>;x=\"#\"", b"<a>;x=\"\\#\"", b"<a>;x=\"y\"#",
+    b"<urn:alert:source:#>", b"<urn:alert:source:internal#>", b"<urn:alert:#:internal>", b"<urn#alert:source:internal>",
+];
+
+/// T1, its machine and a value, with every byte tried at every place, and images of every size that matters.
+fn every_byte(tally: &mut Tally, random: &mut Random) {
+    let table = include_bytes!("../../../examples/tables/T1.table");
+    let image = built(table).expect("T1's machine");
+    let value = b"<urn:alert:source:internal>;a=\"b\"";
+    for states in [0, 1, 2, 255, 256, 257, 258, 511, 512, 513, 65_535] {
+        let image = images::with_states(&image, states);
+        hold_check(tally, table, &image);
+        hold_resolvers(tally, table, &image, value);
+    }
+    for byte in 0..=255 {
+        for hole in HOLES {
+            let value: Vec<u8> = hole.iter().map(|&b| if b == b'#' { byte } else { b }).collect();
+            hold_value(tally, random, &value);
+            hold_resolvers(tally, table, &image, &value);
+        }
+        for at in 0..table.len() {
+            let mut changed = table.to_vec();
+            changed[at] = byte;
+            hold_table(tally, random, &changed, &image);
+            hold_resolvers(tally, &changed, &image, value);
+        }
+        for at in 0..image.len() {
+            let mut changed = image.clone();
+            changed[at] = byte;
+            hold_check(tally, table, &changed);
+            hold_resolvers(tally, table, &changed, value);
+        }
+        for at in 0..value.len() {
+            let mut changed = value.to_vec();
+            changed[at] = byte;
+            hold_value(tally, random, &changed);
+            hold_resolvers(tally, table, &image, &changed);
+        }
+    }
+}
+
 fn main() {
     let mut arguments = std::env::args().skip(1).map(|word| word.parse::<u64>().expect("a number"));
     let cases = arguments.next().unwrap_or(1_000_000);
@@ -264,6 +309,8 @@ fn main() {
     let mut random = Random(seed);
     let mut other = vec![0, 1, 0, 0, 0];
     limits(&mut tally, &mut random);
+    every_byte(&mut tally, &mut random);
+    let cases = cases + tally.cases;
     while tally.cases < cases {
         round(&mut tally, &mut random, &mut other);
     }

@@ -92,6 +92,14 @@ fn enlarged(random: &mut Random, table: &Table) -> Option<Parts> {
     Some(Parts { symbols, rows: states.iter().zip(&targets).map(row).collect() })
 }
 
+/// The image with so many states in place of its own, each signal 0 with nothing shut and all targets 0.
+pub fn with_states(built: &[u8], count: usize) -> Vec<u8> {
+    let mut parts = parts(built);
+    let row = vec![0; 2 + parts.symbols.len() / 3];
+    parts.rows = vec![row; count];
+    parts.bytes()
+}
+
 /// An image from the table's machine: right, right in another way, or wrong.
 pub fn image(random: &mut Random, table: &[u8], built: &[u8]) -> Vec<u8> {
     let mut parts = parts(built);

@@ -304,6 +304,8 @@ pub fn limits() -> Vec<Limit> {
         let name = if length == 55 { "n".repeat(27) + "@" + &"m".repeat(27) } else { "n".repeat(length) };
         Draft { categories: vec![text(name.clone())], signals: vec![vec![], vec![text(name + ":a")]] }
     };
+    let mut alike = with(with(chains(8, 8), "c0:q"), "c0:r");
+    alike.signals.push(alike.signals[1].iter().rev().cloned().collect());
     let mut nine_urns = chains(8, 1);
     nine_urns.signals[1].push(text("c0:p1".to_string()));
     let only_default = Draft { categories: vec![text("c".to_string())], signals: vec![vec![]] };
@@ -323,6 +325,7 @@ pub fn limits() -> Vec<Limit> {
         ("9 parts", chains(1, 9), 7),
         ("64 nodes, 256 states, 128 symbols", chains(8, 8), 0),
         ("65 nodes", with(chains(8, 8), "c0:q"), 12),
+        ("66 nodes, two signals alike", alike, 11),
         ("256 states in 6 categories", singles(6), 0),
         ("257 states", states_257(), 13),
         ("over 256 states with 64 nodes", with(chains(8, 8), "c0:p0"), 13),

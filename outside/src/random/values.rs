@@ -15,8 +15,9 @@ fn token(random: &mut Random) -> Vec<u8> {
 fn quoted(random: &mut Random) -> Vec<u8> {
     let mut text = vec![b'"'];
     for _ in 0..random.below(8) {
-        match random.below(6) {
+        match random.below(7) {
             0 => text.extend([b'\\', *random.pick(b"\\\"\x00\x7Fa,<\x09\x0B")]),
+            3 if random.percent(10) => text.extend([b'\\', random.byte()]),
             1 => text.push(*random.pick(b",;<>=: \t")),
             2 => text.push(random.between(128, 255) as u8),
             _ => text.push(random.between(b'a' as usize, b'z' as usize) as u8),
