@@ -1,8 +1,8 @@
 //! The proved libraries behind safe functions. The declarations are those of include/*.h.
-#[cfg(feature = "signal_table")]
-use crate::{Built, Tables};
 #[cfg(feature = "alert_info")]
 use crate::Reader;
+#[cfg(feature = "signal_table")]
+use crate::{Built, Tables};
 #[cfg(feature = "resolver")]
 use crate::{Resolution, Resolvers};
 
@@ -91,14 +91,7 @@ impl Resolvers for Ours {
 
     fn machine(table: &[u8], image: &[u8], value: &[u8]) -> Resolution {
         unsafe {
-            resolve_machine(
-                table.as_ptr(),
-                table.len(),
-                image.as_ptr(),
-                image.len(),
-                value.as_ptr(),
-                value.len(),
-            )
+            resolve_machine(table.as_ptr(), table.len(), image.as_ptr(), image.len(), value.as_ptr(), value.len())
         }
     }
 }

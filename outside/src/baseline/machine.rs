@@ -145,7 +145,11 @@ pub fn rows<'a>(table: &Decoded, symbols: &Symbols, image: &'a [u8]) -> Result<&
     }
     let count = u16::from_le_bytes([image[head - 2], image[head - 1]]) as usize;
     let rows = &image[head..];
-    if count == 0 || count > 256 || rows.len() != count * width || !image[1..head - 2].iter().copied().eq(symbols.bytes()) {
+    if count == 0
+        || count > 256
+        || rows.len() != count * width
+        || !image[1..head - 2].iter().copied().eq(symbols.bytes())
+    {
         return Err(15);
     }
     let last = (count - 1) as u8;

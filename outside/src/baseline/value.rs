@@ -14,9 +14,7 @@ const fn classes_of(b: u8) -> u8 {
     if b > 0x20 && b < 0x7F && b != b'<' && b != b'>' && b != b'"' {
         classes |= URI;
     }
-    if b.is_ascii_alphanumeric()
-        || matches!(b, b'-' | b'.' | b'!' | b'%' | b'*' | b'_' | b'+' | b'`' | b'\'' | b'~')
-    {
+    if b.is_ascii_alphanumeric() || matches!(b, b'-' | b'.' | b'!' | b'%' | b'*' | b'_' | b'+' | b'`' | b'\'' | b'~') {
         classes |= TOKEN;
     }
     if b == 9 || (b >= 32 && b != 127 && b != b'"' && b != b'\\') {

@@ -153,7 +153,7 @@ fn hold_value(tally: &mut Tally, random: &mut Random, value: &[u8]) {
     for _ in 0..2 {
         let k = match random.below(8) {
             0 => count,
-            1 => random.next() as usize,
+            1 => random.number() as usize,
             _ => random.below(count + 1),
         };
         let refusal = Reference::entry_refusal(value, k);
@@ -256,9 +256,28 @@ fn limits(tally: &mut Tally, random: &mut Random) {
 
 /// Values in which every byte is tried at the place of `#`.
 const HOLES: [&[u8]; 22] = [
-    b"#", b"#<a>", b"<#>", b"<a#b>", b"<a>#", b"<a>#,<b>", b"<a>,#<b>", b"<a>;#", b"<a>;#x", b"<a>;x#", b"<a>;x#=y",
-    b"<a>;x=#", b"<a>;x=#y", b"<a>;x=y#", b"<a>;x=y#,<b>", b"<a>;x=\"#\"", b"<a>;x=\"\\#\"", b"<a>;x=\"y\"#",
-    b"<urn:alert:source:#>", b"<urn:alert:source:internal#>", b"<urn:alert:#:internal>", b"<urn#alert:source:internal>",
+    b"#",
+    b"#<a>",
+    b"<#>",
+    b"<a#b>",
+    b"<a>#",
+    b"<a>#,<b>",
+    b"<a>,#<b>",
+    b"<a>;#",
+    b"<a>;#x",
+    b"<a>;x#",
+    b"<a>;x#=y",
+    b"<a>;x=#",
+    b"<a>;x=#y",
+    b"<a>;x=y#",
+    b"<a>;x=y#,<b>",
+    b"<a>;x=\"#\"",
+    b"<a>;x=\"\\#\"",
+    b"<a>;x=\"y\"#",
+    b"<urn:alert:source:#>",
+    b"<urn:alert:source:internal#>",
+    b"<urn:alert:#:internal>",
+    b"<urn#alert:source:internal>",
 ];
 
 /// T1, its machine and a value, with every byte tried at every place, and images of every size that matters.

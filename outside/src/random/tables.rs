@@ -31,8 +31,29 @@ impl Draft {
 }
 
 const LABELS: [&str; 24] = [
-    "internal", "int", "external", "high", "low", "normal", "a", "b", "A", "ab", "a-b", "a--b", "0", "9z", "vip",
-    "Internal", "callback", "recall", "xa", "xb", "q", "abcdefghijklmnopqrstuvwxyz0", "abcdefghijklmnopqrstuvwxyz1",
+    "internal",
+    "int",
+    "external",
+    "high",
+    "low",
+    "normal",
+    "a",
+    "b",
+    "A",
+    "ab",
+    "a-b",
+    "a--b",
+    "0",
+    "9z",
+    "vip",
+    "Internal",
+    "callback",
+    "recall",
+    "xa",
+    "xb",
+    "q",
+    "abcdefghijklmnopqrstuvwxyz0",
+    "abcdefghijklmnopqrstuvwxyz1",
     "n7",
 ];
 
@@ -48,8 +69,22 @@ pub fn name(random: &mut Random) -> Text {
 /// A name of bad form.
 pub fn bad_name(random: &mut Random) -> Text {
     let bad = [
-        "", "-", "-a", "a-", "a@", "@a", "a@b@c", "a@-b", "a-@b", "a.b", "a b", "a_b", "abcdefghijklmnopqrstuvwxyz01",
-        "a@abcdefghijklmnopqrstuvwxyz01", "a\u{7f}", "\u{e9}",
+        "",
+        "-",
+        "-a",
+        "a-",
+        "a@",
+        "@a",
+        "a@b@c",
+        "a@-b",
+        "a-@b",
+        "a.b",
+        "a b",
+        "a_b",
+        "abcdefghijklmnopqrstuvwxyz01",
+        "a@abcdefghijklmnopqrstuvwxyz01",
+        "a\u{7f}",
+        "\u{e9}",
     ];
     random.pick(&bad).as_bytes().to_vec()
 }

@@ -49,7 +49,12 @@ fn parameters(random: &mut Random) -> Vec<u8> {
 fn uri(random: &mut Random, draft: &Draft) -> Vec<u8> {
     let urns: Vec<&Vec<u8>> = draft.signals.iter().flatten().collect();
     let mut names: Vec<Vec<u8>> = match random.below(10) {
-        0 => return random.pick(&["http://example.com/a,b;c", "a", "urn:alert", "urn:alert:", "cid:1@x"]).as_bytes().to_vec(),
+        0 => {
+            return random
+                .pick(&["http://example.com/a,b;c", "a", "urn:alert", "urn:alert:", "cid:1@x"])
+                .as_bytes()
+                .to_vec()
+        }
         1 => vec![name(random), name(random)],
         _ if urns.is_empty() => vec![b"a".to_vec(), b"b".to_vec()],
         _ => random.pick(&urns).split(|&b| b == b':').map(<[u8]>::to_vec).collect(),

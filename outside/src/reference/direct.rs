@@ -19,7 +19,8 @@ pub fn start() -> State {
 /// The table's signal with place p in c and with the current signal's places in every other category.
 fn signal_with(table: &Table, current: usize, c: usize, p: &[Vec<u8>]) -> Option<usize> {
     let fits = |places: &Vec<Vec<Vec<u8>>>| {
-        (0..table.categories.len()).all(|d| if d == c { places[d] == p } else { places[d] == table.signals[current][d] })
+        (0..table.categories.len())
+            .all(|d| if d == c { places[d] == p } else { places[d] == table.signals[current][d] })
     };
     table.signals.iter().position(fits)
 }

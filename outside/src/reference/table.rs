@@ -97,8 +97,7 @@ impl Table {
         if !numbered[0].is_empty() {
             return Err(10);
         }
-        let signals: Vec<Vec<Path>> =
-            numbered.iter().map(|signal| places(stored.categories.len(), signal)).collect();
+        let signals: Vec<Vec<Path>> = numbered.iter().map(|signal| places(stored.categories.len(), signal)).collect();
         if has_repeats(signals.iter()) {
             return Err(11);
         }
