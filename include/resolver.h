@@ -1,0 +1,37 @@
+/* The two resolvers: libresolver.a, which needs no other library. What the pointers must hold is said in
+ * alert_info.h; the refusal numbers are those of alert_info.h and signal_table.h. */
+#ifndef RESOLVER_H
+#define RESOLVER_H
+
+#include <stddef.h>
+#include <stdint.h>
+
+#include "alert_info.h"
+#include "signal_table.h"
+
+#ifdef __cplusplus
+extern "C" {
+#endif
+
+/* What a resolver answers. Refused: the signal and both counts are 0. */
+typedef struct alert_resolution {
+    uint8_t refusal; /* 0 if accepted */
+    uint8_t signal;  /* the number of the signal to give, counted from 0 in the table's order */
+    uint8_t used;    /* entries with an alert URN of one of the table's categories */
+    uint8_t skipped; /* all other entries */
+} alert_resolution;
+
+/* The signal for a value, from the table alone. Refused with 1 to 12. */
+alert_resolution resolve_plain(const uint8_t *table, size_t len, const uint8_t *value, size_t value_len);
+
+/* The signal for a value, by following the table's machine. Refused with 1 to 12 or 15. The image is followed as it
+ * is: machine_check says whether it is the table's. For one that machine_check accepts, the answer is that of
+ * resolve_plain. */
+alert_resolution resolve_machine(const uint8_t *table, size_t len, const uint8_t *image, size_t image_len,
+                                 const uint8_t *value, size_t value_len);
+
+#ifdef __cplusplus
+}
+#endif
+
+#endif

@@ -1,0 +1,61 @@
+//! The same answers in plain Rust without allocation, written for speed: what the proved libraries are timed against.
+mod machine;
+mod resolve;
+mod table;
+mod urn;
+mod value;
+
+use crate::{Built, Reader, Resolution, Resolvers, Tables};
+
+pub struct Baseline;
+
+impl Reader for Baseline {
+    fn value_refusal(value: &[u8]) -> u8 {
+        value::scan(value, |_, _, _| ()).err().unwrap_or(0)
+    }
+
+    fn entries(value: &[u8]) -> usize {
+        value::scan(value, |_, _, _| ()).unwrap_or(0)
+    }
+
+    fn entry(value: &[u8], k: usize) -> &[u8] {
+        value::entry(value, k).unwrap_or(&[])
+    }
+
+    fn entry_refusal(value: &[u8], k: usize) -> u8 {
+        value::entry(value, k).err().unwrap_or(0)
+    }
+}
+
+impl Tables for Baseline {
+    fn table_refusal(table: &[u8]) -> u8 {
+        table::Decoded::read(table).err().unwrap_or(0)
+    }
+
+    fn build(table: &[u8], buffer: &mut [u8]) -> Built {
+        match machine::build(table, buffer) {
+            Ok(len) => {
+                buffer[len..].fill(0);
+                Built { refusal: 0, len }
+            }
+            Err(refusal) => {
+                buffer.fill(0);
+                Built { refusal, len: 0 }
+            }
+        }
+    }
+
+    fn check(table: &[u8], image: &[u8]) -> u8 {
+        machine::check(table, image).err().unwrap_or(0)
+    }
+}
+
+impl Resolvers for Baseline {
+    fn plain(table: &[u8], value: &[u8]) -> Resolution {
+        resolve::plain(table, value).unwrap_or_else(Resolution::refused)
+    }
+
+    fn machine(table: &[u8], image: &[u8], value: &[u8]) -> Resolution {
+        resolve::machine(table, image, value).unwrap_or_else(Resolution::refused)
+    }
+}

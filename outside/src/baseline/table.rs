@@ -1,0 +1,301 @@
+//! A stored table decoded to node numbers, and the step on them.
+use super::urn;
+
+/// A node: its category, its parent (0 for the root), and where its last name stands in the table.
+#[derive(Clone, Copy)]
+pub struct Node {
+    pub category: u8,
+    pub parent: u8,
+    pub leaf: bool,
+    name_length: u8,
+    name_start: u16,
+}
+
+const NO_NODE: Node = Node { category: 0, parent: 0, leaf: true, name_length: 0, name_start: 0 };
+
+pub struct Decoded<'a> {
+    bytes: &'a [u8],
+    categories: [(u16, u8); 8],
+    pub category_count: usize,
+    pub signal_count: usize,
+    /// Each signal's places, one byte a category: the node's number, 0 for the root.
+    pub rows: [u64; 32],
+    /// Node n stands at n; 0 is the root.
+    pub nodes: [Node; 65],
+    pub node_count: usize,
+}
+
+/// Where each URN stands, and how many each signal has.
+struct Urns {
+    places: [(u16, u8); 256],
+    counts: [u8; 32],
+    total: usize,
+}
+
+struct Left<'a> {
+    bytes: &'a [u8],
+    at: usize,
+}
+
+impl Left<'_> {
+    fn number(&mut self, low: u8, high: u8) -> Result<u8, u8> {
+        let number = *self.bytes.get(self.at).ok_or(5)?;
+        self.at += 1;
+        if number < low || number > high {
+            return Err(6);
+        }
+        Ok(number)
+    }
+
+    fn text(&mut self, high: u8) -> Result<(u16, u8), u8> {
+        let length = self.number(1, high)?;
+        let start = self.at;
+        self.at += length as usize;
+        if self.at > self.bytes.len() {
+            return Err(5);
+        }
+        Ok((start as u16, length))
+    }
+}
+
+fn text(bytes: &[u8], place: (u16, u8)) -> &[u8] {
+    &bytes[place.0 as usize..place.0 as usize + place.1 as usize]
+}
+
+impl<'a> Decoded<'a> {
+    pub fn read(bytes: &'a [u8]) -> Result<Decoded<'a>, u8> {
+        if bytes.len() > 8192 {
+            return Err(4);
+        }
+        let mut decoded = Decoded {
+            bytes,
+            categories: [(0, 0); 8],
+            category_count: 0,
+            signal_count: 0,
+            rows: [0; 32],
+            nodes: [NO_NODE; 65],
+            node_count: 0,
+        };
+        let mut urns = Urns { places: [(0, 0); 256], counts: [0; 32], total: 0 };
+        decoded.read_sections(&mut urns)?;
+        let mut paths = [(0u8, 0u8); 256];
+        decoded.check_names(&urns, &mut paths)?;
+        decoded.check_categories(&urns, &mut paths)?;
+        decoded.check_signals(&urns, &paths)?;
+        let over = decoded.add_nodes(&urns, &paths);
+        if decoded.has_equal_signals(&urns, over) {
+            return Err(11);
+        }
+        if over {
+            return Err(12);
+        }
+        Ok(decoded)
+    }
+
+    fn read_sections(&mut self, urns: &mut Urns) -> Result<(), u8> {
+        let mut left = Left { bytes: self.bytes, at: 0 };
+        self.category_count = left.number(1, 8)? as usize;
+        for category in &mut self.categories[..self.category_count] {
+            *category = left.text(55)?;
+        }
+        self.signal_count = left.number(1, 32)? as usize;
+        for count in &mut urns.counts[..self.signal_count] {
+            *count = left.number(0, 8)?;
+            for _ in 0..*count {
+                urns.places[urns.total] = left.text(255)?;
+                urns.total += 1;
+            }
+        }
+        if left.at < self.bytes.len() {
+            return Err(5);
+        }
+        Ok(())
+    }
+
+    /// Leaves in `paths` the length of each URN's category name.
+    fn check_names(&self, urns: &Urns, paths: &mut [(u8, u8); 256]) -> Result<(), u8> {
+        for &category in &self.categories[..self.category_count] {
+            if !urn::is_name(text(self.bytes, category)) {
+                return Err(7);
+            }
+        }
+        for (path, &place) in paths.iter_mut().zip(&urns.places[..urns.total]) {
+            match urn::form(text(self.bytes, place)) {
+                Some((length, parts)) if parts <= 8 => path.1 = length as u8,
+                _ => return Err(7),
+            }
+        }
+        Ok(())
+    }
+
+    pub fn category(&self, name: &[u8]) -> Option<usize> {
+        self.categories[..self.category_count].iter().position(|&place| text(self.bytes, place) == name)
+    }
+
+    /// Leaves in `paths` the number of each URN's category too.
+    fn check_categories(&self, urns: &Urns, paths: &mut [(u8, u8); 256]) -> Result<(), u8> {
+        for i in 0..self.category_count {
+            if self.category(text(self.bytes, self.categories[i])) != Some(i) {
+                return Err(8);
+            }
+        }
+        let mut used = 0u32;
+        for (path, &(start, _)) in paths.iter_mut().zip(&urns.places[..urns.total]) {
+            let c = self.category(text(self.bytes, (start, path.1))).ok_or(8)?;
+            used |= 1 << c;
+            path.0 = c as u8;
+        }
+        if used.count_ones() as usize != self.category_count {
+            return Err(8);
+        }
+        Ok(())
+    }
+
+    fn check_signals(&self, urns: &Urns, paths: &[(u8, u8); 256]) -> Result<(), u8> {
+        let mut first = 0;
+        for &count in &urns.counts[..self.signal_count] {
+            let mut seen = 0u32;
+            for path in &paths[first..first + count as usize] {
+                if seen >> path.0 & 1 == 1 {
+                    return Err(9);
+                }
+                seen |= 1 << path.0;
+            }
+            first += count as usize;
+        }
+        if urns.counts[0] != 0 {
+            return Err(10);
+        }
+        Ok(())
+    }
+
+    pub fn child(&self, category: usize, parent: u8, name: &[u8]) -> Option<u8> {
+        let nodes = &self.nodes[1..=self.node_count];
+        let same = |node: &Node| {
+            node.parent == parent
+                && node.category as usize == category
+                && text(self.bytes, (node.name_start, node.name_length)) == name
+        };
+        nodes.iter().position(same).map(|i| i as u8 + 1)
+    }
+
+    /// Adds the nodes and each signal's row. Whether there are over 64 nodes.
+    fn add_nodes(&mut self, urns: &Urns, paths: &[(u8, u8); 256]) -> bool {
+        let bytes = self.bytes;
+        let mut i = 0;
+        for signal in 0..self.signal_count {
+            for _ in 0..urns.counts[signal] {
+                let (start, length) = urns.places[i];
+                let (category, category_length) = paths[i];
+                i += 1;
+                let mut node = 0;
+                let mut at = start as usize + category_length as usize + 1;
+                let end = start as usize + length as usize;
+                while at < end {
+                    let (name, _) = urn::split_part(&bytes[at..end]);
+                    match self.child(category as usize, node, name) {
+                        Some(child) => node = child,
+                        None if self.node_count == 64 => return true,
+                        None => {
+                            self.nodes[node as usize].leaf = false;
+                            self.node_count += 1;
+                            self.nodes[self.node_count] = Node {
+                                category,
+                                parent: node,
+                                leaf: true,
+                                name_length: name.len() as u8,
+                                name_start: at as u16,
+                            };
+                            node = self.node_count as u8;
+                        }
+                    }
+                    at += name.len() + 1;
+                }
+                self.rows[signal] |= (node as u64) << (8 * category);
+            }
+        }
+        false
+    }
+
+    /// Whether two signals have the same places: by rows or, where there are too many nodes, by texts.
+    fn has_equal_signals(&self, urns: &Urns, over: bool) -> bool {
+        let rows = &self.rows[..self.signal_count];
+        if !over {
+            return (1..rows.len()).any(|i| rows[..i].contains(&rows[i]));
+        }
+        let mut firsts = [0; 33];
+        for i in 0..self.signal_count {
+            firsts[i + 1] = firsts[i] + urns.counts[i] as usize;
+        }
+        let of = |i: usize| &urns.places[firsts[i]..firsts[i + 1]];
+        let has = |all: &[(u16, u8)], one: (u16, u8)| {
+            all.iter().any(|&other| text(self.bytes, other) == text(self.bytes, one))
+        };
+        let equal = |i, j| of(i).len() == of(j).len() && of(i).iter().all(|&urn| has(of(j), urn));
+        (1..self.signal_count).any(|i| (0..i).any(|j| equal(i, j)))
+    }
+
+    /// The deepest node that is the URN or its ancestor, with whether it is the URN whole; nothing for a skipped URI.
+    pub fn find(&self, uri: &[u8]) -> Option<(usize, u8, bool)> {
+        let urn = urn::after_prefix(uri)?;
+        let (length, _) = urn::form(urn)?;
+        let category = self.category(&urn[..length])?;
+        let mut node = 0;
+        let mut rest = Some(&urn[length + 1..]);
+        while let Some(path) = rest {
+            let (name, after) = urn::split_part(path);
+            match self.child(category, node, name) {
+                Some(child) => node = child,
+                None => return Some((category, node, false)),
+            }
+            rest = after;
+        }
+        Some((category, node, true))
+    }
+
+    fn signal_with(&self, row: u64) -> Option<usize> {
+        self.rows[..self.signal_count].iter().position(|&r| r == row)
+    }
+
+    /// One used URN: its category, the deepest node that is the URN or its ancestor, and whether it is the URN.
+    pub fn step(&self, state: State, category: usize, node: u8, whole: bool) -> State {
+        if state.shut >> category & 1 == 1 {
+            return state;
+        }
+        let row = self.rows[state.signal as usize];
+        let place = (row >> (8 * category)) as u8;
+        if place == node && whole {
+            return state;
+        }
+        if !self.is_above(place, node) {
+            return state;
+        }
+        let others = row & !(0xFF << (8 * category));
+        let mut p = node;
+        while p != place {
+            if let Some(signal) = self.signal_with(others | (p as u64) << (8 * category)) {
+                let shuts = !(whole && p == node);
+                return State { signal: signal as u8, shut: state.shut | (shuts as u8) << category };
+            }
+            p = self.nodes[p as usize].parent;
+        }
+        State { signal: state.signal, shut: state.shut | 1 << category }
+    }
+
+    /// Whether `above` is `node` or one of its ancestors.
+    fn is_above(&self, above: u8, mut node: u8) -> bool {
+        while node > above {
+            node = self.nodes[node as usize].parent;
+        }
+        node == above
+    }
+}
+
+/// A current signal with the set of shut categories.
+#[derive(Clone, Copy, PartialEq, Eq)]
+pub struct State {
+    pub signal: u8,
+    pub shut: u8,
+}
+
+pub const START: State = State { signal: 0, shut: 0 };

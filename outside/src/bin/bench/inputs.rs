@@ -1,0 +1,88 @@
+//! What the functions are timed on.
+use outside::random::tables::limits;
+use outside::reference::Reference;
+use outside::{Reader, Tables};
+use std::path::Path;
+
+type Bytes = Vec<u8>;
+
+pub struct Inputs {
+    /// Values, with a name for each.
+    pub values: Vec<(String, Bytes)>,
+    /// Well-formed tables with their machines.
+    pub tables: Vec<(String, Bytes, Bytes)>,
+    /// For each table, a value that it uses.
+    used: Vec<Bytes>,
+}
+
+fn example(name: &str) -> Bytes {
+    let file = Path::new(env!("CARGO_MANIFEST_DIR")).join("../examples/tables").join(name);
+    std::fs::read(&file).unwrap_or_else(|e| panic!("{}: {e}", file.display()))
+}
+
+fn limit(what: &str) -> Bytes {
+    limits().into_iter().find(|limit| limit.what == what).expect("a known limit").table
+}
+
+fn machine(table: &[u8]) -> Bytes {
+    let mut buffer = vec![0; 33_667];
+    let built = Reference::build(table, &mut buffer);
+    assert_eq!(built.refusal, 0);
+    buffer.truncate(built.len);
+    buffer
+}
+
+fn urns(names: &[&str], times: usize) -> Bytes {
+    let entries: Vec<String> = names.iter().map(|name| format!("<urn:alert:{name}>")).collect();
+    vec![entries.join(", "); times].join(", ").into_bytes()
+}
+
+/// The number of an accepted value's last entry.
+pub fn last(value: &[u8]) -> usize {
+    Reference::entries(value) - 1
+}
+
+impl Inputs {
+    pub fn new() -> Inputs {
+        let long_uri = format!("<{}>", "u".repeat(4094));
+        let quoted = format!("<a>;x=\"{}\"", "\\,".repeat(2044));
+        let value = |name: &str, bytes: Bytes| (name.to_string(), bytes);
+        let values = vec![
+            value("1 entry, 27 bytes", urns(&["source:internal"], 1)),
+            value("3 entries", urns(&["source:internal", "source:unclassified", "priority:high"], 1)),
+            value("64 entries", urns(&["source:internal", "priority:high"], 32)),
+            value("one URI, 4,096 bytes", long_uri.into_bytes()),
+            value("one quoted string, 4,096 bytes", quoted.into_bytes()),
+        ];
+        let table = |name: &str, bytes: Bytes| {
+            let image = machine(&bytes);
+            (name.to_string(), bytes, image)
+        };
+        let tables = vec![
+            table("T1: 3 signals, 4 states", example("T1.table")),
+            table("T2: 9 signals, 16 states", example("T2.table")),
+            table("32 signals, 33 states", limit("32 signals")),
+            table("8,192 bytes, 256 states", limit("8,192 bytes")),
+            table("64 nodes, 256 states, 128 symbols", limit("64 nodes, 256 states, 128 symbols")),
+        ];
+        let used = vec![
+            urns(&["source:internal"], 1),
+            urns(&["source:internal", "source:unclassified", "priority:high"], 1),
+            urns(&["c:l31", "c:l7"], 32),
+            urns(&["category-0:0", "category-7:7"], 32),
+            urns(&["c0:p0:p1:p2:p3", "c7:p0:p1:p2:p3:p4:p5:p6:p7"], 32),
+        ];
+        Inputs { values, tables, used }
+    }
+
+    /// Each table with its machine and a value that it uses.
+    pub fn calls(&self) -> impl Iterator<Item = (String, &Bytes, &Bytes, &Bytes)> {
+        self.tables.iter().zip(&self.used).map(|((name, table, image), value)| {
+            let entries = match Reference::entries(value) {
+                1 => "1 entry".to_string(),
+                more => format!("{more} entries"),
+            };
+            (format!("{name}; {entries}"), table, image, value)
+        })
+    }
+}

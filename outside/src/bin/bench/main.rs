@@ -1,0 +1,130 @@
+//! Time, code size and stack of the proved libraries beside the baseline.
+//!
+//! Times are the best of many short runs, in which the two take turns. `bench [RUNS]`: 100 unless said otherwise.
+mod inputs;
+mod size;
+mod stack;
+mod time;
+
+use inputs::Inputs;
+use outside::baseline::Baseline;
+use outside::{Reader, Resolvers, Tables};
+use std::hint::black_box;
+
+#[cfg(any(feature = "alert_info", feature = "signal_table", feature = "resolver"))]
+use outside::ours::Ours;
+
+/// A call to measure, which is lent a buffer for an image.
+pub type Call<'a> = dyn Fn(&mut [u8]) + Sync + 'a;
+
+/// The same call of the proved library (if it is linked) and of the baseline.
+pub struct Row<'a> {
+    function: &'static str,
+    input: String,
+    ours: Option<Box<Call<'a>>>,
+    baseline: Box<Call<'a>>,
+}
+
+/// `row!(feature, name, input, |I, buffer| body)`: the body once with `Ours` and once with `Baseline` for `I`.
+macro_rules! row {
+    ($feature:literal, $function:literal, $input:expr, |$I:ident, $buffer:pat_param| $body:expr) => {{
+        #[cfg(feature = $feature)]
+        let ours: Option<Box<Call<'_>>> = {
+            type $I = Ours;
+            Some(Box::new(move |$buffer: &mut [u8]| {
+                black_box($body);
+            }))
+        };
+        #[cfg(not(feature = $feature))]
+        let ours: Option<Box<Call<'_>>> = None;
+        type $I = Baseline;
+        let baseline = Box::new(move |$buffer: &mut [u8]| {
+            black_box($body);
+        });
+        Row { function: $function, input: $input, ours, baseline }
+    }};
+}
+
+fn reader_rows<'a>(inputs: &'a Inputs, rows: &mut Vec<Row<'a>>) {
+    for (name, value) in &inputs.values {
+        rows.push(row!("alert_info", "alert_info_refusal", name.clone(), |I, _| I::value_refusal(black_box(value))));
+    }
+    for (name, value) in &inputs.values {
+        let last = inputs::last(value);
+        let input = format!("{name}, the last");
+        rows.push(row!("alert_info", "alert_info_entry", input, |I, _| I::entry(black_box(value), last)));
+    }
+}
+
+fn table_rows<'a>(inputs: &'a Inputs, rows: &mut Vec<Row<'a>>) {
+    for (name, table, _) in &inputs.tables {
+        rows.push(row!("signal_table", "signal_table_refusal", name.clone(), |I, _| {
+            I::table_refusal(black_box(table))
+        }));
+    }
+    for (name, table, image) in &inputs.tables {
+        rows.push(row!("signal_table", "machine_build", name.clone(), |I, buffer| {
+            I::build(black_box(table), &mut buffer[..image.len()])
+        }));
+    }
+    for (name, table, image) in &inputs.tables {
+        rows.push(row!("signal_table", "machine_check", name.clone(), |I, _| {
+            I::check(black_box(table), black_box(image))
+        }));
+    }
+}
+
+fn resolver_rows<'a>(inputs: &'a Inputs, rows: &mut Vec<Row<'a>>) {
+    for (name, table, _, value) in inputs.calls() {
+        rows.push(row!("resolver", "resolve_plain", name, |I, _| I::plain(black_box(table), black_box(value))));
+    }
+    for (name, table, image, value) in inputs.calls() {
+        rows.push(row!("resolver", "resolve_machine", name, |I, _| {
+            I::machine(black_box(table), black_box(image), black_box(value))
+        }));
+    }
+}
+
+fn print_times(rows: &[Row], runs: usize) {
+    println!("| function | input | ours | baseline | ours / baseline |");
+    println!("|---|---|---:|---:|---:|");
+    for row in rows {
+        let (ours, baseline) = time::best(row.ours.as_deref(), &*row.baseline, runs);
+        let (shown, ratio) = match ours {
+            Some(ours) => (time::show(ours), format!("{:.2}", ours / baseline)),
+            None => ("-".to_string(), "-".to_string()),
+        };
+        println!("| {} | {} | {shown} | {} | {ratio} |", row.function, row.input, time::show(baseline));
+    }
+}
+
+/// The most that any of a function's inputs took.
+fn print_stacks(rows: &[Row]) {
+    println!("| function | ours | baseline |");
+    println!("|---|---:|---:|");
+    let mut functions: Vec<&str> = rows.iter().map(|row| row.function).collect();
+    functions.dedup();
+    for function in functions {
+        let of_function = || rows.iter().filter(|row| row.function == function);
+        let ours = of_function().filter_map(|row| row.ours.as_deref()).map(stack::depth).max();
+        let baseline = of_function().map(|row| stack::depth(&*row.baseline)).max();
+        let show = |depth: Option<usize>| depth.map_or("-".to_string(), |bytes| bytes.to_string());
+        println!("| {function} | {} | {} |", show(ours), show(baseline));
+    }
+}
+
+fn main() {
+    let runs = std::env::args().nth(1).map_or(100, |word| word.parse().expect("a number of runs"));
+    let inputs = Inputs::new();
+    let mut rows = Vec::new();
+    reader_rows(&inputs, &mut rows);
+    table_rows(&inputs, &mut rows);
+    resolver_rows(&inputs, &mut rows);
+    time::warm_up(&*rows[0].baseline);
+    println!("## Time of one call, best of {runs} runs\n");
+    print_times(&rows, runs);
+    println!("\n## Stack that one call takes at most, bytes\n");
+    print_stacks(&rows);
+    println!("\n## Code and constants of the libraries, bytes\n");
+    size::print();
+}

@@ -1,0 +1,345 @@
+//! Cases against every implementation: tables at the limits, every byte at every place of a small table, machine and
+//! value, then so many random ones: `differential [CASES [SEED]]`.
+//!
+//! The reference says what is right. A difference is printed as a line that crates/conformance/data could hold. At the
+//! end stands how often each function gave each refusal number; one that was never given is a failure.
+use outside::baseline::Baseline;
+use outside::cases::to_hex;
+use outside::random::tables::{self, Limit};
+use outside::random::{images, values, Random};
+use outside::reference::Reference;
+use outside::{Built, Reader, Resolution, Resolvers, Tables};
+use std::collections::BTreeMap;
+use std::fmt::Debug;
+use std::process::exit;
+use std::time::{Instant, SystemTime, UNIX_EPOCH};
+
+#[cfg(any(feature = "alert_info", feature = "signal_table", feature = "resolver"))]
+use outside::ours::Ours;
+
+/// The longest image.
+const LONGEST: usize = 33_667;
+
+/// Every function with the refusal numbers that it may give.
+const FUNCTIONS: [(&str, &[u8]); 9] = [
+    ("alert_info_refusal", &[0, 1, 2, 3]),
+    ("alert_info_entries", &[0, 1, 2, 3]),
+    ("alert_info_entry", &[0, 1, 2, 3, 18]),
+    ("alert_info_entry_refusal", &[0, 1, 2, 3, 18]),
+    ("signal_table_refusal", &[0, 4, 5, 6, 7, 8, 9, 10, 11, 12]),
+    ("machine_build", &[0, 4, 5, 6, 7, 8, 9, 10, 11, 12, 13, 14]),
+    ("machine_check", &[0, 4, 5, 6, 7, 8, 9, 10, 11, 12, 15, 16, 17]),
+    ("resolve_plain", &[0, 1, 2, 3, 4, 5, 6, 7, 8, 9, 10, 11, 12]),
+    ("resolve_machine", &[0, 1, 2, 3, 4, 5, 6, 7, 8, 9, 10, 11, 12, 15]),
+];
+
+#[derive(Default)]
+struct Tally {
+    counts: BTreeMap<(&'static str, u8), u64>,
+    cases: u64,
+    wrong: u64,
+}
+
+impl Tally {
+    /// Counts a case under the reference's refusal number, and holds every answer to the reference's, the first.
+    fn hold<T: PartialEq + Debug>(
+        &mut self,
+        function: &'static str,
+        refusal: u8,
+        answers: &[(&str, T)],
+        line: impl Fn() -> String,
+    ) {
+        *self.counts.entry((function, refusal)).or_default() += 1;
+        self.cases += 1;
+        for (name, answer) in &answers[1..] {
+            if *answer != answers[0].1 {
+                self.wrong += 1;
+                println!("{function} by {name}: {answer:?}\n  not {:?}\n  {}", answers[0].1, line());
+            }
+        }
+        if self.wrong > 10 {
+            println!("stopped after {} cases", self.cases);
+            exit(1);
+        }
+    }
+
+    /// Prints the counts. Whether every number of every function was given, and no other.
+    fn report(&self) -> bool {
+        let mut whole = true;
+        for (function, numbers) in FUNCTIONS {
+            print!("{function:24}");
+            for &number in numbers {
+                let count = self.counts.get(&(function, number)).copied().unwrap_or(0);
+                print!(" {number}:{count}");
+                whole &= count > 0;
+            }
+            println!();
+        }
+        for (function, number) in self.counts.keys() {
+            let known = FUNCTIONS.iter().any(|(name, numbers)| name == function && numbers.contains(number));
+            if !known {
+                println!("{function} gave {number}");
+                whole = false;
+            }
+        }
+        whole
+    }
+}
+
+/// The answers of every implementation, the reference's first.
+macro_rules! answers {
+    ($feature:literal, $f:ident, $($argument:expr),*) => {{
+        #[allow(unused_mut)]
+        let mut answers = vec![
+            ("reference", $f::<Reference>($($argument),*)),
+            ("baseline", $f::<Baseline>($($argument),*)),
+        ];
+        #[cfg(feature = $feature)]
+        answers.push(("ours", $f::<Ours>($($argument),*)));
+        answers
+    }};
+}
+
+fn value_refusal<I: Reader>(value: &[u8]) -> u8 {
+    I::value_refusal(value)
+}
+
+fn entries<I: Reader>(value: &[u8]) -> usize {
+    I::entries(value)
+}
+
+/// Where the entry stands in the value; 0 and 0 for an empty part.
+fn entry<I: Reader>(value: &[u8], k: usize) -> (usize, usize) {
+    let uri = I::entry(value, k);
+    match uri.len() {
+        0 => (0, 0),
+        length => (uri.as_ptr() as usize - value.as_ptr() as usize, length),
+    }
+}
+
+fn entry_refusal<I: Reader>(value: &[u8], k: usize) -> u8 {
+    I::entry_refusal(value, k)
+}
+
+fn table_refusal<I: Tables>(table: &[u8]) -> u8 {
+    I::table_refusal(table)
+}
+
+/// The answer with the whole buffer, which held other bytes before.
+fn build<I: Tables>(table: &[u8], room: usize) -> (Built, Vec<u8>) {
+    let mut buffer = vec![0xA5; room];
+    let built = I::build(table, &mut buffer);
+    (built, buffer)
+}
+
+fn check<I: Tables>(table: &[u8], image: &[u8]) -> u8 {
+    I::check(table, image)
+}
+
+fn plain<I: Resolvers>(table: &[u8], value: &[u8]) -> Resolution {
+    I::plain(table, value)
+}
+
+fn machine<I: Resolvers>(table: &[u8], image: &[u8], value: &[u8]) -> Resolution {
+    I::machine(table, image, value)
+}
+
+fn hold_value(tally: &mut Tally, random: &mut Random, value: &[u8]) {
+    let refusal = Reference::value_refusal(value);
+    let line = || format!("value {}", to_hex(value));
+    tally.hold("alert_info_refusal", refusal, &answers!("alert_info", value_refusal, value), line);
+    tally.hold("alert_info_entries", refusal, &answers!("alert_info", entries, value), line);
+    let count = Reference::entries(value);
+    for _ in 0..2 {
+        let k = match random.below(8) {
+            0 => count,
+            1 => random.number() as usize,
+            _ => random.below(count + 1),
+        };
+        let refusal = Reference::entry_refusal(value, k);
+        let line = || format!("entry {} {k}", to_hex(value));
+        tally.hold("alert_info_entry", refusal, &answers!("alert_info", entry, value, k), line);
+        tally.hold("alert_info_entry_refusal", refusal, &answers!("alert_info", entry_refusal, value, k), line);
+    }
+}
+
+fn hold_build(tally: &mut Tally, table: &[u8], room: usize) {
+    let answers = answers!("signal_table", build, table, room);
+    let line = || format!("build {} {room}", to_hex(table));
+    tally.hold("machine_build", answers[0].1 .0.refusal, &answers, line);
+}
+
+fn hold_table(tally: &mut Tally, random: &mut Random, table: &[u8], built: &[u8]) {
+    let refusal = Reference::table_refusal(table);
+    let line = || format!("table {}", to_hex(table));
+    tally.hold("signal_table_refusal", refusal, &answers!("signal_table", table_refusal, table), line);
+    let room = match random.below(5) {
+        0 => LONGEST,
+        1 => built.len().saturating_sub(1),
+        2 => random.below(built.len() + 1),
+        3 => built.len() + random.below(40),
+        _ => built.len(),
+    };
+    hold_build(tally, table, room);
+}
+
+fn hold_check(tally: &mut Tally, table: &[u8], image: &[u8]) {
+    let answers = answers!("signal_table", check, table, image);
+    let line = || format!("check {} {}", to_hex(table), to_hex(image));
+    tally.hold("machine_check", answers[0].1, &answers, line);
+}
+
+fn hold_resolvers(tally: &mut Tally, table: &[u8], image: &[u8], value: &[u8]) {
+    let answers = answers!("resolver", plain, table, value);
+    let line = || format!("plain {} {}", to_hex(table), to_hex(value));
+    tally.hold("resolve_plain", answers[0].1.refusal, &answers, line);
+    let answers = answers!("resolver", machine, table, image, value);
+    let line = || format!("walk {} {} {}", to_hex(table), to_hex(image), to_hex(value));
+    tally.hold("resolve_machine", answers[0].1.refusal, &answers, line);
+}
+
+/// The table's machine, or nothing if a build is refused.
+fn built(table: &[u8]) -> Option<Vec<u8>> {
+    let (answer, mut buffer) = build::<Reference>(table, LONGEST);
+    buffer.truncate(answer.len);
+    (answer.refusal == 0).then_some(buffer)
+}
+
+/// An accepted image walks as direct resolution does.
+fn hold_agreement(tally: &mut Tally, table: &[u8], image: &[u8], value: &[u8]) {
+    if Reference::check(table, image) == 0 {
+        let both = [Reference::plain(table, value), Reference::machine(table, image, value)];
+        if both[0] != both[1] {
+            println!("the resolvers differ: walk {} {} {}", to_hex(table), to_hex(image), to_hex(value));
+            tally.wrong += 1;
+        }
+    }
+}
+
+/// One table with values and images for it. `other` is an image of another table.
+fn round(tally: &mut Tally, random: &mut Random, other: &mut Vec<u8>) {
+    let draft = tables::draft(random);
+    let table = tables::stored(random, &draft);
+    let machine = built(&table);
+    let image = machine.as_ref().unwrap_or(other);
+    hold_table(tally, random, &table, image);
+    for _ in 0..3 {
+        hold_check(tally, &table, &images::image(random, &table, image));
+    }
+    for _ in 0..4 {
+        let value = values::value(random, &draft);
+        let image = images::image(random, &table, image);
+        hold_value(tally, random, &value);
+        hold_resolvers(tally, &table, &image, &value);
+        hold_agreement(tally, &table, &image, &value);
+    }
+    if let Some(machine) = machine {
+        *other = machine;
+    }
+}
+
+/// The tables at each limit and one past it, with every room that matters.
+fn limits(tally: &mut Tally, random: &mut Random) {
+    for Limit { table, .. } in tables::limits() {
+        let machine = built(&table).unwrap_or(vec![0, 1, 0, 0, 0]);
+        for room in [0, machine.len() - 1, machine.len(), machine.len() + 1, LONGEST] {
+            hold_build(tally, &table, room);
+        }
+        hold_table(tally, random, &table, &machine);
+        hold_check(tally, &table, &machine);
+        for _ in 0..5 {
+            hold_check(tally, &table, &images::image(random, &table, &machine));
+            hold_resolvers(tally, &table, &machine, b"<urn:alert:c0:p0>, <urn:alert:c:l1>, <urn:alert:c1:a>");
+        }
+    }
+}
+
+/// Values in which every byte is tried at the place of `#`.
+const HOLES: [&[u8]; 22] = [
+    b"#",
+    b"#<a>",
+    b"<#>",
+    b"<a#b>",
+    b"<a>#",
+    b"<a>#,<b>",
+    b"<a>,#<b>",
+    b"<a>;#",
+    b"<a>;#x",
+    b"<a>;x#",
+    b"<a>;x#=y",
+    b"<a>;x=#",
+    b"<a>;x=#y",
+    b"<a>;x=y#",
+    b"<a>;x=y#,<b>",
+    b"<a>;x=\"#\"",
+    b"<a>;x=\"\\#\"",
+    b"<a>;x=\"y\"#",
+    b"<urn:alert:source:#>",
+    b"<urn:alert:source:internal#>",
+    b"<urn:alert:#:internal>",
+    b"<urn#alert:source:internal>",
+];
+
+/// T1, its machine and a value, with every byte tried at every place, and images of every size that matters.
+fn every_byte(tally: &mut Tally, random: &mut Random) {
+    let table = include_bytes!("../../../examples/tables/T1.table");
+    let image = built(table).expect("T1's machine");
+    let value = b"<urn:alert:source:internal>;a=\"b\"";
+    for states in [0, 1, 2, 255, 256, 257, 258, 511, 512, 513, 65_535] {
+        let image = images::with_states(&image, states);
+        hold_check(tally, table, &image);
+        hold_resolvers(tally, table, &image, value);
+    }
+    for byte in 0..=255 {
+        for hole in HOLES {
+            let value: Vec<u8> = hole.iter().map(|&b| if b == b'#' { byte } else { b }).collect();
+            hold_value(tally, random, &value);
+            hold_resolvers(tally, table, &image, &value);
+        }
+        for at in 0..table.len() {
+            let mut changed = table.to_vec();
+            changed[at] = byte;
+            hold_table(tally, random, &changed, &image);
+            hold_resolvers(tally, &changed, &image, value);
+        }
+        for at in 0..image.len() {
+            let mut changed = image.clone();
+            changed[at] = byte;
+            hold_check(tally, table, &changed);
+            hold_resolvers(tally, table, &changed, value);
+        }
+        for at in 0..value.len() {
+            let mut changed = value.to_vec();
+            changed[at] = byte;
+            hold_value(tally, random, &changed);
+            hold_resolvers(tally, table, &image, &changed);
+        }
+    }
+}
+
+fn main() {
+    let mut arguments = std::env::args().skip(1).map(|word| word.parse::<u64>().expect("a number"));
+    let cases = arguments.next().unwrap_or(1_000_000);
+    let now = SystemTime::now().duration_since(UNIX_EPOCH).map_or(1, |d| d.as_nanos() as u64);
+    let seed = arguments.next().unwrap_or(now);
+    println!("seed {seed}");
+    let start = Instant::now();
+    let mut tally = Tally::default();
+    let mut random = Random(seed);
+    let mut other = vec![0, 1, 0, 0, 0];
+    limits(&mut tally, &mut random);
+    every_byte(&mut tally, &mut random);
+    let cases = cases + tally.cases;
+    while tally.cases < cases {
+        round(&mut tally, &mut random, &mut other);
+    }
+    let whole = tally.report();
+    let seconds = start.elapsed().as_secs_f64();
+    println!("{} cases, {} differences, {seconds:.0} s, seed {seed}", tally.cases, tally.wrong);
+    if !whole {
+        println!("a refusal number was never given");
+    }
+    if tally.wrong > 0 || !whole {
+        exit(1);
+    }
+}

@@ -1,0 +1,151 @@
+//! Cases with known answers, one a line, `COMMAND = ANSWER`, bytes in hex, `-` for no bytes. Lines that start with `#`
+//! and empty lines are comments.
+//!
+//! | command | answer |
+//! |---|---|
+//! | `value V` | refusal, number of entries, then `start:length` of each entry's URI in the value |
+//! | `entry V k` | refusal, the URI's bytes |
+//! | `table T` | refusal |
+//! | `plain T V` | refusal, signal, used, skipped |
+//! | `build T ROOM` | refusal, length, image (the rest of the buffer of ROOM bytes is 0) |
+//! | `check T M` | refusal |
+//! | `walk T M V` | refusal, signal, used, skipped of the machine resolver |
+use crate::{Reader, Resolution, Resolvers, Tables};
+use std::fmt::Write;
+use std::path::{Path, PathBuf};
+
+pub const FILES: [&str; 2] = ["base.txt", "draft.txt"];
+
+/// Where the cases are.
+pub fn folder() -> PathBuf {
+    Path::new(env!("CARGO_MANIFEST_DIR")).join("../crates/conformance/data")
+}
+
+/// Which library a command asks.
+#[derive(Clone, Copy, PartialEq, Eq, Debug)]
+pub enum Layer {
+    Reader,
+    Tables,
+    Resolvers,
+}
+
+#[derive(Clone)]
+pub struct Case {
+    pub place: String,
+    pub words: Vec<String>,
+    pub answer: String,
+}
+
+impl Case {
+    pub fn layer(&self) -> Layer {
+        match self.words[0].as_str() {
+            "value" | "entry" => Layer::Reader,
+            "table" | "build" | "check" => Layer::Tables,
+            "plain" | "walk" => Layer::Resolvers,
+            other => panic!("{}: unknown command {other}", self.place),
+        }
+    }
+
+    /// The bytes that word i gives in hex.
+    pub fn bytes(&self, i: usize) -> Vec<u8> {
+        from_hex(&self.words[i]).unwrap_or_else(|| panic!("{}: word {i} is no hex", self.place))
+    }
+
+    fn number(&self, i: usize) -> usize {
+        self.words[i].parse().unwrap_or_else(|_| panic!("{}: word {i} is no number", self.place))
+    }
+}
+
+/// Every case of every file.
+pub fn all() -> Vec<Case> {
+    FILES.iter().flat_map(|name| read(&folder().join(name))).collect()
+}
+
+fn read(file: &Path) -> Vec<Case> {
+    let text = std::fs::read_to_string(file).unwrap_or_else(|e| panic!("{}: {e}", file.display()));
+    let name = file.file_name().unwrap().to_string_lossy();
+    let mut cases = Vec::new();
+    for (i, line) in text.lines().enumerate() {
+        if line.is_empty() || line.starts_with('#') {
+            continue;
+        }
+        let place = format!("{name}:{}", i + 1);
+        let (command, answer) = line.split_once(" = ").unwrap_or_else(|| panic!("{place}: no answer"));
+        let words = command.split(' ').map(str::to_string).collect();
+        cases.push(Case { place, words, answer: answer.to_string() });
+    }
+    cases
+}
+
+pub fn to_hex(bytes: &[u8]) -> String {
+    if bytes.is_empty() {
+        return "-".to_string();
+    }
+    bytes.iter().fold(String::new(), |mut text, b| {
+        write!(text, "{b:02x}").unwrap();
+        text
+    })
+}
+
+pub fn from_hex(text: &str) -> Option<Vec<u8>> {
+    if text == "-" {
+        return Some(Vec::new());
+    }
+    if text.len() & 1 == 1 || !text.is_ascii() {
+        return None;
+    }
+    (0..text.len()).step_by(2).map(|i| u8::from_str_radix(&text[i..i + 2], 16).ok()).collect()
+}
+
+/// What an implementation answers to a case of the reader.
+pub fn ask_reader<I: Reader>(case: &Case) -> String {
+    let value = case.bytes(1);
+    match case.words[0].as_str() {
+        "value" => {
+            let count = I::entries(&value);
+            let mut text = format!("{} {count}", I::value_refusal(&value));
+            for k in 0..count {
+                let uri = I::entry(&value, k);
+                let start = uri.as_ptr() as usize - value.as_ptr() as usize;
+                write!(text, " {start}:{}", uri.len()).unwrap();
+            }
+            text
+        }
+        "entry" => {
+            let k = case.number(2);
+            format!("{} {}", I::entry_refusal(&value, k), to_hex(I::entry(&value, k)))
+        }
+        other => panic!("{}: {other} is not the reader's", case.place),
+    }
+}
+
+/// What an implementation answers to a case of tables and machines.
+pub fn ask_tables<I: Tables>(case: &Case) -> String {
+    let table = case.bytes(1);
+    match case.words[0].as_str() {
+        "table" => I::table_refusal(&table).to_string(),
+        "build" => {
+            // Filled with a byte that no image leaves behind, since every byte of the buffer is to be written.
+            let mut buffer = vec![0xA5; case.number(2)];
+            let built = I::build(&table, &mut buffer);
+            let past = if built.refusal == 0 { built.len } else { 0 };
+            if buffer[past..].iter().any(|&b| b != 0) {
+                return "bytes past the image are not 0".to_string();
+            }
+            format!("{} {} {}", built.refusal, built.len, to_hex(&buffer[..past]))
+        }
+        "check" => I::check(&table, &case.bytes(2)).to_string(),
+        other => panic!("{}: {other} is not the tables'", case.place),
+    }
+}
+
+/// What an implementation answers to a case of the resolvers.
+pub fn ask_resolvers<I: Resolvers>(case: &Case) -> String {
+    let table = case.bytes(1);
+    let Resolution { refusal, signal, used, skipped } = match case.words[0].as_str() {
+        "plain" => I::plain(&table, &case.bytes(2)),
+        "walk" => I::machine(&table, &case.bytes(2), &case.bytes(3)),
+        other => panic!("{}: {other} is not the resolvers'", case.place),
+    };
+    format!("{refusal} {signal} {used} {skipped}")
+}

@@ -1,0 +1,59 @@
+//! What stands outside the proofs: two implementations in plain Rust, the proved libraries behind safe functions,
+//! and what compares them.
+//!
+//! - `reference`: the rules of resolution, written down as simply as possible.
+//! - `baseline`: the same answers, written for speed, to time the proved libraries against.
+//! - `ours`: the proved libraries.
+//! - `cases`: the cases with known answers in crates/conformance/data.
+//! - `random`: random values, tables and images, valid and damaged.
+pub mod baseline;
+pub mod cases;
+pub mod ours;
+pub mod random;
+pub mod reference;
+
+/// What a build answers: its refusal number, and the image's length (0 if refused).
+#[repr(C)]
+#[derive(Clone, Copy, Debug, PartialEq, Eq)]
+pub struct Built {
+    pub refusal: u8,
+    pub len: usize,
+}
+
+/// What a resolver answers: its refusal number, the signal, and how many entries were used and skipped.
+#[repr(C)]
+#[derive(Clone, Copy, Debug, PartialEq, Eq)]
+pub struct Resolution {
+    pub refusal: u8,
+    pub signal: u8,
+    pub used: u8,
+    pub skipped: u8,
+}
+
+impl Resolution {
+    pub fn refused(refusal: u8) -> Resolution {
+        Resolution { refusal, signal: 0, used: 0, skipped: 0 }
+    }
+}
+
+/// The reader of Alert-Info values: what the library alert_info answers.
+pub trait Reader {
+    fn value_refusal(value: &[u8]) -> u8;
+    fn entries(value: &[u8]) -> usize;
+    /// The URI of entry k; empty if refused.
+    fn entry(value: &[u8], k: usize) -> &[u8];
+    fn entry_refusal(value: &[u8], k: usize) -> u8;
+}
+
+/// Signal tables and machines: what the library signal_table answers.
+pub trait Tables {
+    fn table_refusal(table: &[u8]) -> u8;
+    fn build(table: &[u8], buffer: &mut [u8]) -> Built;
+    fn check(table: &[u8], image: &[u8]) -> u8;
+}
+
+/// The two resolvers: what the library resolver answers.
+pub trait Resolvers {
+    fn plain(table: &[u8], value: &[u8]) -> Resolution;
+    fn machine(table: &[u8], image: &[u8], value: &[u8]) -> Resolution;
+}

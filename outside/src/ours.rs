@@ -1,0 +1,97 @@
+//! The proved libraries behind safe functions. The declarations are those of include/*.h.
+#[cfg(feature = "alert_info")]
+use crate::Reader;
+#[cfg(feature = "signal_table")]
+use crate::{Built, Tables};
+#[cfg(feature = "resolver")]
+use crate::{Resolution, Resolvers};
+
+pub struct Ours;
+
+/// Where an entry's URI stands in the value.
+#[cfg(feature = "alert_info")]
+#[repr(C)]
+#[derive(Clone, Copy, Debug, PartialEq, Eq)]
+pub struct Span {
+    pub start: usize,
+    pub len: usize,
+}
+
+#[cfg(feature = "alert_info")]
+extern "C" {
+    fn alert_info_refusal(value: *const u8, len: usize) -> u8;
+    fn alert_info_entries(value: *const u8, len: usize) -> usize;
+    fn alert_info_entry(value: *const u8, len: usize, k: usize) -> Span;
+    fn alert_info_entry_refusal(value: *const u8, len: usize, k: usize) -> u8;
+}
+
+#[cfg(feature = "signal_table")]
+extern "C" {
+    fn signal_table_refusal(table: *const u8, len: usize) -> u8;
+    fn machine_build(table: *const u8, len: usize, buf: *mut u8, room: usize) -> Built;
+    fn machine_check(table: *const u8, len: usize, image: *const u8, image_len: usize) -> u8;
+}
+
+#[cfg(feature = "resolver")]
+extern "C" {
+    fn resolve_plain(table: *const u8, len: usize, value: *const u8, value_len: usize) -> Resolution;
+    fn resolve_machine(
+        table: *const u8,
+        len: usize,
+        image: *const u8,
+        image_len: usize,
+        value: *const u8,
+        value_len: usize,
+    ) -> Resolution;
+}
+
+// SAFETY of every call below: a slice gives a pointer to as many bytes as its length says, for the length of the
+// call, and the libraries keep no pointer. A slice lent as `&mut` is lent to nobody else.
+
+#[cfg(feature = "alert_info")]
+impl Reader for Ours {
+    fn value_refusal(value: &[u8]) -> u8 {
+        unsafe { alert_info_refusal(value.as_ptr(), value.len()) }
+    }
+
+    fn entries(value: &[u8]) -> usize {
+        unsafe { alert_info_entries(value.as_ptr(), value.len()) }
+    }
+
+    fn entry(value: &[u8], k: usize) -> &[u8] {
+        let span = unsafe { alert_info_entry(value.as_ptr(), value.len(), k) };
+        &value[span.start..span.start + span.len]
+    }
+
+    fn entry_refusal(value: &[u8], k: usize) -> u8 {
+        unsafe { alert_info_entry_refusal(value.as_ptr(), value.len(), k) }
+    }
+}
+
+#[cfg(feature = "signal_table")]
+impl Tables for Ours {
+    fn table_refusal(table: &[u8]) -> u8 {
+        unsafe { signal_table_refusal(table.as_ptr(), table.len()) }
+    }
+
+    fn build(table: &[u8], buffer: &mut [u8]) -> Built {
+        unsafe { machine_build(table.as_ptr(), table.len(), buffer.as_mut_ptr(), buffer.len()) }
+    }
+
+    fn check(table: &[u8], image: &[u8]) -> u8 {
+        unsafe { machine_check(table.as_ptr(), table.len(), image.as_ptr(), image.len()) }
+    }
+}
+
+#[cfg(feature = "resolver")]
+impl Resolvers for Ours {
+    fn plain(table: &[u8], value: &[u8]) -> Resolution {
+        unsafe { resolve_plain(table.as_ptr(), table.len(), value.as_ptr(), value.len()) }
+    }
+
+    fn machine(table: &[u8], image: &[u8], value: &[u8]) -> Resolution {
+        unsafe {
+            resolve_machine(table.as_ptr(), table.len(), image.as_ptr(), image.len(), value.as_ptr(), value.len())
+        }
+    }
+}

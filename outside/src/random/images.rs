@@ -1,0 +1,143 @@
+//! Random images: the table's machine, renumbered, enlarged or damaged.
+use super::{damage, Random};
+use crate::reference::direct::{start, State};
+use crate::reference::machine::{discover_from, shut_bits};
+use crate::reference::table::Table;
+
+/// The parts of an image of good form.
+struct Parts {
+    symbols: Vec<u8>,
+    /// Signal, shut set and targets of each state.
+    rows: Vec<Vec<u8>>,
+}
+
+fn parts(image: &[u8]) -> Parts {
+    let count = image[0] as usize;
+    let symbols = image[1..1 + 3 * count].to_vec();
+    let rows = image[3 + 3 * count..].chunks(2 + count).map(<[u8]>::to_vec).collect();
+    Parts { symbols, rows }
+}
+
+impl Parts {
+    fn bytes(&self) -> Vec<u8> {
+        let mut bytes = vec![(self.symbols.len() / 3) as u8];
+        bytes.extend(&self.symbols);
+        bytes.extend((self.rows.len() as u16).to_le_bytes());
+        bytes.extend(self.rows.iter().flatten());
+        bytes
+    }
+
+    /// The same machine with its states in another order, state 0 first unless `also_start`.
+    fn renumber(&mut self, random: &mut Random, also_start: bool) {
+        let mut order: Vec<usize> = (0..self.rows.len()).collect();
+        random.shuffle(&mut order[if also_start { 0 } else { 1 }..]);
+        let mut new = vec![0u8; order.len()];
+        for (i, &old) in order.iter().enumerate() {
+            new[old] = i as u8;
+        }
+        let mut rows: Vec<Vec<u8>> = order.iter().map(|&old| self.rows[old].clone()).collect();
+        for row in &mut rows {
+            for target in &mut row[2..] {
+                *target = new[*target as usize];
+            }
+        }
+        self.rows = rows;
+    }
+
+    /// Repeats a state and leads some targets to the second of the two.
+    fn repeat(&mut self, random: &mut Random) {
+        if self.rows.len() > 255 {
+            return;
+        }
+        let old = random.below(self.rows.len());
+        let new = self.rows.len() as u8;
+        self.rows.push(self.rows[old].clone());
+        for row in &mut self.rows {
+            for target in &mut row[2..] {
+                if *target as usize == old && random.percent(50) {
+                    *target = new;
+                }
+            }
+        }
+    }
+
+    /// Changes one byte of one row: mostly to one that keeps the form.
+    fn mistake(&mut self, random: &mut Random) {
+        let states = self.rows.len();
+        let r = random.below(states);
+        let i = random.below(self.rows[r].len());
+        self.rows[r][i] = match random.below(3) {
+            0 => random.below(states) as u8,
+            1 => random.below(4) as u8,
+            _ => random.byte(),
+        };
+    }
+}
+
+/// The table's machine with states that no walk reaches, each with the right row. Nothing if there are too many.
+fn enlarged(random: &mut Random, table: &Table) -> Option<Parts> {
+    let mut from = vec![start()];
+    for _ in 0..random.between(1, 3) {
+        let signal = random.below(table.signals.len());
+        let shut = (0..table.categories.len()).filter(|_| random.percent(30)).collect();
+        from.push(State { signal, shut });
+    }
+    let (states, targets) = discover_from(table, from, 256)?;
+    let symbols = table.symbols.iter().flat_map(|s| [s.category as u8, s.node as u8, s.other as u8]).collect();
+    let row = |(state, targets): (&State, &Vec<usize>)| {
+        let mut row = vec![state.signal as u8, shut_bits(&state.shut)];
+        row.extend(targets.iter().map(|&target| target as u8));
+        row
+    };
+    Some(Parts { symbols, rows: states.iter().zip(&targets).map(row).collect() })
+}
+
+/// The image with so many states in place of its own, each signal 0 with nothing shut and all targets 0.
+pub fn with_states(built: &[u8], count: usize) -> Vec<u8> {
+    let mut parts = parts(built);
+    let row = vec![0; 2 + parts.symbols.len() / 3];
+    parts.rows = vec![row; count];
+    parts.bytes()
+}
+
+/// An image from the table's machine: right, right in another way, or wrong.
+pub fn image(random: &mut Random, table: &[u8], built: &[u8]) -> Vec<u8> {
+    let mut parts = parts(built);
+    if random.percent(20) {
+        if let Some(larger) = Table::read(table).ok().and_then(|table| enlarged(random, &table)) {
+            parts = larger;
+        }
+    }
+    if random.percent(40) {
+        parts.renumber(random, false);
+    }
+    if random.percent(25) {
+        (0..random.between(1, 3)).for_each(|_| parts.repeat(random));
+    }
+    match random.below(12) {
+        0..=3 => (0..random.between(1, 2)).for_each(|_| parts.mistake(random)),
+        4 => parts.renumber(random, true),
+        5 => parts.rows[0][random.below(2)] = random.below(3) as u8,
+        6 if !parts.symbols.is_empty() => {
+            let i = random.below(parts.symbols.len());
+            parts.symbols[i] = parts.symbols[i].wrapping_add(*random.pick(&[1, 2, 255]));
+        }
+        7 => {
+            let last = parts.rows.len() - 1;
+            parts.rows.truncate(random.between(0, last));
+        }
+        8 => {
+            let row = random.pick(&parts.rows).clone();
+            parts.rows.resize(random.between(256, 258), row);
+        }
+        _ => {}
+    }
+    let mut bytes = parts.bytes();
+    match random.below(20) {
+        0 => damage(random, &mut bytes),
+        1 => bytes.truncate(random.below(bytes.len().min(12) + 1)),
+        2 => bytes.push(0),
+        _ => {}
+    }
+    bytes
+}

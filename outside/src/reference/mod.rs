@@ -1,0 +1,62 @@
+//! The rules of resolution in plain Rust, one file a section, as simple as possible and with no regard to speed.
+//! A path is a list of names, a signal a list of paths, a state a signal with a set of shut categories.
+pub mod direct;
+pub mod machine;
+pub mod table;
+pub mod urn;
+pub mod value;
+
+use crate::{Built, Reader, Resolution, Resolvers, Tables};
+use table::Table;
+
+pub struct Reference;
+
+impl Reader for Reference {
+    fn value_refusal(value: &[u8]) -> u8 {
+        value::uris(value).err().unwrap_or(0)
+    }
+
+    fn entries(value: &[u8]) -> usize {
+        value::uris(value).map_or(0, |uris| uris.len())
+    }
+
+    fn entry(value: &[u8], k: usize) -> &[u8] {
+        value::entry(value, k).unwrap_or(&[])
+    }
+
+    fn entry_refusal(value: &[u8], k: usize) -> u8 {
+        value::entry(value, k).err().unwrap_or(0)
+    }
+}
+
+impl Tables for Reference {
+    fn table_refusal(table: &[u8]) -> u8 {
+        Table::read(table).err().unwrap_or(0)
+    }
+
+    /// A refused build leaves the buffer all zero; after a successful one, the bytes past the image are 0.
+    fn build(table: &[u8], buffer: &mut [u8]) -> Built {
+        buffer.fill(0);
+        match machine::build(table, buffer.len()) {
+            Ok(image) => {
+                buffer[..image.len()].copy_from_slice(&image);
+                Built { refusal: 0, len: image.len() }
+            }
+            Err(refusal) => Built { refusal, len: 0 },
+        }
+    }
+
+    fn check(table: &[u8], image: &[u8]) -> u8 {
+        machine::check(table, image).err().unwrap_or(0)
+    }
+}
+
+impl Resolvers for Reference {
+    fn plain(table: &[u8], value: &[u8]) -> Resolution {
+        direct::resolve(table, value).unwrap_or_else(Resolution::refused)
+    }
+
+    fn machine(table: &[u8], image: &[u8], value: &[u8]) -> Resolution {
+        machine::resolve(table, image, value).unwrap_or_else(Resolution::refused)
+    }
+}

@@ -1,0 +1,218 @@
+//! The signal table as stored, its nodes and its symbols.
+use super::urn::{alert_urn, category_and_path, is_name, Name, Path};
+use std::collections::HashSet;
+
+/// A path with at least one part that is an ancestor of, or equal to, some signal's place.
+#[derive(Clone, PartialEq, Eq, Hash)]
+pub struct Node {
+    pub category: usize,
+    pub path: Path,
+}
+
+/// A symbol is a node, or Other under a node or root.
+#[derive(Clone, Copy, PartialEq, Eq, Debug)]
+pub struct Symbol {
+    pub category: usize,
+    /// The node's number, 0 for the root.
+    pub node: usize,
+    pub other: bool,
+}
+
+pub struct Table {
+    pub categories: Vec<Name>,
+    /// Each signal's place in each category; the empty path is the root.
+    pub signals: Vec<Vec<Path>>,
+    /// Node n stands at n - 1.
+    pub nodes: Vec<Node>,
+    pub symbols: Vec<Symbol>,
+}
+
+/// The two sections as texts.
+struct Stored {
+    categories: Vec<Name>,
+    signals: Vec<Vec<Vec<u8>>>,
+}
+
+/// Takes bytes from the left. Too few give 5, a count or length outside its range gives 6.
+struct Left<'a>(&'a [u8]);
+
+impl<'a> Left<'a> {
+    fn number(&mut self, low: usize, high: usize) -> Result<usize, u8> {
+        let (&first, rest) = self.0.split_first().ok_or(5)?;
+        self.0 = rest;
+        let number = first as usize;
+        if number < low || number > high {
+            return Err(6);
+        }
+        Ok(number)
+    }
+
+    fn text(&mut self, low: usize, high: usize) -> Result<Vec<u8>, u8> {
+        let length = self.number(low, high)?;
+        if self.0.len() < length {
+            return Err(5);
+        }
+        let (text, rest) = self.0.split_at(length);
+        self.0 = rest;
+        Ok(text.to_vec())
+    }
+}
+
+fn read_stored(bytes: &[u8]) -> Result<Stored, u8> {
+    if bytes.len() > 8192 {
+        return Err(4);
+    }
+    let mut left = Left(bytes);
+    let mut stored = Stored { categories: Vec::new(), signals: Vec::new() };
+    for _ in 0..left.number(1, 8)? {
+        stored.categories.push(left.text(1, 55)?);
+    }
+    for _ in 0..left.number(1, 32)? {
+        let mut urns = Vec::new();
+        for _ in 0..left.number(0, 8)? {
+            urns.push(left.text(1, 255)?);
+        }
+        stored.signals.push(urns);
+    }
+    if !left.0.is_empty() {
+        return Err(5);
+    }
+    Ok(stored)
+}
+
+/// Whether `a` is an ancestor of `b`: `b` without one or more of its last parts.
+pub fn is_proper_ancestor(a: &[Name], b: &[Name]) -> bool {
+    a.len() < b.len() && a == &b[..a.len()]
+}
+
+impl Table {
+    /// The table that the bytes say, or the refusal number.
+    pub fn read(bytes: &[u8]) -> Result<Table, u8> {
+        let stored = read_stored(bytes)?;
+        let urns = urns_of(&stored).ok_or(7)?;
+        let numbered = number_categories(&stored.categories, &urns).ok_or(8)?;
+        if numbered.iter().any(|signal| has_repeats(signal.iter().map(|urn| urn.category))) {
+            return Err(9);
+        }
+        if !numbered[0].is_empty() {
+            return Err(10);
+        }
+        let signals: Vec<Vec<Path>> = numbered.iter().map(|signal| places(stored.categories.len(), signal)).collect();
+        if has_repeats(signals.iter()) {
+            return Err(11);
+        }
+        let nodes = nodes_of(&numbered);
+        if nodes.len() > 64 {
+            return Err(12);
+        }
+        let symbols = symbols_of(stored.categories.len(), &nodes);
+        Ok(Table { categories: stored.categories, signals, nodes, symbols })
+    }
+
+    /// The category number and path of a URI that is used; nothing for one that is skipped.
+    pub fn used(&self, uri: &[u8]) -> Option<Node> {
+        let (category, path) = alert_urn(uri)?;
+        let category = self.categories.iter().position(|name| *name == category)?;
+        Some(Node { category, path })
+    }
+
+    /// The URN's node if it is one; the deepest node above it if that is a leaf; otherwise Other under the deepest
+    /// node or root above it.
+    pub fn symbol(&self, urn: &Node) -> usize {
+        let mut deepest = 0;
+        let mut whole = false;
+        for length in 1..=urn.path.len() {
+            let above = Node { category: urn.category, path: urn.path[..length].to_vec() };
+            if let Some(i) = self.nodes.iter().position(|node| *node == above) {
+                deepest = i + 1;
+                whole = length == urn.path.len();
+            }
+        }
+        let to_node = whole || (deepest > 0 && is_leaf(&self.nodes, deepest));
+        let symbol = Symbol { category: urn.category, node: deepest, other: !to_node };
+        self.symbols.iter().position(|s| *s == symbol).expect("every URN has a symbol")
+    }
+
+    /// The URN as which a symbol steps: an Other symbol as its path with one more part that no node has.
+    pub fn steps_as(&self, symbol: Symbol) -> Node {
+        let mut path = if symbol.node == 0 { Vec::new() } else { self.nodes[symbol.node - 1].path.clone() };
+        if symbol.other {
+            path.push(b"?".to_vec());
+        }
+        Node { category: symbol.category, path }
+    }
+}
+
+/// Category and path of every signal's URNs, or nothing if a category name or URN is of bad form or has over 8 parts.
+fn urns_of(stored: &Stored) -> Option<Vec<Vec<(Name, Path)>>> {
+    if !stored.categories.iter().all(|name| is_name(name)) {
+        return None;
+    }
+    let read = |urn: &Vec<u8>| category_and_path(urn).filter(|(_, path)| path.len() <= 8);
+    stored.signals.iter().map(|urns| urns.iter().map(read).collect()).collect()
+}
+
+/// The URNs with category numbers, or nothing if a category is listed twice, used by no signal, or named by a URN and
+/// not listed.
+fn number_categories(categories: &[Name], signals: &[Vec<(Name, Path)>]) -> Option<Vec<Vec<Node>>> {
+    let is_used = |name: &Name| signals.iter().flatten().any(|(category, _)| category == name);
+    if has_repeats(categories.iter()) || !categories.iter().all(is_used) {
+        return None;
+    }
+    let number = |(category, path): &(Name, Path)| {
+        let category = categories.iter().position(|name| name == category)?;
+        Some(Node { category, path: path.clone() })
+    };
+    signals.iter().map(|urns| urns.iter().map(number).collect()).collect()
+}
+
+fn has_repeats<T: Eq + std::hash::Hash>(mut items: impl Iterator<Item = T>) -> bool {
+    let mut seen = HashSet::new();
+    items.any(|item| !seen.insert(item))
+}
+
+/// A signal's place in a category is the path it names there, or the root.
+fn places(categories: usize, urns: &[Node]) -> Vec<Path> {
+    let mut places = vec![Path::new(); categories];
+    for urn in urns {
+        places[urn.category] = urn.path.clone();
+    }
+    places
+}
+
+/// The nodes by first appearance in the stored order, ancestors first.
+fn nodes_of(signals: &[Vec<Node>]) -> Vec<Node> {
+    let mut nodes: Vec<Node> = Vec::new();
+    let mut seen = HashSet::new();
+    for urn in signals.iter().flatten() {
+        for length in 1..=urn.path.len() {
+            let node = Node { category: urn.category, path: urn.path[..length].to_vec() };
+            if seen.insert(node.clone()) {
+                nodes.push(node);
+            }
+        }
+    }
+    nodes
+}
+
+/// A node is a leaf if no other node lies under it. Numbers run from 1.
+fn is_leaf(nodes: &[Node], number: usize) -> bool {
+    let node = &nodes[number - 1];
+    !nodes.iter().any(|other| other.category == node.category && is_proper_ancestor(&node.path, &other.path))
+}
+
+/// Symbols run by category; within one, nodes by number, each non-leaf followed by its Other, the category's Other
+/// last.
+fn symbols_of(categories: usize, nodes: &[Node]) -> Vec<Symbol> {
+    let mut symbols = Vec::new();
+    for category in 0..categories {
+        for number in (1..=nodes.len()).filter(|&n| nodes[n - 1].category == category) {
+            symbols.push(Symbol { category, node: number, other: false });
+            if !is_leaf(nodes, number) {
+                symbols.push(Symbol { category, node: number, other: true });
+            }
+        }
+        symbols.push(Symbol { category, node: 0, other: true });
+    }
+    symbols
+}

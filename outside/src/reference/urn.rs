@@ -1,0 +1,40 @@
+//! Alert URNs: `urn:alert:` in any letter case, then a category, then one or more parts, each after a colon.
+
+/// A category or part, compared octet for octet.
+pub type Name = Vec<u8>;
+
+/// The parts of a URN after its category. The empty path is the root.
+pub type Path = Vec<Name>;
+
+/// A label is 1 to 27 letters, digits and hyphens, with no hyphen first or last.
+fn is_label(text: &[u8]) -> bool {
+    (1..=27).contains(&text.len())
+        && text.iter().all(|&b| b.is_ascii_alphanumeric() || b == b'-')
+        && text[0] != b'-'
+        && text[text.len() - 1] != b'-'
+}
+
+/// A category or part is a label, or a label, `@` and a label.
+pub fn is_name(text: &[u8]) -> bool {
+    let labels: Vec<&[u8]> = text.split(|&b| b == b'@').collect();
+    labels.len() <= 2 && labels.iter().all(|label| is_label(label))
+}
+
+/// Category and path of a URN without its `urn:alert:`, or nothing if it is of bad form.
+pub fn category_and_path(text: &[u8]) -> Option<(Name, Path)> {
+    let mut names: Vec<Name> = text.split(|&b| b == b':').map(|name| name.to_vec()).collect();
+    if names.len() < 2 || !names.iter().all(|name| is_name(name)) {
+        return None;
+    }
+    let category = names.remove(0);
+    Some((category, names))
+}
+
+/// Category and path of a URI that is an alert URN.
+pub fn alert_urn(uri: &[u8]) -> Option<(Name, Path)> {
+    let prefix = b"urn:alert:";
+    if uri.len() < prefix.len() || !uri[..prefix.len()].eq_ignore_ascii_case(prefix) {
+        return None;
+    }
+    category_and_path(&uri[prefix.len()..])
+}

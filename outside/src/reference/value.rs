@@ -1,0 +1,132 @@
+//! The field value, read byte by byte by a state machine.
+//!
+//! White space is any run of spaces and tabs, also empty: at both ends of the value, before `<`, after `>`, and round
+//! each comma, semicolon and equals sign. A value is one or more entries with commas between. An entry is `<`, a URI,
+//! `>`, then any number of parameters, each a semicolon, a token, and optionally an equals sign with a token or
+//! quoted string.
+
+/// Where in the rule the byte before stands.
+#[derive(Clone, Copy, PartialEq)]
+enum At {
+    /// An entry has to come.
+    BeforeEntry,
+    /// After `<`, or in a URI.
+    Uri,
+    /// After `>` or a setting, or in the white space after it: the entry may end here.
+    EntryDone,
+    /// After a semicolon: a token has to come.
+    BeforeName,
+    /// In the token that names a parameter.
+    Name,
+    /// In the white space after that token.
+    NameDone,
+    /// After an equals sign: a token or quoted string has to come.
+    BeforeSetting,
+    /// In a token after an equals sign.
+    Setting,
+    /// In a quoted string.
+    Quoted,
+    /// After a backslash in a quoted string.
+    Escaped,
+}
+
+fn is_white(b: u8) -> bool {
+    b == b' ' || b == b'\t'
+}
+
+/// Bytes 0x21 to 0x7E without `<`, `>` and `"`.
+fn is_uri(b: u8) -> bool {
+    (0x21..=0x7E).contains(&b) && b != b'<' && b != b'>' && b != b'"'
+}
+
+/// Letters, digits and ``-.!%*_+`'~``.
+fn is_token(b: u8) -> bool {
+    b.is_ascii_alphanumeric() || b"-.!%*_+`'~".contains(&b)
+}
+
+/// What may stand in a quoted string as it is: 9, 32 to 126 except `"` and `\`, 128 to 255.
+fn is_text(b: u8) -> bool {
+    b == 9 || ((32..=126).contains(&b) && b != b'"' && b != b'\\') || b >= 128
+}
+
+/// What may stand after `\`: any byte up to 127 except 10 and 13.
+fn is_escapable(b: u8) -> bool {
+    b <= 127 && b != 10 && b != 13
+}
+
+/// Where the rule stands after the byte `b`, or nothing if `b` cannot come here. `empty`: no byte of the URI was seen.
+fn next(at: At, b: u8, empty: bool) -> Option<At> {
+    let ends_entry = |b| match b {
+        b',' => Some(At::BeforeEntry),
+        b';' => Some(At::BeforeName),
+        _ => None,
+    };
+    match at {
+        At::BeforeEntry if is_white(b) => Some(At::BeforeEntry),
+        At::BeforeEntry if b == b'<' => Some(At::Uri),
+        At::BeforeEntry => None,
+        At::Uri if is_uri(b) => Some(At::Uri),
+        At::Uri if b == b'>' && !empty => Some(At::EntryDone),
+        At::Uri => None,
+        At::EntryDone if is_white(b) => Some(At::EntryDone),
+        At::EntryDone => ends_entry(b),
+        At::BeforeName if is_white(b) => Some(At::BeforeName),
+        At::BeforeName if is_token(b) => Some(At::Name),
+        At::BeforeName => None,
+        At::Name if is_token(b) => Some(At::Name),
+        At::Name | At::NameDone if is_white(b) => Some(At::NameDone),
+        At::Name | At::NameDone if b == b'=' => Some(At::BeforeSetting),
+        At::Name | At::NameDone => ends_entry(b),
+        At::BeforeSetting if is_white(b) => Some(At::BeforeSetting),
+        At::BeforeSetting if is_token(b) => Some(At::Setting),
+        At::BeforeSetting if b == b'"' => Some(At::Quoted),
+        At::BeforeSetting => None,
+        At::Setting if is_token(b) => Some(At::Setting),
+        At::Setting if is_white(b) => Some(At::EntryDone),
+        At::Setting => ends_entry(b),
+        At::Quoted if b == b'"' => Some(At::EntryDone),
+        At::Quoted if b == b'\\' => Some(At::Escaped),
+        At::Quoted if is_text(b) => Some(At::Quoted),
+        At::Quoted => None,
+        At::Escaped if is_escapable(b) => Some(At::Quoted),
+        At::Escaped => None,
+    }
+}
+
+/// The places of the URIs, start and end, or nothing if the value does not fit the rule.
+fn fit(value: &[u8]) -> Option<Vec<(usize, usize)>> {
+    let mut at = At::BeforeEntry;
+    let mut start = 0;
+    let mut places = Vec::new();
+    for (i, &b) in value.iter().enumerate() {
+        let then = next(at, b, start == i)?;
+        if at == At::BeforeEntry && then == At::Uri {
+            start = i + 1;
+        }
+        if at == At::Uri && then == At::EntryDone {
+            places.push((start, i));
+        }
+        at = then;
+    }
+    match at {
+        At::EntryDone | At::Name | At::NameDone | At::Setting => Some(places),
+        _ => None,
+    }
+}
+
+/// The URIs of an accepted value in order, or the refusal number.
+pub fn uris(value: &[u8]) -> Result<Vec<&[u8]>, u8> {
+    if value.len() > 4096 {
+        return Err(1);
+    }
+    let places = fit(value).ok_or(2)?;
+    if places.len() > 64 {
+        return Err(3);
+    }
+    Ok(places.iter().map(|&(start, end)| &value[start..end]).collect())
+}
+
+/// The URI of entry k, counted from 0, or the refusal number.
+pub fn entry(value: &[u8], k: usize) -> Result<&[u8], u8> {
+    uris(value)?.get(k).copied().ok_or(18)
+}

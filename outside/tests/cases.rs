@@ -1,0 +1,66 @@
+//! Every case with a known answer, against each implementation.
+use outside::baseline::Baseline;
+use outside::cases::{all, ask_reader, ask_resolvers, ask_tables, Case, Layer};
+use outside::reference::Reference;
+
+fn hold(layer: Layer, ask: impl Fn(&Case) -> String) {
+    let cases: Vec<Case> = all().into_iter().filter(|case| case.layer() == layer).collect();
+    assert!(cases.len() > 100, "too few cases");
+    let wrong: Vec<String> = cases
+        .iter()
+        .filter_map(|case| {
+            let answer = ask(case);
+            (answer != case.answer).then(|| format!("{} {}: {answer}, not {}", case.place, case.words[0], case.answer))
+        })
+        .collect();
+    assert!(wrong.is_empty(), "{} of {} wrong:\n{}", wrong.len(), cases.len(), wrong.join("\n"));
+}
+
+macro_rules! hold_to_cases {
+    ($name:ident, $implementation:ty) => {
+        mod $name {
+            use super::*;
+
+            #[test]
+            fn reader() {
+                hold(Layer::Reader, ask_reader::<$implementation>);
+            }
+
+            #[test]
+            fn tables() {
+                hold(Layer::Tables, ask_tables::<$implementation>);
+            }
+
+            #[test]
+            fn resolvers() {
+                hold(Layer::Resolvers, ask_resolvers::<$implementation>);
+            }
+        }
+    };
+}
+
+hold_to_cases!(reference, Reference);
+hold_to_cases!(baseline, Baseline);
+
+mod ours {
+    #[cfg(any(feature = "alert_info", feature = "signal_table", feature = "resolver"))]
+    use super::*;
+
+    #[cfg(feature = "alert_info")]
+    #[test]
+    fn reader() {
+        hold(Layer::Reader, ask_reader::<outside::ours::Ours>);
+    }
+
+    #[cfg(feature = "signal_table")]
+    #[test]
+    fn tables() {
+        hold(Layer::Tables, ask_tables::<outside::ours::Ours>);
+    }
+
+    #[cfg(feature = "resolver")]
+    #[test]
+    fn resolvers() {
+        hold(Layer::Resolvers, ask_resolvers::<outside::ours::Ours>);
+    }
+}
