@@ -1,0 +1,18 @@
+use Rattle.alert_info.proofs.PassLaws.{span-of}
+use borrow.Author.Needs.{needs}
+use Rattle.alert_info.proofs.c.alert_info_entry.Statement.{statement}
+use Rattle.alert_info.proofs.c.alert_info_entry.Tie as tie
+use Rattle.alert_info.proofs.c.alert_info_entry.Reads as reads
+use Rattle.alert_info.proofs.c.alert_info_entry.Lts as lts
+use Rattle.alert_info.proofs.value.judge.Reads as judge-reads
+
+-- src/c.rt:30:9
+judge-requires : tie.Need-judge-requires
+judge-requires c κs = search needs
+
+-- src/c.rt:26:1
+returns : tie.Need-returns
+returns c = span-of _ _ _ (c .before .judge .ensures)
+
+pub alert-info-entry-spec : {M : Type 1} → statement M
+alert-info-entry-spec = tie.close (tie.spec judge-requires returns)

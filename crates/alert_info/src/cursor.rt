@@ -1,0 +1,147 @@
+// A position in a value, and passing white space, a token or a quoted string from there.
+use crate::classes::BLANK;
+use crate::classes::ESCAPABLE;
+use crate::classes::TEXT;
+use crate::classes::TOKEN;
+use crate::classes::has;
+ghost use mathlib.Core.Path.{_≡_};
+ghost use Prim.Native.Nat.{_<_};
+ghost use lib.ListN.{getD};
+ghost use Rattle.alert_info.specs.Bytes.{inClass, Classes};
+ghost use Rattle.alert_info.specs.Walk.{runAt};
+ghost use Rattle.alert_info.specs.Parts.{blankAt, whiteAt, tokenAt, quoteStep, quotedAt};
+
+// A position in a value. Its methods hand back the cursor after what they pass.
+pub struct Cursor {
+    pub at: usize,
+}
+
+// What passing a token, a quoted string or a parameter gives.
+pub enum Passed {
+    Next(Cursor),
+    Refused,
+}
+
+// Where in a quoted string the reading stands.
+pub enum Quote {
+    Inside,
+    Escaped,
+    Closed,
+    Broken,
+}
+
+// The next byte of a quoted string.
+fn quote_step(classes: &[u8; 256], q: Quote, b: u8) -> Quote
+    requires { ⌜ Classes (now classes) ⌝ }
+    ensures { λ r. ⌜ r ≡ quoteStep q b ⌝ }
+{
+    match q {
+        Quote::Inside => {
+            if b == b'"' {
+                return Quote::Closed;
+            }
+            if b == b'\\' {
+                return Quote::Escaped;
+            }
+            if has(classes, b, TEXT) {
+                Quote::Inside
+            } else {
+                Quote::Broken
+            }
+        }
+        Quote::Escaped => {
+            if has(classes, b, ESCAPABLE) {
+                Quote::Inside
+            } else {
+                Quote::Broken
+            }
+        }
+        Quote::Closed => Quote::Closed,
+        Quote::Broken => Quote::Broken,
+    }
+}
+
+impl Cursor {
+    // The byte at the cursor, 0 past the end.
+    pub(crate) fn peek(self, s: &[u8]) -> u8
+        ensures { λ r. ⌜ r ≡ getD (now (s .entry)) (self .at) 0 ⌝ }
+    {
+        let at = self.at;
+        if at < s.len() { s[at] } else { 0 }
+    }
+
+    // Past all bytes of a class.
+    pub(crate) fn run(self, classes: &[u8; 256], s: &[u8], class: u8) -> Cursor
+        requires { ⌜ (class < 5) × Classes (now classes) ⌝ }
+        ensures { λ r. ⌜ r .at ≡ runAt (inClass class) (now (s .entry)) (self .at) ⌝ }
+    {
+        let mut at = self.at;
+        while at < s.len() {
+            if !has(classes, s[at], class) {
+                return Cursor { at };
+            }
+            at += 1;
+        }
+        Cursor { at }
+    }
+
+    // How many bytes of white space stand right at the cursor: 1 for a space or a tab, else 0.
+    fn blank(self, classes: &[u8; 256], s: &[u8]) -> usize
+        requires { ⌜ Classes (now classes) ⌝ }
+        ensures { λ r. ⌜ r ≡ blankAt (now (s .entry)) (self .at) ⌝ }
+    {
+        let at = self.at;
+        if s.len() <= at {
+            return 0;
+        }
+        if has(classes, s[at], BLANK) { 1 } else { 0 }
+    }
+
+    // Past white space, also where there is none.
+    pub(crate) fn white(self, classes: &[u8; 256], s: &[u8]) -> Cursor
+        requires { ⌜ Classes (now classes) ⌝ }
+        ensures { λ r. ⌜ r .at ≡ whiteAt (now (s .entry)) (self .at) ⌝ }
+    {
+        let mut at = self.at;
+        loop {
+            let c = Cursor { at };
+            let n = c.blank(classes, s);
+            if n == 0 {
+                return c;
+            }
+            at += n;
+        }
+    }
+
+    // Past a token.
+    pub(crate) fn token(self, classes: &[u8; 256], s: &[u8]) -> Passed
+        requires { ⌜ Classes (now classes) ⌝ }
+        ensures { λ r. ⌜ r ≡ tokenAt (now (s .entry)) (self .at) ⌝ }
+    {
+        let c = self.run(classes, s, TOKEN);
+        if self.at == c.at { Passed::Refused } else { Passed::Next(c) }
+    }
+
+    // Past a quoted string.
+    pub(crate) fn quoted(self, classes: &[u8; 256], s: &[u8]) -> Passed
+        requires { ⌜ Classes (now classes) ⌝ }
+        ensures { λ r. ⌜ r ≡ quotedAt (now (s .entry)) (self .at) ⌝ }
+    {
+        if self.peek(s) != b'"' {
+            return Passed::Refused;
+        }
+        let mut at = self.at + 1;
+        let mut q = Quote::Inside;
+        while at < s.len() {
+            q = quote_step(classes, q, s[at]);
+            at += 1;
+            match q {
+                Quote::Closed => return Passed::Next(Cursor { at }),
+                Quote::Broken => return Passed::Refused,
+                Quote::Inside => {}
+                Quote::Escaped => {}
+            }
+        }
+        Passed::Refused
+    }
+}
