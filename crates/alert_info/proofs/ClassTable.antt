@@ -1,4 +1,4 @@
--- The table of classes agrees with the byte rules: one test, computed over its 256 entries.
+-- A table of classes agrees with the byte rules: one test, which antt computes over its 256 entries, and one law.
 -- Assumes nothing.
 use mathlib.Core.Path.{_≡_, refl, sym, subst}
 use mathlib.Core.Logic.{⊎-elim}
@@ -6,13 +6,12 @@ use native.Mathlib.Nat.{not-suc-le-zero, le-of-suc-le-suc, eq-or-lt-of-le}
 use mathlib.Core.List.{List, [], _∷_}
 use mathlib.Core.Bool.{Bool, true, false}
 use Prim.Native.Nat.{ℕ, zero, suc, _/_, _%_, _^_, _<_}
+use native.Mathlib.Omega.{arith}
+use borrow.Author.Tests.{eqb-true}
 use lib.Dec.{T, eqb}
-use lib.ListN.{getD}
+use lib.ListN.{length, getD}
 use Rattle.alert_info.specs.Bytes.{Classes, inClass, isBlank, isUri, isToken, isText, isEscapable}
-use Rattle.alert_info.proofs.Table.{at, both}
-
-abbrev pub classes : List ℕ
-classes = 16 ∷ 16 ∷ 16 ∷ 16 ∷ 16 ∷ 16 ∷ 16 ∷ 16 ∷ 16 ∷ 25 ∷ 0 ∷ 16 ∷ 16 ∷ 0 ∷ 16 ∷ 16 ∷ 16 ∷ 16 ∷ 16 ∷ 16 ∷ 16 ∷ 16 ∷ 16 ∷ 16 ∷ 16 ∷ 16 ∷ 16 ∷ 16 ∷ 16 ∷ 16 ∷ 16 ∷ 16 ∷ 25 ∷ 30 ∷ 16 ∷ 26 ∷ 26 ∷ 30 ∷ 26 ∷ 30 ∷ 26 ∷ 26 ∷ 30 ∷ 30 ∷ 26 ∷ 30 ∷ 30 ∷ 26 ∷ 30 ∷ 30 ∷ 30 ∷ 30 ∷ 30 ∷ 30 ∷ 30 ∷ 30 ∷ 30 ∷ 30 ∷ 26 ∷ 26 ∷ 24 ∷ 26 ∷ 24 ∷ 26 ∷ 26 ∷ 30 ∷ 30 ∷ 30 ∷ 30 ∷ 30 ∷ 30 ∷ 30 ∷ 30 ∷ 30 ∷ 30 ∷ 30 ∷ 30 ∷ 30 ∷ 30 ∷ 30 ∷ 30 ∷ 30 ∷ 30 ∷ 30 ∷ 30 ∷ 30 ∷ 30 ∷ 30 ∷ 30 ∷ 30 ∷ 30 ∷ 26 ∷ 18 ∷ 26 ∷ 26 ∷ 30 ∷ 30 ∷ 30 ∷ 30 ∷ 30 ∷ 30 ∷ 30 ∷ 30 ∷ 30 ∷ 30 ∷ 30 ∷ 30 ∷ 30 ∷ 30 ∷ 30 ∷ 30 ∷ 30 ∷ 30 ∷ 30 ∷ 30 ∷ 30 ∷ 30 ∷ 30 ∷ 30 ∷ 30 ∷ 30 ∷ 30 ∷ 30 ∷ 26 ∷ 26 ∷ 26 ∷ 30 ∷ 16 ∷ 8 ∷ 8 ∷ 8 ∷ 8 ∷ 8 ∷ 8 ∷ 8 ∷ 8 ∷ 8 ∷ 8 ∷ 8 ∷ 8 ∷ 8 ∷ 8 ∷ 8 ∷ 8 ∷ 8 ∷ 8 ∷ 8 ∷ 8 ∷ 8 ∷ 8 ∷ 8 ∷ 8 ∷ 8 ∷ 8 ∷ 8 ∷ 8 ∷ 8 ∷ 8 ∷ 8 ∷ 8 ∷ 8 ∷ 8 ∷ 8 ∷ 8 ∷ 8 ∷ 8 ∷ 8 ∷ 8 ∷ 8 ∷ 8 ∷ 8 ∷ 8 ∷ 8 ∷ 8 ∷ 8 ∷ 8 ∷ 8 ∷ 8 ∷ 8 ∷ 8 ∷ 8 ∷ 8 ∷ 8 ∷ 8 ∷ 8 ∷ 8 ∷ 8 ∷ 8 ∷ 8 ∷ 8 ∷ 8 ∷ 8 ∷ 8 ∷ 8 ∷ 8 ∷ 8 ∷ 8 ∷ 8 ∷ 8 ∷ 8 ∷ 8 ∷ 8 ∷ 8 ∷ 8 ∷ 8 ∷ 8 ∷ 8 ∷ 8 ∷ 8 ∷ 8 ∷ 8 ∷ 8 ∷ 8 ∷ 8 ∷ 8 ∷ 8 ∷ 8 ∷ 8 ∷ 8 ∷ 8 ∷ 8 ∷ 8 ∷ 8 ∷ 8 ∷ 8 ∷ 8 ∷ 8 ∷ 8 ∷ 8 ∷ 8 ∷ 8 ∷ 8 ∷ 8 ∷ 8 ∷ 8 ∷ 8 ∷ 8 ∷ 8 ∷ 8 ∷ 8 ∷ 8 ∷ 8 ∷ 8 ∷ 8 ∷ 8 ∷ 8 ∷ 8 ∷ 8 ∷ 8 ∷ 8 ∷ 8 ∷ 8 ∷ 8 ∷ 8 ∷ 8 ∷ 8 ∷ []
+use Rattle.alert_info.proofs.Table.{at, both, every}
 
 abbrev sameB : Bool → Bool → Bool
 sameB true b = b
@@ -42,7 +41,7 @@ at-below (suc n) f t k h =
     ⊎-elim (λ e. subst (λ (m : ℕ). T (f m)) (sym e) (left (f n) (below n f) t)) (λ l. at-below n f (rest (f n) (below n f) t) k l) (eq-or-lt-of-le (le-of-suc-le-suc h))
 
 -- the entry x has the bits of the classes that b is in
-right : ℕ → ℕ → Bool
+unfoldable pub right : ℕ → ℕ → Bool
 right b x = below 5 (λ k. sameB (bit k x) (inClass k b))
 
 same : (a b : Bool) → T (sameB a b) → a ≡ b
@@ -51,14 +50,18 @@ same true false t = absurd t
 same false true t = absurd t
 same false false t = refl
 
-all : (b : ℕ) → b < 256 → T (right b (getD classes b 0))
-unfolding right isBlank isUri isToken isText isEscapable
-all b h = at right classes tt b h
+-- the test of a whole table
+unfoldable pub agrees : List ℕ → Bool
+agrees t = both (eqb (length t) 256) (every right 0 t)
 
-pub class-bit : (k b : ℕ) → k < 5 → b < 256 → eqb (getD classes b 0 / 2 ^ k % 2) 1 ≡ inClass k b
-unfolding right
-class-bit k b hk hb = same _ _ (at-below 5 (λ i. sameB (bit i (getD classes b 0)) (inClass i b)) (all b hb) k hk)
-
-pub classes-right : Classes classes
-unfolding Classes
-classes-right = class-bit
+-- a table that passes the test is a table of classes
+pub table-right : (t : List ℕ) → T (agrees t) → Classes t
+unfolding agrees right Classes
+table-right t h k b hk hb =
+    let n : length t ≡ 256 = eqb-true (length t) 256 (is-true (eqb (length t) 256) (left (eqb (length t) 256) (every right 0 t) h)) in
+    let e = at right t (rest (eqb (length t) 256) (every right 0 t) h) b (omega arith) in
+    same _ _ (at-below 5 (λ i. sameB (bit i (getD t b 0)) (inClass i b)) e k hk)
+  where
+    is-true : (x : Bool) → T x → x ≡ true
+    is-true true u = refl
+    is-true false u = absurd u

@@ -1,6 +1,6 @@
 // Passing a parameter and an entry: `<`, a URI, `>`, then any number of parameters.
-use crate::classes::CLASSES;
 use crate::classes::URI;
+use crate::classes::table;
 use crate::cursor::Cursor;
 use crate::cursor::Passed;
 ghost use mathlib.Core.Path.{_≡_};
@@ -156,7 +156,7 @@ impl Cursor {
     pub fn entry(self, s: &[u8]) -> Found
         ensures { λ r. ⌜ r ≡ entryAt (now (s .entry)) (self .at) ⌝ }
     {
-        let classes = CLASSES;
+        let classes = table();
         self.entry_with(&classes, s)
     }
 }

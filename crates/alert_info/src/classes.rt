@@ -17,7 +17,7 @@ pub(crate) const TEXT: u8 = 3;
 pub(crate) const ESCAPABLE: u8 = 4;
 
 // The classes of every byte, 16 bytes to a row. Under each number stands its byte.
-pub(crate) const CLASSES: [u8; 256] = [
+const CLASSES: [u8; 256] = [
     16, 16, 16, 16, 16, 16, 16, 16, 16, 25,  0, 16, 16,  0, 16, 16,
 // NUL SOH STX ETX EOT ENQ ACK BEL  BS TAB  LF  VT  FF  CR  SO  SI
     16, 16, 16, 16, 16, 16, 16, 16, 16, 16, 16, 16, 16, 16, 16, 16,
@@ -52,7 +52,14 @@ pub(crate) const CLASSES: [u8; 256] = [
 //  F0  F1  F2  F3  F4  F5  F6  F7  F8  F9  FA  FB  FC  FD  FE  FF
 ];
 
-// Byte b is in a class. The table is lent, since a constant array is copied wherever it is named.
+// The table, once for a call: a constant array is copied wherever it is named, so this copy is lent from there on.
+pub(crate) fn table() -> [u8; 256]
+    ensures { λ r. ⌜ Classes r ⌝ }
+{
+    CLASSES
+}
+
+// Byte b is in a class.
 pub(crate) fn has(classes: &[u8; 256], b: u8, class: u8) -> bool
     requires { ⌜ (class < 5) × Classes (now classes) ⌝ }
     ensures { λ r. ⌜ r ≡ inClass class b ⌝ }

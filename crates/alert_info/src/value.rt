@@ -1,5 +1,5 @@
 // A pass over a whole value, and what is answered about it.
-use crate::classes::CLASSES;
+use crate::classes::table;
 use crate::cursor::Cursor;
 use crate::alert_param::Found;
 use crate::alert_param::Span;
@@ -90,7 +90,7 @@ pub(crate) fn judge(v: &[u8], k: usize) -> Judged
     if 4096 < v.len() {
         return refused(1);
     }
-    let classes = CLASSES;
+    let classes = table();
     let t = scan_value(&classes, v, k);
     if !t.fits {
         return refused(2);
