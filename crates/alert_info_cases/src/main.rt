@@ -11,12 +11,16 @@ fn print_number(n: usize) {
     io::print_decimal(STDOUT_FILENO, n as u64);
 }
 
-fn print_hex(s: &[u8]) {
+fn print_byte(b: u8) {
+    io::print_hex(STDOUT_FILENO, b as u64, 2);
+}
+
+fn print_bytes(s: &[u8]) {
     if s.len() == 0 {
         io::write_all(STDOUT_FILENO, b"-");
     }
     for i in 0..s.len() {
-        io::print_hex(STDOUT_FILENO, s[i] as u64, 2);
+        print_byte(s[i]);
     }
 }
 
@@ -57,7 +61,7 @@ fn answer_value(v: &[u8]) {
 fn answer_entry(v: &[u8], k: usize) {
     print_number(alert_info::entry_refusal(v, k) as usize);
     io::write_all(STDOUT_FILENO, b" ");
-    print_hex(alert_info::entry(v, k));
+    print_bytes(alert_info::entry(v, k));
 }
 
 fn answer(line: &[u8]) {

@@ -1,3 +1,5 @@
+use mathlib.Core.Path.{sym}
+use lib.Seq.{length-take-le}
 use borrow.Author.Needs.{needs}
 use Rattle.alert_info_cases.proofs.answer.Statement.{statement}
 use Rattle.alert_info_cases.proofs.answer.Tie as tie
@@ -33,7 +35,7 @@ array-share-prefix-buf c = search needs
 
 -- src/main.rt:68:22
 slice-aggregate-answer-value : tie.Need-slice-aggregate-answer-value
-slice-aggregate-answer-value c = search needs
+slice-aggregate-answer-value c = sym (length-take-le _ _ (c .before .before .before .before .decode .ensures .1 .1))
 
 -- src/main.rt:68:9
 answer-value-requires : tie.Need-answer-value-requires
@@ -45,7 +47,7 @@ array-share-prefix-buf-2 c = search needs
 
 -- src/main.rt:70:22
 slice-aggregate-answer-entry : tie.Need-slice-aggregate-answer-entry
-slice-aggregate-answer-entry c = search needs
+slice-aggregate-answer-entry c = sym (length-take-le _ _ (c .before .before .before .before .decode .ensures .1 .1))
 
 -- src/main.rt:70:47
 word-requires-2 : tie.Need-word-requires-2

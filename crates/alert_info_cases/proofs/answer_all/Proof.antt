@@ -1,3 +1,4 @@
+use Prim.Native.Nat.{_-_}
 use borrow.Author.Needs.{needs}
 use Rattle.alert_info_cases.proofs.answer_all.Statement.{statement}
 use Rattle.alert_info_cases.proofs.answer_all.Tie as tie
@@ -7,14 +8,14 @@ use Rattle.alert_info_cases.proofs.answer.Reads as answer-reads
 use Rattle.cases.proofs.before.Reads as before-reads
 
 abbrev Inv-loop : tie.InvT-loop
-Inv-loop text end at₀ at = ?
+Inv-loop text end at₀ at = Unit
 
 abbrev μ-loop : tie.MeasureT-loop
-μ-loop text end at₀ at = ?
+μ-loop text end at₀ at = end - at
 
 -- src/main.rt:78:5
 loop-holds : tie.Need-loop-holds Inv-loop μ-loop
-loop-holds c = search needs
+loop-holds c = tt
 
 -- src/main.rt:79:34
 sub-before : tie.Need-sub-before Inv-loop μ-loop
@@ -50,7 +51,7 @@ loop-less c = search needs
 
 -- src/main.rt:78:5
 loop-again : tie.Need-loop-again Inv-loop μ-loop
-loop-again c = search needs
+loop-again c = tt
 
 -- src/main.rt:75:1
 returns : tie.Need-returns Inv-loop μ-loop

@@ -1,3 +1,4 @@
+use Prim.Native.Nat.{_-_}
 use borrow.Author.Needs.{needs}
 use Rattle.alert_info_cases.proofs.answer_value.Statement.{statement}
 use Rattle.alert_info_cases.proofs.answer_value.Tie as tie
@@ -10,10 +11,10 @@ use Rattle.alert_info_cases.proofs.print_number.Reads as print-number-r
 use Rattle.io.proofs.write_all.Reads as write-all-reads
 
 abbrev Inv-loop : tie.InvT-loop
-Inv-loop v n c₀ counter₀ c counter = ?
+Inv-loop v n c₀ counter₀ c counter = Unit
 
 abbrev μ-loop : tie.MeasureT-loop
-μ-loop v n c₀ counter₀ c counter = ?
+μ-loop v n c₀ counter₀ c counter = n - counter
 
 -- src/main.rt:47:9
 entries-requires : tie.Need-entries-requires Inv-loop μ-loop
@@ -45,7 +46,7 @@ print-number-requires-2 c κs = search needs
 
 -- src/main.rt:52:5
 loop-holds : tie.Need-loop-holds Inv-loop μ-loop
-loop-holds c = ?
+loop-holds c = tt
 
 -- src/main.rt:53:9
 print-entry-requires : tie.Need-print-entry-requires Inv-loop μ-loop
@@ -57,11 +58,11 @@ add-counter c = search needs
 
 -- src/main.rt:52:5
 loop-less : tie.Need-loop-less Inv-loop μ-loop
-loop-less c = ?
+loop-less c = search needs
 
 -- src/main.rt:52:5
 loop-again : tie.Need-loop-again Inv-loop μ-loop
-loop-again c = ?
+loop-again c = tt
 
 -- src/main.rt:46:1
 returns : tie.Need-returns Inv-loop μ-loop
