@@ -29,17 +29,18 @@ fn note(t: Scan, k: usize, span: Span) -> Scan
     requires { ⌜ t .entries ≤ 4096 ⌝ }
     ensures { λ r. ⌜ r ≡ noted k t span ⌝ }
 {
+    let entries = t.entries + 1;
     if t.entries == k {
         return Scan {
             fits: t.fits,
-            entries: t.entries + 1,
+            entries,
             span,
         };
     }
     let kept = t.span;
     Scan {
         fits: t.fits,
-        entries: t.entries + 1,
+        entries,
         span: kept,
     }
 }

@@ -9,27 +9,21 @@ use Rattle.alert_info.proofs.entry.Reads as reads
 use Rattle.alert_info.proofs.entry.Lts as lts
 use Rattle.alert_info.proofs.value.judge.Reads as judge-reads
 
--- src/lib.rt:43:9
 judge-requires : tie.Need-judge-requires
 judge-requires c κs = search needs
 
--- src/lib.rt:45:15
 add-end : tie.Need-add-end
 add-end c = omega (arith, span-fits (now (c .before .before .before .args .v)) _ _ (c .before .judge .ensures))
 
--- src/lib.rt:46:5
 sub-result : tie.Need-sub-result
 sub-result c = search needs
 
--- src/lib.rt:46:5
 part-result-start : tie.Need-part-result-start
 part-result-start c = search needs
 
--- src/lib.rt:46:5
 part-result-end : tie.Need-part-result-end
 part-result-end c = span-fits _ _ _ (c .before .judge .ensures)
 
--- src/lib.rt:40:1
 returns : tie.Need-returns
 returns c = entry-of _ _ _ (c .before .before .judge .ensures) _ refl
 

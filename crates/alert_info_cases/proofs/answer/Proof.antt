@@ -13,63 +13,48 @@ use Rattle.cases.proofs.number.Reads as number-reads
 use Rattle.cases.proofs.word.Reads as word-reads
 use Rattle.io.proofs.write_all.Reads as write-all-reads
 
--- src/main.rt:65:27
 word-requires : tie.Need-word-requires
 word-requires c κs = search needs
 
--- src/main.rt:65:49
 slice-aggregate-decode : tie.Need-slice-aggregate-decode
 slice-aggregate-decode c = search needs
 
--- src/main.rt:65:9
 decode-requires : tie.Need-decode-requires
 decode-requires c κs = search needs
 
--- src/main.rt:66:9
 first-requires : tie.Need-first-requires
 first-requires c κs = search needs
 
--- src/main.rt:68:22
 array-share-prefix-buf : tie.Need-array-share-prefix-buf
 array-share-prefix-buf c = search needs
 
--- src/main.rt:68:22
 slice-aggregate-answer-value : tie.Need-slice-aggregate-answer-value
 slice-aggregate-answer-value c = sym (length-take-le _ _ (c .before .before .before .before .decode .ensures .1 .1))
 
--- src/main.rt:68:9
 answer-value-requires : tie.Need-answer-value-requires
 answer-value-requires c κs = search needs
 
--- src/main.rt:70:22
 array-share-prefix-buf-2 : tie.Need-array-share-prefix-buf-2
 array-share-prefix-buf-2 c = search needs
 
--- src/main.rt:70:22
 slice-aggregate-answer-entry : tie.Need-slice-aggregate-answer-entry
 slice-aggregate-answer-entry c = sym (length-take-le _ _ (c .before .before .before .before .decode .ensures .1 .1))
 
--- src/main.rt:70:47
 word-requires-2 : tie.Need-word-requires-2
 word-requires-2 c κs = search needs
 
--- src/main.rt:70:33
 number-requires : tie.Need-number-requires
 number-requires c κs = search needs
 
--- src/main.rt:70:9
 answer-entry-requires : tie.Need-answer-entry-requires
 answer-entry-requires c κs = search needs
 
--- src/main.rt:72:34
 slice-aggregate-write-all : tie.Need-slice-aggregate-write-all
 slice-aggregate-write-all c = search needs
 
--- src/main.rt:72:5
 write-all-requires : tie.Need-write-all-requires
 write-all-requires c κs = search needs
 
--- src/main.rt:63:1
 returns : tie.Need-returns
 returns c = search needs
 

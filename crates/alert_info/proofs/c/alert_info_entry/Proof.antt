@@ -6,11 +6,9 @@ use Rattle.alert_info.proofs.c.alert_info_entry.Reads as reads
 use Rattle.alert_info.proofs.c.alert_info_entry.Lts as lts
 use Rattle.alert_info.proofs.value.judge.Reads as judge-reads
 
--- src/c.rt:30:9
 judge-requires : tie.Need-judge-requires
 judge-requires c κs = search needs
 
--- src/c.rt:26:1
 returns : tie.Need-returns
 returns c = span-of _ _ _ (c .before .judge .ensures)
 

@@ -6,7 +6,6 @@ use Rattle.alert_info.proofs.classes.table.Tie as tie
 use Rattle.alert_info.proofs.classes.table.Reads as reads
 use Rattle.alert_info.proofs.classes.table.Lts as lts
 
--- src/classes.rt:56:1
 returns : tie.Need-returns
 unfolding agrees right isBlank isUri isToken isText isEscapable
 returns c = table-right _ tt

@@ -5,17 +5,14 @@ use Rattle.alert_info.proofs.value.note.Tie as tie
 use Rattle.alert_info.proofs.value.note.Reads as reads
 use Rattle.alert_info.proofs.value.note.Lts as lts
 
-add-t6 : tie.Need-add-t6
-add-t6 c = search needs
+add-entries : tie.Need-add-entries
+add-entries c = search needs
 
 returns : tie.Need-returns
-returns c = simp (eq-eqb _ _ (c .before .if1 .taken))
-
-add-t7 : tie.Need-add-t7
-add-t7 c = search needs
+returns c = simp (eq-eqb _ _ (c .if1 .taken))
 
 returns-2 : tie.Need-returns-2
-returns-2 c = simp (ne-eqb _ _ (c .before .before .if1 .left))
+returns-2 c = simp (ne-eqb _ _ (c .before .if1 .left))
 
 pub note-spec : {M : Type 1} → statement M
-note-spec = tie.close (tie.spec add-t6 returns add-t7 returns-2)
+note-spec = tie.close (tie.spec add-entries returns returns-2)

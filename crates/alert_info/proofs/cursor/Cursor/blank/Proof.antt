@@ -7,23 +7,18 @@ use Rattle.alert_info.proofs.cursor.Cursor.blank.Reads as reads
 use Rattle.alert_info.proofs.cursor.Cursor.blank.Lts as lts
 use Rattle.alert_info.proofs.classes.has.Reads as has-reads
 
--- src/cursor.rt:95:13
 returns : tie.Need-returns
 returns c = blank-end _ _ (c .if1 .taken)
 
--- src/cursor.rt:97:25
 shared-slice-read-has : tie.Need-shared-slice-read-has
 shared-slice-read-has c = search needs
 
--- src/cursor.rt:97:12
 has-requires : tie.Need-has-requires
 has-requires c κs = search needs
 
--- src/cursor.rt:89:5
 returns-2 : tie.Need-returns-2
 returns-2 c = blank-yes _ _ (sym (c .before .has .ensures) ∙ c .if2 .taken)
 
--- src/cursor.rt:89:5
 returns-3 : tie.Need-returns-3
 returns-3 c = blank-no _ _ (sym (c .before .has .ensures) ∙ c .if2 .left)
 
