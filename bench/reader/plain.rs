@@ -1,28 +1,46 @@
-// A plain Rust reader of Alert-Info values, to compare with: one pass, no allocation, a class table.
-const BLANK: u8 = 1;
-const URI: u8 = 2;
-const TOKEN: u8 = 4;
-const TEXT: u8 = 8;
-const ESCAPABLE: u8 = 16;
+// A plain Rust reader of Alert-Info values, to compare with: one pass, no allocation. It is written once over the byte
+// rules, which come as plain tests (`Tests`) or as a table of classes (`Table`).
+use std::marker::PhantomData;
+
+pub trait Rules {
+    fn blank(b: u8) -> bool;
+    fn uri(b: u8) -> bool;
+    fn token(b: u8) -> bool;
+    fn text(b: u8) -> bool;
+    fn escapable(b: u8) -> bool;
+}
+
+pub struct Tests;
+
+impl Rules for Tests {
+    fn blank(b: u8) -> bool {
+        matches!(b, b' ' | b'\t')
+    }
+    fn uri(b: u8) -> bool {
+        matches!(b, 0x21..=0x7e) && !matches!(b, b'<' | b'>' | b'"')
+    }
+    fn token(b: u8) -> bool {
+        b.is_ascii_alphanumeric()
+            || matches!(b, b'-' | b'.' | b'!' | b'%' | b'*' | b'_' | b'+' | b'`' | b'\'' | b'~')
+    }
+    fn text(b: u8) -> bool {
+        matches!(b, 9 | 32..=126 | 128..=255) && !matches!(b, b'"' | b'\\')
+    }
+    fn escapable(b: u8) -> bool {
+        b <= 127 && b != 10 && b != 13
+    }
+}
+
+pub struct Table;
 
 const fn classes_of(b: u8) -> u8 {
-    let mut c = 0;
-    if matches!(b, b' ' | b'\t') {
-        c |= BLANK;
-    }
-    if matches!(b, 0x21..=0x7e) && !matches!(b, b'<' | b'>' | b'"') {
-        c |= URI;
-    }
-    if b.is_ascii_alphanumeric() || matches!(b, b'-' | b'.' | b'!' | b'%' | b'*' | b'_' | b'+' | b'`' | b'\'' | b'~') {
-        c |= TOKEN;
-    }
-    if matches!(b, 9 | 32..=126 | 128..=255) && !matches!(b, b'"' | b'\\') {
-        c |= TEXT;
-    }
-    if b <= 127 && b != 10 && b != 13 {
-        c |= ESCAPABLE;
-    }
-    c
+    let blank = matches!(b, b' ' | b'\t');
+    let uri = matches!(b, 0x21..=0x7e) && !matches!(b, b'<' | b'>' | b'"');
+    let token = b.is_ascii_alphanumeric()
+        || matches!(b, b'-' | b'.' | b'!' | b'%' | b'*' | b'_' | b'+' | b'`' | b'\'' | b'~');
+    let text = matches!(b, 9 | 32..=126 | 128..=255) && !matches!(b, b'"' | b'\\');
+    let escapable = b <= 127 && b != 10 && b != 13;
+    blank as u8 | (uri as u8) << 1 | (token as u8) << 2 | (text as u8) << 3 | (escapable as u8) << 4
 }
 
 static CLASSES: [u8; 256] = {
@@ -35,16 +53,31 @@ static CLASSES: [u8; 256] = {
     t
 };
 
-fn is(b: u8, class: u8) -> bool {
-    CLASSES[b as usize] & class != 0
+impl Rules for Table {
+    fn blank(b: u8) -> bool {
+        CLASSES[b as usize] & 1 != 0
+    }
+    fn uri(b: u8) -> bool {
+        CLASSES[b as usize] & 2 != 0
+    }
+    fn token(b: u8) -> bool {
+        CLASSES[b as usize] & 4 != 0
+    }
+    fn text(b: u8) -> bool {
+        CLASSES[b as usize] & 8 != 0
+    }
+    fn escapable(b: u8) -> bool {
+        CLASSES[b as usize] & 16 != 0
+    }
 }
 
-struct Reader<'a> {
+struct Reader<'a, R> {
     s: &'a [u8],
     at: usize,
+    rules: PhantomData<R>,
 }
 
-impl<'a> Reader<'a> {
+impl<'a, R: Rules> Reader<'a, R> {
     fn peek(&self) -> Option<u8> {
         self.s.get(self.at).copied()
     }
@@ -55,20 +88,21 @@ impl<'a> Reader<'a> {
         found
     }
 
-    // The bytes of a class from here on.
-    fn run(&mut self, class: u8) -> &'a [u8] {
+    // The bytes from here on that pass a test.
+    #[inline(always)]
+    fn run(&mut self, test: impl Fn(u8) -> bool) -> &'a [u8] {
         let rest = &self.s[self.at..];
-        let n = rest.iter().position(|&b| !is(b, class)).unwrap_or(rest.len());
+        let n = rest.iter().position(|&b| !test(b)).unwrap_or(rest.len());
         self.at += n;
         &rest[..n]
     }
 
     fn white(&mut self) {
-        self.run(BLANK);
+        self.run(R::blank);
     }
 
     fn token(&mut self) -> Option<()> {
-        (!self.run(TOKEN).is_empty()).then_some(())
+        (!self.run(R::token).is_empty()).then_some(())
     }
 
     fn quoted(&mut self) -> Option<()> {
@@ -79,12 +113,12 @@ impl<'a> Reader<'a> {
             match b {
                 b'"' => return Some(()),
                 b'\\' => {
-                    if !is(self.peek()?, ESCAPABLE) {
+                    if !R::escapable(self.peek()?) {
                         return None;
                     }
                     self.at += 1;
                 }
-                _ if is(b, TEXT) => {}
+                _ if R::text(b) => {}
                 _ => return None,
             }
         }
@@ -111,7 +145,7 @@ impl<'a> Reader<'a> {
         if !self.eat(b'<') {
             return None;
         }
-        let uri = self.run(URI);
+        let uri = self.run(R::uri);
         if uri.is_empty() || !self.eat(b'>') {
             return None;
         }
@@ -124,11 +158,11 @@ impl<'a> Reader<'a> {
 }
 
 // The refusal number and the number of entries.
-fn read(v: &[u8]) -> (u8, usize) {
+fn read<R: Rules>(v: &[u8]) -> (u8, usize) {
     if v.len() > 4096 {
         return (1, 0);
     }
-    let mut r = Reader { s: v, at: 0 };
+    let mut r = Reader::<R> { s: v, at: 0, rules: PhantomData };
     let mut entries = 0;
     loop {
         if r.entry().is_none() {
@@ -145,10 +179,10 @@ fn read(v: &[u8]) -> (u8, usize) {
     if entries > 64 { (3, 0) } else { (0, entries) }
 }
 
-pub fn refusal(v: &[u8]) -> u8 {
-    read(v).0
+pub fn refusal<R: Rules>(v: &[u8]) -> u8 {
+    read::<R>(v).0
 }
 
-pub fn entries(v: &[u8]) -> usize {
-    read(v).1
+pub fn entries<R: Rules>(v: &[u8]) -> usize {
+    read::<R>(v).1
 }

@@ -15,7 +15,8 @@ same-spans : (r : Reading) (ps qs : List Span) → r ≡ spans ps → r ≡ span
 same-spans r ps qs e f = cc
 
 -- s is a value with the URIs us exactly if it is read, and us are the parts that are read
-pub agree : (s : List ℕ) (us : List (List ℕ)) → Value s us ↔ ((ps : List Span) × (readingOf s ≡ spans ps) × (map (partOf s) ps ≡ us))
+pub agree : (s : List ℕ) (us : List (List ℕ))
+    → Value s us ↔ ((ps : List Span) × (readingOf s ≡ spans ps) × (map (partOf s) ps ≡ us))
 agree s us = (complete s us, λ r. subst (Value s) (r .2) (sound s (r .0) (r .1)))
 
 -- the URIs of a value are determined by its bytes
@@ -31,6 +32,7 @@ misfit s = ((λ e us k. let a = complete s us k in never (readingOf s) (a .0) e 
   where
     never : (r : Reading) (ps : List Span) → r ≡ unfit → r ≡ spans ps → ⊥
     never r ps e f = let z : _≡_ {A = ℕ} 0 1 = cc in omega arith
+
     go : (r : Reading) → readingOf s ≡ r → ((us : List (List ℕ)) → Value s us → ⊥) → readingOf s ≡ unfit
     go unfit e n = e
     go (spans ps) e n = absurd (n (map (partOf s) ps) (sound s ps e))

@@ -38,7 +38,8 @@ rest false b t = absurd t
 at-below : (n : ℕ) (f : ℕ → Bool) → T (below n f) → (k : ℕ) → k < n → T (f k)
 at-below zero f t k h = absurd (not-suc-le-zero h)
 at-below (suc n) f t k h =
-    ⊎-elim (λ e. subst (λ (m : ℕ). T (f m)) (sym e) (left (f n) (below n f) t)) (λ l. at-below n f (rest (f n) (below n f) t) k l) (eq-or-lt-of-le (le-of-suc-le-suc h))
+    ⊎-elim (λ e. subst (λ (m : ℕ). T (f m)) (sym e) (left (f n) (below n f) t))
+    (λ l. at-below n f (rest (f n) (below n f) t) k l) (eq-or-lt-of-le (le-of-suc-le-suc h))
 
 -- the entry x has the bits of the classes that b is in
 unfoldable pub right : ℕ → ℕ → Bool
@@ -58,7 +59,8 @@ agrees t = both (eqb (length t) 256) (every right 0 t)
 pub table-right : (t : List ℕ) → T (agrees t) → Classes t
 unfolding agrees right Classes
 table-right t h k b hk hb =
-    let n : length t ≡ 256 = eqb-true (length t) 256 (is-true (eqb (length t) 256) (left (eqb (length t) 256) (every right 0 t) h)) in
+    let n : length t ≡ 256 = eqb-true (length t) 256
+    (is-true (eqb (length t) 256) (left (eqb (length t) 256) (every right 0 t) h)) in
     let e = at right t (rest (eqb (length t) 256) (every right 0 t) h) b (omega arith) in
     same _ _ (at-below 5 (λ i. sameB (bit i (getD t b 0)) (inClass i b)) e k hk)
   where

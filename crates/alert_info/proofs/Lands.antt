@@ -12,7 +12,10 @@ use Rattle.alert_info.specs.Bytes.{isToken, isUri, isBlank}
 use mathlib.Core.Bool.{cond}
 use Rattle.alert_info.specs.Walk.{run, runAt}
 use Rattle.alert_info.specs.Walk.{Move, halt, move, walkAt}
-use Rattle.alert_info.specs.Parts.{whiteAt, moved, tokenAt, quoteStep, afterQuote, quotedFrom, quotedAt, settingAt, named, paramAt, paramNext, followingByte, followingAt, followingMove, endingStep, endingAt, spanTo, found, closedUri, bracket, entryAt}
+use Rattle.alert_info.specs.Parts.{whiteAt, moved, tokenAt, quoteStep, afterQuote, quotedFrom, quotedAt}
+use Rattle.alert_info.specs.Parts.{settingAt, named, paramAt, paramNext, followingByte, followingAt}
+use Rattle.alert_info.specs.Parts.{followingMove, endingStep, endingAt, spanTo, found, closedUri, bracket}
+use Rattle.alert_info.specs.Parts.{entryAt}
 use Rattle.alert_info.specs.declared.cursor.Cursor.{Cursor}
 use Rattle.alert_info.specs.declared.cursor.Quote.{Quote}
 use Rattle.alert_info.specs.declared.cursor.Quote.the-variants.{Inside, Escaped, Closed, Broken}
@@ -32,7 +35,8 @@ use Rattle.alert_info.proofs.WalkLaws.{walk-ind}
 run-length : (p : ℕ → Bool) (l : List ℕ) → run p l ≤ length l
 unfolding run
 run-length p [] = omega arith
-run-length p (b ∷ l) = let h = run-length p l in by-test (λ (x : ℕ). x ≤ suc (length l)) (p b) _ _ (λ _. omega arith) (λ _. omega arith)
+run-length p (b ∷ l) = let h = run-length p l in by-test (λ (x : ℕ). x ≤ suc (length l)) (p b) _ _ (λ _. omega arith)
+    (λ _. omega arith)
 
 module _ (p : ℕ → Bool) (s : List ℕ) (at : ℕ) where
   pub run-from : at ≤ runAt p s at
@@ -61,7 +65,8 @@ module _ (s : List ℕ) where
       by-test (Lands s at) (eqb at (runAt isToken s at)) Refused (Next (record { at = runAt isToken s at })) (λ _. tt)
       (λ e. let n = eqb-false at (runAt isToken s at) e in omega (arith, n, run-from isToken s at, run-to isToken s at))
 
-  quote-lands : (at n : ℕ) (r : Quote) (p : Passed) → at + 1 ≤ n → n ≤ length s → Lands s at p → Lands s at (afterQuote r n p)
+  quote-lands : (at n : ℕ) (r : Quote) (p : Passed) → at + 1 ≤ n → n ≤ length s → Lands s at p
+      → Lands s at (afterQuote r n p)
   quote-lands at n Inside p h k l = l
   quote-lands at n Escaped p h k l = l
   quote-lands at n Closed p h k l = omega arith
@@ -72,7 +77,8 @@ module _ (s : List ℕ) where
   quoted-lands-from q at [] h = tt
   quoted-lands-from q at (b ∷ l) h =
       quote-lands at (at + 1) (quoteStep q b) (quotedFrom (quoteStep q b) (at + 1) l) (omega arith) (omega arith)
-      (later s at (at + 1) (quotedFrom (quoteStep q b) (at + 1) l) (omega arith) (quoted-lands-from (quoteStep q b) (at + 1) l (omega arith)))
+      (later s at (at + 1) (quotedFrom (quoteStep q b) (at + 1) l) (omega arith)
+      (quoted-lands-from (quoteStep q b) (at + 1) l (omega arith)))
 
   pub quoted-lands : (at : ℕ) → Lands s at (quotedAt s at)
   unfolding quotedAt
@@ -85,7 +91,8 @@ module _ (s : List ℕ) where
 
   pub setting-lands : (at : ℕ) → Lands s at (settingAt s at)
   unfolding settingAt
-  setting-lands at = by-test (Lands s at) (eqb (getD s at 0) 34) (quotedAt s at) (tokenAt s at) (λ _. quoted-lands at) (λ _. token-lands at)
+  setting-lands at = by-test (Lands s at) (eqb (getD s at 0) 34) (quotedAt s at) (tokenAt s at) (λ _. quoted-lands at)
+      (λ _. token-lands at)
 
   named-lands : (at : ℕ) (p : Passed) → Lands s at p → Lands s at (named s p)
   named-lands at (Next c) h =
@@ -98,7 +105,8 @@ module _ (s : List ℕ) where
 
   pub param-lands : (at : ℕ) → Lands s at (paramAt s at)
   unfolding paramAt
-  param-lands at = named-lands at (tokenAt s (whiteAt s at)) (later s at (whiteAt s at) (tokenAt s (whiteAt s at)) (white-from s at) (token-lands (whiteAt s at)))
+  param-lands at = named-lands at (tokenAt s (whiteAt s at))
+      (later s at (whiteAt s at) (tokenAt s (whiteAt s at)) (white-from s at) (token-lands (whiteAt s at)))
 
 abbrev pub FollowingLands : List ℕ → ℕ → Following → Type 0
 FollowingLands s at Nothing = Unit
@@ -132,12 +140,14 @@ module _ (s : List ℕ) where
       let w = whiteAt s at in
       by-test (FollowingLands s at) (leb (length s) w) Nothing _ (λ _. tt)
       (λ i. let h = leb-false (length s) w i in
-      by-test (FollowingLands s at) (eqb (getD s w 0) 44) (Comma (record { at = w + 1 })) _ (λ _. omega (arith, h, white-from s at))
+      by-test (FollowingLands s at) (eqb (getD s w 0) 44) (Comma (record { at = w + 1 })) _
+      (λ _. omega (arith, h, white-from s at))
       (λ _. by-test (FollowingLands s at) (eqb (getD s w 0) 59) (paramNext (paramAt s (w + 1))) Stray
       (λ _. paramNext-lands at (w + 1) (paramAt s (w + 1)) (omega (arith, white-from s at)) (param-lands s (w + 1)))
       (λ _. tt)))
 
-  following-ok : (at : ℕ) (t : Following) → FollowingLands s at t → (g : Ending → Ending) (n : ℕ) → followingMove t ≡ move g n → Inner s at n
+  following-ok : (at : ℕ) (t : Following) → FollowingLands s at t → (g : Ending → Ending) (n : ℕ)
+      → followingMove t ≡ move g n → Inner s at n
   following-ok at Nothing l g n e = absurd (let z : _≡_ {A = ℕ} 0 1 = cc in omega arith)
   following-ok at (Comma c) l g n e = absurd (let z : _≡_ {A = ℕ} 0 1 = cc in omega arith)
   following-ok at (Param c) l g n e = let z : c .at ≡ n = cc in omega arith
@@ -147,7 +157,8 @@ module _ (s : List ℕ) where
   unfolding endingStep
   ending-ok at g n e = following-ok at (followingAt s at) (following-lands at) g n e
 
-  halt-lands : (at : ℕ) (t : Following) → FollowingLands s at t → (r : Ending) → followingMove t ≡ halt r → EndingLands s at r
+  halt-lands : (at : ℕ) (t : Following) → FollowingLands s at t → (r : Ending) → followingMove t ≡ halt r
+      → EndingLands s at r
   halt-lands at Nothing l r e = let z : ValueEnd ≡ r = cc in subst (EndingLands s at) z tt
   halt-lands at (Comma c) l r e = let z : NextEntry c ≡ r = cc in subst (EndingLands s at) z l
   halt-lands at (Param c) l r e = absurd (let z : _≡_ {A = ℕ} 0 1 = cc in omega arith)
@@ -158,7 +169,8 @@ module _ (s : List ℕ) where
   ending-later at from (NextEntry c) h l = omega arith
   ending-later at from NoEnding h l = tt
 
-  move-lands : (at : ℕ) (t : Following) (g : Ending → Ending) (n : ℕ) (x : Ending) → followingMove t ≡ move g n → at ≤ n → EndingLands s n x → EndingLands s at (g x)
+  move-lands : (at : ℕ) (t : Following) (g : Ending → Ending) (n : ℕ) (x : Ending) → followingMove t ≡ move g n
+      → at ≤ n → EndingLands s n x → EndingLands s at (g x)
   move-lands at Nothing g n x e h l = absurd (let z : _≡_ {A = ℕ} 0 1 = cc in omega arith)
   move-lands at (Comma c) g n x e h l = absurd (let z : _≡_ {A = ℕ} 0 1 = cc in omega arith)
   move-lands at (Param c) g n x e h l =
@@ -173,7 +185,8 @@ module _ (s : List ℕ) where
       (λ p r e. halt-lands p (followingAt s p) (following-lands p) r e)
       (λ p g n x e h l. move-lands p (followingAt s p) g n x e (omega arith) l) at
 
-  found-lands : (at a e : ℕ) (t : Ending) → a ≤ e → e ≤ length s → at ≤ e → EndingLands s e t → FoundLands s at (found (spanTo a e) t)
+  found-lands : (at a e : ℕ) (t : Ending) → a ≤ e → e ≤ length s → at ≤ e → EndingLands s e t
+      → FoundLands s at (found (spanTo a e) t)
   found-lands at a e ValueEnd h k i l = omega arith
   found-lands at a e (NextEntry c) h k i l = (omega arith, omega arith)
   found-lands at a e NoEnding h k i l = tt
@@ -188,7 +201,8 @@ module _ (s : List ℕ) where
       (λ _. by-test (FoundLands s at) (eqb a e) None _ (λ _. tt)
       (λ _. by-test (FoundLands s at) (eqb (getD s e 0) 62) (found (spanTo a e) (endingAt s (e + 1))) None
       (λ f. let h = peeked s e 61 (eqb-true _ _ f) in
-      found-lands at a e (endingAt s (e + 1)) (run-from isUri s a) (omega arith) (omega (arith, white-from s at, run-from isUri s a))
+      found-lands at a e (endingAt s (e + 1)) (run-from isUri s a) (omega arith)
+      (omega (arith, white-from s at, run-from isUri s a))
       (ending-later e (e + 1) (endingAt s (e + 1)) (omega arith) (ending-lands (e + 1))))
       (λ _. tt)))
       (λ _. tt)

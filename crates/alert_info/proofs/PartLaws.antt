@@ -11,7 +11,9 @@ use Rattle.alert_info.specs.Bytes.{isToken, isUri}
 use mathlib.Core.Bool.{cond}
 use Rattle.alert_info.specs.Walk.{runAt}
 use Rattle.alert_info.specs.Walk.{Move, halt, move}
-use Rattle.alert_info.specs.Parts.{whiteAt, tokenAt, quotedAt, settingAt, named, paramAt, paramNext, followingByte, followingAt, followingMove, endingStep, endingAt, spanTo, found, closedUri, bracket, entryAt}
+use Rattle.alert_info.specs.Parts.{whiteAt, tokenAt, quotedAt, settingAt, named, paramAt, paramNext}
+use Rattle.alert_info.specs.Parts.{followingByte, followingAt, followingMove, endingStep, endingAt, spanTo, found}
+use Rattle.alert_info.specs.Parts.{closedUri, bracket, entryAt}
 use Rattle.alert_info.specs.declared.cursor.Cursor.{Cursor}
 use Rattle.alert_info.specs.declared.cursor.Passed.{Passed}
 use Rattle.alert_info.specs.declared.cursor.Passed.the-variants.{Next, Refused}
@@ -50,7 +52,8 @@ module _ (s : List ℕ) (at : ℕ) where
     pub param-none : (t : Passed) → t ≡ tokenAt s w → t ≡ Refused → Refused ≡ paramAt s at
     param-none t e f = named-of t Refused e f
 
-    module _ (t : Passed) (et : t ≡ tokenAt s w) (c : Cursor) (ec : t ≡ Next c) (e : ℕ) (ee : e ≡ whiteAt s (c .at)) (b : ℕ) (eb : b ≡ getD s e 0) where
+    module _ (t : Passed) (et : t ≡ tokenAt s w) (c : Cursor) (ec : t ≡ Next c) (e : ℕ) (ee : e ≡ whiteAt s (c .at))
+        (b : ℕ) (eb : b ≡ getD s e 0) where
       pub param-bare : (b ≡ 61 → ⊥) → Next c ≡ paramAt s at
       param-bare f = simp (← ee, ← eb, ne-eqb _ _ f) at (named-of t (Next c) et ec)
 
@@ -70,7 +73,8 @@ module _ (s : List ℕ) (at : ℕ) where
       unfolding followingAt
       following-bad e f = simp (← ew, lt-leb _ _ h, ne-eqb _ _ e, ne-eqb _ _ f)
 
-      pub following-param : (getD s w 0 ≡ 44 → ⊥) → getD s w 0 ≡ 59 → (p k : Passed) → p ≡ paramAt s (w + 1) → p ≡ k → paramNext k ≡ followingAt s at
+      pub following-param : (getD s w 0 ≡ 44 → ⊥) → getD s w 0 ≡ 59 → (p k : Passed) → p ≡ paramAt s (w + 1) → p ≡ k
+          → paramNext k ≡ followingAt s at
       unfolding followingAt
       following-param e f p k ep ek = simp (← ew, lt-leb _ _ h, ne-eqb _ _ e, eq-eqb _ _ f) (ap paramNext (sym ek ∙ ep))
 
@@ -91,15 +95,19 @@ module _ (s : List ℕ) (at : ℕ) where
           pub entry-closed : (g ≡ 62 → ⊥) → None ≡ entryAt s at
           entry-closed h = simp (ne-eqb _ _ ne, ← eg, ne-eqb _ _ h) at opened-entry
 
-          pub entry-some : g ≡ 62 → (t k : Ending) → t ≡ endingAt s (u + 1) → t ≡ k → found (spanTo (w + 1) u) k ≡ entryAt s at
-          entry-some h t k et ek = ap (found (spanTo (w + 1) u)) (sym ek ∙ et) ∙ simp (ne-eqb _ _ ne, ← eg, eq-eqb _ _ h) at opened-entry
+          pub entry-some : g ≡ 62 → (t k : Ending) → t ≡ endingAt s (u + 1) → t ≡ k
+              → found (spanTo (w + 1) u) k ≡ entryAt s at
+          entry-some h t k et ek = ap (found (spanTo (w + 1) u)) (sym ek ∙ et)
+              ∙ simp (ne-eqb _ _ ne, ← eg, eq-eqb _ _ h) at opened-entry
 
   -- the loop over parameters
-  pub ending-halt : (t k : Following) (r : Ending) → t ≡ followingAt s at → t ≡ k → followingMove k ≡ halt r → endingAt s at ≡ r
+  pub ending-halt : (t k : Following) (r : Ending) → t ≡ followingAt s at → t ≡ k → followingMove k ≡ halt r
+      → endingAt s at ≡ r
   unfolding endingAt endingStep
   ending-halt t k r e f g = walk-halt (endingStep s) NoEnding s at r (ap followingMove (sym e ∙ f) ∙ g)
 
-  pub ending-more : (t : Following) (c : Cursor) → t ≡ followingAt s at → t ≡ Param c → (endingAt s at ≡ endingAt s (c .at)) × (at < c .at) × (c .at ≤ length s)
+  pub ending-more : (t : Following) (c : Cursor) → t ≡ followingAt s at → t ≡ Param c
+      → (endingAt s at ≡ endingAt s (c .at)) × (at < c .at) × (c .at ≤ length s)
   unfolding endingAt endingStep
   ending-more t c e f =
       let l = subst (FollowingLands s at) (sym e ∙ f) (following-lands s at) in

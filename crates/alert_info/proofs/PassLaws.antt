@@ -8,12 +8,14 @@ use native.Mathlib.Omega.{arith}
 use lib.Dec.{eqb, ltb}
 use lib.ListN.{length, getD, drop, take}
 use borrow.Author.Tests.{eq-eqb, ne-eqb, lt-ltb, le-ltb}
-use Rattle.alert_info.specs.Value.{Reading, unfit, spans, add, readingOf, refusalOf, spansOf, entriesOf, entryOf, nowhere, spanOf, entryRefusalOf}
+use Rattle.alert_info.specs.Value.{Reading, unfit, spans, add, readingOf, refusalOf, spansOf, entriesOf, entryOf}
+use Rattle.alert_info.specs.Value.{nowhere, spanOf, entryRefusalOf}
 use Rattle.alert_info.specs.Pass.{noted, noteAll, summary, blank, scanOf, judgedOf}
 use Rattle.alert_info.specs.declared.alert_param.Span.{Span}
 use Rattle.alert_info.specs.declared.value.Scan.{Scan}
 use Rattle.alert_info.specs.declared.value.Judged.{Judged}
-use Rattle.alert_info.proofs.ReadingLaws.{refusal-long, refused-spans, refusal-unfit, refusal-many, refusal-none, accepted-spans, span-in, span-entry, entries-spans}
+use Rattle.alert_info.proofs.ReadingLaws.{refusal-long, refused-spans, refusal-unfit, refusal-many, refusal-none}
+use Rattle.alert_info.proofs.ReadingLaws.{accepted-spans, span-in, span-entry, entries-spans}
 use Rattle.alert_info.proofs.Lands.{SpanIn}
 
 summary-add : (k : ℕ) (t : Scan) (p : Span) (r : Reading) → summary k t (add p r) ≡ summary k (noted k t p) r
@@ -26,7 +28,8 @@ unfolding noteAll
 summary-last k t p = refl
 
 -- a turn of the loop over entries
-pub scan-more : (k : ℕ) (t u : Scan) (p : Span) (x : Scan) (q r : Reading) → x ≡ summary k t q → q ≡ add p r → u ≡ noted k t p → x ≡ summary k u r
+pub scan-more : (k : ℕ) (t u : Scan) (p : Span) (x : Scan) (q r : Reading) → x ≡ summary k t q → q ≡ add p r
+    → u ≡ noted k t p → x ≡ summary k u r
 scan-more k t u p x q r e f g = e ∙ ap (summary k t) f ∙ summary-add k t p r ∙ ap (λ (y : Scan). summary k y r) (sym g)
 
 all-fits : (k : ℕ) (t : Scan) (ps : List Span) → noteAll k t ps .fits ≡ t .fits
@@ -73,9 +76,11 @@ module _ (s : List ℕ) (k : ℕ) where
   module _ (short : length s ≤ 4096) where
     misfit : (r : Reading) → readingOf s ≡ r → summary k blank r .fits ≡ false → refusalOf s ≡ 2
     misfit unfit e f = refusal-unfit s short unfit e refl
-    misfit (spans ps) e f = absurd (let g = all-fits k blank ps in let z : true ≡ false = sym g ∙ f in let y : _≡_ {A = ℕ} 0 1 = cc in omega arith)
+    misfit (spans ps) e f = absurd (let g = all-fits k blank ps in let z : true ≡ false = sym g
+        ∙ f in let y : _≡_ {A = ℕ} 0 1 = cc in omega arith)
 
-    many : (r : Reading) → readingOf s ≡ r → summary k blank r .fits ≡ true → 64 < summary k blank r .entries → refusalOf s ≡ 3
+    many : (r : Reading) → readingOf s ≡ r → summary k blank r .fits ≡ true → 64 < summary k blank r .entries
+        → refusalOf s ≡ 3
     many unfit e f h = absurd (let z : false ≡ true = f in let y : _≡_ {A = ℕ} 0 1 = cc in omega arith)
     many (spans ps) e f h = refusal-many s short (spans ps) e ps refl (omega (arith, all-entries k blank ps))
 
@@ -103,9 +108,11 @@ module _ (s : List ℕ) (k : ℕ) where
       pub judged-many : (r : Judged) → r ≡ refusedWith 3 → t .fits ≡ true → 64 < t .entries → r ≡ judgedOf s k
       unfolding scanOf
       judged-many r e f h =
-          refused-is 3 r e (many (readingOf s) refl (fits-is true f) (subst (λ (x : Scan). 64 < x .entries) is h)) (omega arith)
+          refused-is 3 r e (many (readingOf s) refl (fits-is true f) (subst (λ (x : Scan). 64 < x .entries) is h))
+          (omega arith)
 
-      pub judged-fine : t .fits ≡ true → t .entries ≤ 64 → record { refusal = 0; entries = t .entries; span = t .span } ≡ judgedOf s k
+      pub judged-fine : t .fits ≡ true → t .entries ≤ 64
+          → record { refusal = 0; entries = t .entries; span = t .span } ≡ judgedOf s k
       unfolding scanOf
       judged-fine f h =
           ap (λ (x : Scan). record { refusal = 0; entries = x .entries; span = x .span }) is
@@ -128,10 +135,12 @@ module _ (s : List ℕ) (k : ℕ) where
     pub span-fits : j .span .start + j .span .len ≤ length s
     span-fits = subst (SpanIn s) (sym span-of) (span-in s k)
 
-    pub entry-of : (end : ℕ) → end ≡ j .span .start + j .span .len → take (end - j .span .start) (drop (j .span .start) s) ≡ entryOf s k
+    pub entry-of : (end : ℕ) → end ≡ j .span .start + j .span .len
+        → take (end - j .span .start) (drop (j .span .start) s) ≡ entryOf s k
     entry-of end e =
         let n : end - j .span .start ≡ j .span .len = omega arith in
-        ap (λ (m : ℕ). take m (drop (j .span .start) s)) n ∙ ap (λ (p : Span). take (p .len) (drop (p .start) s)) span-of ∙ span-entry s k
+        ap (λ (m : ℕ). take m (drop (j .span .start) s)) n
+        ∙ ap (λ (p : Span). take (p .len) (drop (p .start) s)) span-of ∙ span-entry s k
 
     pub entry-refused : (j .refusal ≡ 0 → ⊥) → j .refusal ≡ entryRefusalOf s k
     unfolding entryRefusalOf

@@ -21,7 +21,8 @@ from q k b r e h = sym (ap (λ (x : Quote). quoteStep x b) e ∙ h)
 
 module _ (s : List ℕ) (q : Quote) (at : ℕ) where
   pub quoted-step : at < length s
-      → quotedFrom q at (drop at s) ≡ afterQuote (quoteStep q (getD s at 0)) (at + 1) (quotedFrom (quoteStep q (getD s at 0)) (at + 1) (drop (at + 1) s))
+      → quotedFrom q at (drop at s) ≡ afterQuote (quoteStep q (getD s at 0)) (at + 1)
+      (quotedFrom (quoteStep q (getD s at 0)) (at + 1) (drop (at + 1) s))
   unfolding quotedFrom
   quoted-step h = rw (drop-cons s at 0, add-one)
 

@@ -11,7 +11,9 @@ use lib.ListN.{length, getD, drop, take, length-map, List·getD-map}
 use borrow.Author.Tests.{eq-eqb, ne-eqb, lt-ltb, le-ltb}
 use Rattle.alert_info.specs.Walk.{Move, halt, move, walkAt}
 use Rattle.alert_info.specs.Parts.{entryAt}
-use Rattle.alert_info.specs.Value.{Reading, unfit, spans, add, entryMove, valueStep, readingFrom, readingOf, readingRefusal, refusalOf, spansIn, spansOf, partOf, urisOf, entriesOf, entryOf, nowhere, spanOf}
+use Rattle.alert_info.specs.Value.{Reading, unfit, spans, add, entryMove, valueStep, readingFrom, readingOf}
+use Rattle.alert_info.specs.Value.{readingRefusal, refusalOf, spansIn, spansOf, partOf, urisOf, entriesOf}
+use Rattle.alert_info.specs.Value.{entryOf, nowhere, spanOf}
 use Rattle.alert_info.specs.declared.cursor.Cursor.{Cursor}
 use Rattle.alert_info.specs.declared.alert_param.Span.{Span}
 use Rattle.alert_info.specs.declared.alert_param.Found.{Found}
@@ -32,15 +34,24 @@ module _ (s : List ℕ) (at : ℕ) (f : Found) (is : f ≡ entryAt s at) where
 
   -- the last entry
   pub reading-last : (p : Span) → f ≡ Last p → (readingFrom s at ≡ spans (p ∷ [])) × SpanIn s p
-  reading-last p e = (reading-halt (Last p) (spans (p ∷ [])) e refl, subst (FoundLands s at) (sym is ∙ e) (entry-lands s at))
+  reading-last p e = (
+    reading-halt (Last p) (spans (p ∷ [])) e refl,
+    subst (FoundLands s at) (sym is
+        ∙ e) (entry-lands s at),
+  )
 
   -- an entry, and more of them after a comma
   pub reading-more : (p : Span) (c : Cursor) → f ≡ More p c
       → (readingFrom s at ≡ add p (readingFrom s (c .at))) × (at < c .at) × (c .at ≤ length s) × SpanIn s p
   unfolding readingFrom valueStep
   reading-more p c e =
-      let l = subst (FoundLands s at) (sym is ∙ e) (entry-lands s at) in
-      (walk-move (valueStep s) unfit s at (add p) (c .at) (ap entryMove (sym is ∙ e)) (l .1 .0) (l .1 .1), l .1 .0, l .1 .1, l .0)
+      let l = subst (FoundLands s at) (sym is ∙ e) (entry-lands s at) in (
+        walk-move (valueStep s) unfit s at (add p) (c .at) (ap entryMove (sym is
+            ∙ e)) (l .1 .0) (l .1 .1),
+        l .1 .0,
+        l .1 .1,
+        l .0,
+      )
 
   -- no entry
   pub reading-none : f ≡ None → readingFrom s at ≡ unfit
@@ -93,7 +104,8 @@ module _ (s : List ℕ) where
   ReadingIn unfit = Unit
   ReadingIn (spans ps) = Within ps
 
-  found-ok : (at : ℕ) (i : Found) → FoundLands s at i → (g : Reading → Reading) (n : ℕ) → entryMove i ≡ move g n → Inner s at n
+  found-ok : (at : ℕ) (i : Found) → FoundLands s at i → (g : Reading → Reading) (n : ℕ) → entryMove i ≡ move g n
+      → Inner s at n
   found-ok at (Last p) l g n q = absurd (let z : _≡_ {A = ℕ} 0 1 = cc in omega arith)
   found-ok at (More p c) l g n q = let z : c .at ≡ n = cc in omega arith
   found-ok at None l g n q = absurd (let z : _≡_ {A = ℕ} 0 1 = cc in omega arith)
@@ -111,7 +123,8 @@ module _ (s : List ℕ) where
   add-in p unfit h l = tt
   add-in p (spans ps) h l = (h, l)
 
-  move-in : (at : ℕ) (i : Found) → FoundLands s at i → (g : Reading → Reading) (n : ℕ) (x : Reading) → entryMove i ≡ move g n → ReadingIn x → ReadingIn (g x)
+  move-in : (at : ℕ) (i : Found) → FoundLands s at i → (g : Reading → Reading) (n : ℕ) (x : Reading)
+      → entryMove i ≡ move g n → ReadingIn x → ReadingIn (g x)
   move-in at (Last p) l g n x q r = absurd (let z : _≡_ {A = ℕ} 0 1 = cc in omega arith)
   move-in at (More p c) l g n x q r =
       let z : add p ≡ g = cc in subst (λ (k : Reading → Reading). ReadingIn (k x)) z (add-in p x (l .0) r)

@@ -32,6 +32,7 @@ peeked (x ∷ s) zero b e = omega arith
 peeked (x ∷ s) (suc at) b e = let h = peeked s at b e in omega arith
 
 -- by which way a test goes
-pub by-test {ℓ} : {A : Type ℓ} (P : A → Type 0) (b : Bool) (x y : A) → (b ≡ true → P x) → (b ≡ false → P y) → P (cond b x y)
+pub by-test {ℓ} : {A : Type ℓ} (P : A → Type 0) (b : Bool) (x y : A) → (b ≡ true → P x) → (b ≡ false → P y) → P
+    (cond b x y)
 by-test P true x y f g = f refl
 by-test P false x y f g = g refl

@@ -15,8 +15,11 @@ use Rattle.alert_info.specs.Bytes.{isBlank, isUri, isToken, isText, isEs
 use mathlib.Core.Bool.{cond}
 use Rattle.alert_info.specs.Walk.{run, runAt}
 use Rattle.alert_info.specs.Walk.{Move, halt, move, walkAt}
-use Rattle.alert_info.specs.Parts.{blankAt, blankMove, whiteStep, whiteAt, tokenAt, quoteStep, afterQuote, quotedFrom, quotedAt, settingAt, named, paramAt, paramNext, followingAt, followingMove, endingStep, endingAt, spanTo, found, closedUri, entryAt}
-use Rattle.alert_info.specs.Value.{Reading, unfit, spans, add, entryMove, valueStep, readingFrom, readingOf, partOf}
+use Rattle.alert_info.specs.Parts.{blankAt, blankMove, whiteStep, whiteAt, tokenAt, quoteStep, afterQuote}
+use Rattle.alert_info.specs.Parts.{quotedFrom, quotedAt, settingAt, named, paramAt, paramNext, followingAt}
+use Rattle.alert_info.specs.Parts.{followingMove, endingStep, endingAt, spanTo, found, closedUri, entryAt}
+use Rattle.alert_info.specs.Value.{Reading, unfit, spans, add, entryMove, valueStep, readingFrom, readingOf}
+use Rattle.alert_info.specs.Value.{partOf}
 use Rattle.alert_info.specs.Grammar.{Any, Some, White, Token, Uri, Text, Setting, Param, Params, Entry, Value}
 use Rattle.alert_info.specs.Grammar as G
 use Rattle.alert_info.specs.declared.cursor.Cursor.{Cursor}
@@ -52,13 +55,15 @@ run-any : (p : ℕ → Bool) (l : List ℕ) → Any p (take (run p l) l)
 unfolding run
 run-any p [] = G.none
 run-any p (b ∷ l) =
-    by-test (λ (n : ℕ). Any p (take n (b ∷ l))) (p b) (suc (run p l)) 0 (λ e. G.more (is-true (p b) e) (run-any p l)) (λ _. G.none)
+    by-test (λ (n : ℕ). Any p (take n (b ∷ l))) (p b) (suc (run p l)) 0 (λ e. G.more (is-true (p b) e) (run-any p l))
+    (λ _. G.none)
 
 run-some : (p : ℕ → Bool) (l : List ℕ) → (run p l ≡ 0 → ⊥) → Some p (take (run p l) l)
 unfolding run
 run-some p [] n = absurd (n refl)
 run-some p (b ∷ l) n =
-    by-test (λ (k : ℕ). (k ≡ 0 → ⊥) → Some p (take k (b ∷ l))) (p b) (suc (run p l)) 0 (λ e _. G.some (is-true (p b) e) (run-any p l)) (λ _ z. absurd (z refl)) n
+    by-test (λ (k : ℕ). (k ≡ 0 → ⊥) → Some p (take k (b ∷ l))) (p b) (suc (run p l)) 0
+    (λ e _. G.some (is-true (p b) e) (run-any p l)) (λ _ z. absurd (z refl)) n
 
 -- the bytes from a position up to another
 abbrev pub cut : List ℕ → ℕ → ℕ → List ℕ
@@ -67,7 +72,8 @@ cut s at to = take (to - at) (drop at s)
 module _ (p : ℕ → Bool) (s : List ℕ) (at : ℕ) where
   cut-run : take (run p (drop at s)) (drop at s) ≡ cut s at (runAt p s at)
   unfolding runAt
-  cut-run = let e : run p (drop at s) ≡ at + run p (drop at s) - at = omega arith in ap (λ (n : ℕ). take n (drop at s)) e
+  cut-run = let e : run p (drop at s) ≡ at + run p (drop at s) - at = omega arith in ap
+      (λ (n : ℕ). take n (drop at s)) e
 
   pub run-split : drop at s ≡ cut s at (runAt p s at) ++ drop (runAt p s at) s
   unfolding runAt
@@ -87,14 +93,16 @@ abbrev pub PassedReads : (List ℕ → Type 0) → List ℕ → ℕ → Passed �
 PassedReads K s at (Next c) = Reads K s at (c .at)
 PassedReads K s at Refused = Unit
 
-widen : (K L : List ℕ → Type 0) (s : List ℕ) (at : ℕ) → ((t : List ℕ) → K t → L t) → (p : Passed) → PassedReads K s at p → PassedReads L s at p
+widen : (K L : List ℕ → Type 0) (s : List ℕ) (at : ℕ) → ((t : List ℕ) → K t → L t) → (p : Passed)
+    → PassedReads K s at p → PassedReads L s at p
 widen K L s at f (Next c) r = (r .0, f (r .0) (r .1), r .2)
 widen K L s at f Refused r = tt
 
 -- an open quoted string
 abbrev QuoteReads : Quote → List ℕ → ℕ → Passed → Type 0
 QuoteReads Inside s at (Next c) = (x : List ℕ) × Text x × (drop at s ≡ x ++ (34 ∷ drop (c .at) s))
-QuoteReads Escaped s at (Next c) = (b : ℕ) × (x : List ℕ) × T (isEscapable b) × Text x × (drop at s ≡ b ∷ (x ++ (34 ∷ drop (c .at) s)))
+QuoteReads Escaped s at (Next c) = (b : ℕ) × (x : List ℕ) × T (isEscapable b) × Text x ×
+    (drop at s ≡ b ∷ (x ++ (34 ∷ drop (c .at) s)))
 QuoteReads Closed s at (Next c) = Unit
 QuoteReads Broken s at (Next c) = Unit
 QuoteReads Inside s at Refused = Unit
@@ -115,7 +123,12 @@ module _ (s : List ℕ) where
     plain-step t Refused r = tt
 
     escape-step : b ≡ 92 → (p : Passed) → QuoteReads Escaped s (at + 1) p → QuoteReads Inside s at p
-    escape-step e (Next c) r = (92 ∷ r .0 ∷ r .1, G.escaped (r .2) (r .3), h ∙ ap (λ (x : ℕ). x ∷ drop (at + 1) s) e ∙ ap (λ (x : List ℕ). 92 ∷ x) (r .4))
+    escape-step e (Next c) r = (
+      92 ∷ r .0 ∷ r .1,
+      G.escaped (r .2) (r .3),
+      h ∙ ap (λ (x : ℕ). x ∷ drop (at + 1) s) e
+          ∙ ap (λ (x : List ℕ). 92 ∷ x) (r .4),
+    )
     escape-step e Refused r = tt
 
     escaped-step : T (isEscapable b) → (p : Passed) → QuoteReads Inside s (at + 1) p → QuoteReads Escaped s at p
@@ -155,23 +168,34 @@ module _ (s : List ℕ) where
       let n = next-tail at b l e in
       quote-step at b (e ∙ ap (λ (x : List ℕ). b ∷ x) (sym n)) l (λ r. quoted-from l r (at + 1) n) q
 
-  opened : (at : ℕ) (p : Passed) → drop at s ≡ 34 ∷ drop (at + 1) s → QuoteReads Inside s (at + 1) p → PassedReads Setting s at p
-  opened at (Next c) h r =
-      (34 ∷ (r .0 ++ (34 ∷ [])), G.quoted (r .1), h ∙ ap (λ (x : List ℕ). 34 ∷ x) (r .2 ∙ sym (append-assoc (r .0) (34 ∷ []) (drop (c .at) s))))
+  opened : (at : ℕ) (p : Passed) → drop at s ≡ 34 ∷ drop (at + 1) s → QuoteReads Inside s (at + 1) p
+      → PassedReads Setting s at p
+  opened at (Next c) h r = (
+    34 ∷ (r .0 ++ (34 ∷ [])),
+    G.quoted (r .1),
+    h
+        ∙ ap (λ (x : List ℕ). 34 ∷ x) (r .2 ∙ sym (append-assoc (r .0) (34 ∷ []) (drop (c .at) s))),
+  )
   opened at Refused h r = tt
 
   quoted-reads : (at : ℕ) → PassedReads Setting s at (quotedAt s at)
   unfolding quotedAt
   quoted-reads at =
       by-test (PassedReads Setting s at) (eqb (getD s at 0) 34) (quotedFrom Inside (at + 1) (drop (at + 1) s)) Refused
-      (λ e. opened at (quotedFrom Inside (at + 1) (drop (at + 1) s)) (byte-at s at 33 (eqb-true (getD s at 0) 34 e)) (quoted-from (drop (at + 1) s) Inside (at + 1) refl))
+      (λ e. opened at (quotedFrom Inside (at + 1) (drop (at + 1) s)) (byte-at s at 33 (eqb-true (getD s at 0) 34 e))
+      (quoted-from (drop (at + 1) s) Inside (at + 1) refl))
       (λ _. tt)
 
   token-reads : (at : ℕ) → PassedReads Token s at (tokenAt s at)
   unfolding tokenAt
   token-reads at =
       by-test (PassedReads Token s at) (eqb at (runAt isToken s at)) Refused (Next (record { at = runAt isToken s at })) (λ _. tt)
-      (λ e. (cut s at (runAt isToken s at), some-cut isToken s at (eqb-false at (runAt isToken s at) e), run-split isToken s at))
+      (λ e. (
+        cut s at (runAt isToken s at),
+        some-cut isToken s at
+            (eqb-false at (runAt isToken s at) e),
+        run-split isToken s at,
+      ))
 
   setting-reads : (at : ℕ) → PassedReads Setting s at (settingAt s at)
   unfolding settingAt
@@ -204,31 +228,44 @@ module _ (s : List ℕ) where
       blank-halt : (at k r : ℕ) → blankMove at k ≡ halt r → Reads White s at r
       blank-halt at zero r e = let z : at ≡ r = cc in ([], G.nothing, ap (λ (n : ℕ). drop n s) z)
       blank-halt at (suc k) r e = absurd (let z : _≡_ {A = ℕ} 0 1 = cc in omega arith)
-      blank-on : (at k : ℕ) → BlankReads at k → (g : ℕ → ℕ) (n x : ℕ) → blankMove at k ≡ move g n → Reads White s n x → Reads White s at (g x)
+
+      blank-on : (at k : ℕ) → BlankReads at k → (g : ℕ → ℕ) (n x : ℕ) → blankMove at k ≡ move g n → Reads White s n x
+          → Reads White s at (g x)
       blank-on at zero l g n x e r = absurd (let z : _≡_ {A = ℕ} 0 1 = cc in omega arith)
       blank-on at (suc k) l g n x e r =
           let z : _≡_ {A = ℕ → ℕ} (λ y. y) g = cc in
           let y : at + suc k ≡ n = cc in
           subst (λ (f : ℕ → ℕ). Reads White s at (f x)) z (l (r .0) (r .1) x (ap (λ (m : ℕ). drop m s) y ∙ r .2))
 
-  set-reads : (at : ℕ) (t : List ℕ) (c : Cursor) (x : List ℕ) → White x → drop at s ≡ x ++ (t ++ drop (c .at) s) → Token t
+  set-reads : (at : ℕ) (t : List ℕ) (c : Cursor) (x : List ℕ) → White x → drop at s ≡ x ++ (t ++ drop (c .at) s)
+      → Token t
       → (e : ℕ) → Reads White s (c .at) e → drop e s ≡ 61 ∷ drop (e + 1) s → (v : ℕ) → Reads White s (e + 1) v
       → (p : Passed) → PassedReads Setting s v p → PassedReads Param s at p
   set-reads at t c x wx h tt′ e y q v z (Next d) r = (
     x ++ (t ++ (y .0 ++ (61 ∷ (z .0 ++ r .0)))),
     G.set wx tt′ (y .1) (z .1) (r .1),
-    h ∙ ap (λ (l : List ℕ). x ++ (t ++ l)) (y .2 ∙ ap (λ (l : List ℕ). y .0 ++ l) (q ∙ ap (λ (l : List ℕ). 61 ∷ l) (z .2 ∙ ap (λ (l : List ℕ). z .0 ++ l) (r .2))))
-    ∙ simp append-assoc,
+    h ∙ ap (λ (l : List ℕ). x ++ (t ++ l)) (y .2
+        ∙ ap (λ (l : List ℕ). y .0 ++ l) (q
+        ∙ ap (λ (l : List ℕ). 61 ∷ l) (z .2 ∙ ap (λ (l : List ℕ). z .0 ++ l) (r .2))))
+        ∙ simp append-assoc,
   )
   set-reads at t c x wx h tt′ e y q v z Refused r = tt
 
-  named-reads : (at : ℕ) (x : List ℕ) → White x → (from : ℕ) → drop at s ≡ x ++ drop from s → (p : Passed) → PassedReads Token s from p → PassedReads Param s at (named s p)
+  named-reads : (at : ℕ) (x : List ℕ) → White x → (from : ℕ) → drop at s ≡ x ++ drop from s → (p : Passed)
+      → PassedReads Token s from p → PassedReads Param s at (named s p)
   named-reads at x wx from h (Next c) r =
       let e = whiteAt s (c .at) in
       let v = whiteAt s (e + 1) in
       by-test (PassedReads Param s at) (eqb (getD s e 0) 61) (settingAt s v) (Next c)
-      (λ i. set-reads at (r .0) c x wx (h ∙ ap (λ (l : List ℕ). x ++ l) (r .2)) (r .1) e (white-reads (c .at)) (byte-at s e 60 (eqb-true (getD s e 0) 61 i)) v (white-reads (e + 1)) (settingAt s v) (setting-reads v))
-      (λ _. (x ++ r .0, G.bare wx (r .1), h ∙ ap (λ (l : List ℕ). x ++ l) (r .2) ∙ sym (append-assoc x (r .0) (drop (c .at) s))))
+      (λ i. set-reads at (r .0) c x wx (h
+      ∙ ap (λ (l : List ℕ). x ++ l) (r .2)) (r .1) e (white-reads (c .at)) (byte-at s e 60
+      (eqb-true (getD s e 0) 61 i)) v (white-reads (e + 1)) (settingAt s v) (setting-reads v))
+      (λ _. (
+        x ++ r .0,
+        G.bare wx (r .1),
+        h ∙ ap (λ (l : List ℕ). x ++ l) (r .2)
+            ∙ sym (append-assoc x (r .0) (drop (c .at) s)),
+      ))
   named-reads at x wx from h Refused r = tt
 
   pub param-reads : (at : ℕ) → PassedReads Param s at (paramAt s at)
@@ -241,18 +278,22 @@ module _ (s : List ℕ) where
 abbrev FollowingReads : List ℕ → ℕ → Following → Type 0
 FollowingReads s at following.Nothing = White (drop at s)
 FollowingReads s at (following.Comma c) = (w : List ℕ) × White w × (drop at s ≡ w ++ (44 ∷ drop (c .at) s))
-FollowingReads s at (following.Param c) = (w : List ℕ) × (p : List ℕ) × White w × Param p × (drop at s ≡ w ++ (59 ∷ (p ++ drop (c .at) s)))
+FollowingReads s at (following.Param c) = (w : List ℕ) × (p : List ℕ) × White w × Param p ×
+    (drop at s ≡ w ++ (59 ∷ (p ++ drop (c .at) s)))
 FollowingReads s at following.Stray = Unit
 
 abbrev EndingReads : List ℕ → ℕ → Ending → Type 0
 EndingReads s at ValueEnd = (p : List ℕ) × (w : List ℕ) × Params p × White w × (drop at s ≡ p ++ w)
-EndingReads s at (NextEntry c) = (p : List ℕ) × (w : List ℕ) × Params p × White w × (drop at s ≡ p ++ (w ++ (44 ∷ drop (c .at) s)))
+EndingReads s at (NextEntry c) = (p : List ℕ) × (w : List ℕ) × Params p × White w ×
+    (drop at s ≡ p ++ (w ++ (44 ∷ drop (c .at) s)))
 EndingReads s at NoEnding = Unit
 
 abbrev FoundReads : List ℕ → ℕ → Found → Type 0
-FoundReads s at (Last p) = (w : List ℕ) × (n : List ℕ) × (x : List ℕ) × White w × Entry n (partOf s p) × White x × (drop at s ≡ w ++ (n ++ x))
+FoundReads s at (Last p) = (w : List ℕ) × (n : List ℕ) × (x : List ℕ) × White w × Entry n (partOf s p) × White x ×
+    (drop at s ≡ w ++ (n ++ x))
 FoundReads s at (More p c) =
-    (w : List ℕ) × (n : List ℕ) × (x : List ℕ) × White w × Entry n (partOf s p) × White x × (drop at s ≡ w ++ (n ++ (x ++ (44 ∷ drop (c .at) s))))
+    (w : List ℕ) × (n : List ℕ) × (x : List ℕ) × White w × Entry n (partOf s p) × White x ×
+    (drop at s ≡ w ++ (n ++ (x ++ (44 ∷ drop (c .at) s))))
 FoundReads s at None = Unit
 
 abbrev ReadingReads : List ℕ → ℕ → Reading → Type 0
@@ -260,8 +301,16 @@ ReadingReads s at unfit = Unit
 ReadingReads s at (spans ps) = Value (drop at s) (map (partOf s) ps)
 
 module _ (s : List ℕ) where
-  paramNext-reads : (at w : ℕ) → Reads White s at w → drop w s ≡ 59 ∷ drop (w + 1) s → (p : Passed) → PassedReads Param s (w + 1) p → FollowingReads s at (paramNext p)
-  paramNext-reads at w r h (Next c) q = (r .0, q .0, r .1, q .1, r .2 ∙ ap (λ (l : List ℕ). r .0 ++ l) (h ∙ ap (λ (l : List ℕ). 59 ∷ l) (q .2)))
+  paramNext-reads : (at w : ℕ) → Reads White s at w → drop w s ≡ 59 ∷ drop (w + 1) s → (p : Passed)
+      → PassedReads Param s (w + 1) p → FollowingReads s at (paramNext p)
+  paramNext-reads at w r h (Next c) q = (
+    r .0,
+    q .0,
+    r .1,
+    q .1,
+    r .2
+        ∙ ap (λ (l : List ℕ). r .0 ++ l) (h ∙ ap (λ (l : List ℕ). 59 ∷ l) (q .2)),
+  )
   paramNext-reads at w r h Refused q = tt
 
   append-nil : (l : List ℕ) → l ++ [] ≡ l
@@ -274,33 +323,53 @@ module _ (s : List ℕ) where
       let w = whiteAt s at in
       let r = white-reads s at in
       by-test (FollowingReads s at) (leb (length s) w) following.Nothing _
-      (λ e. subst White (sym (r .2 ∙ ap (λ (l : List ℕ). r .0 ++ l) (drop-of-length-le s (leb-true (length s) w e)) ∙ append-nil (r .0))) (r .1))
+      (λ e. subst White (sym (r .2 ∙ ap (λ (l : List ℕ). r .0 ++ l) (drop-of-length-le s (leb-true (length s) w e))
+      ∙ append-nil (r .0))) (r .1))
       (λ _. by-test (FollowingReads s at) (eqb (getD s w 0) 44) (following.Comma (record { at = w + 1 })) _
       (λ e. (r .0, r .1, r .2 ∙ ap (λ (l : List ℕ). r .0 ++ l) (byte-at s w 43 (eqb-true (getD s w 0) 44 e))))
       (λ _. by-test (FollowingReads s at) (eqb (getD s w 0) 59) (paramNext (paramAt s (w + 1))) following.Stray
-      (λ e. paramNext-reads at w r (byte-at s w 58 (eqb-true (getD s w 0) 59 e)) (paramAt s (w + 1)) (param-reads s (w + 1)))
+      (λ e. paramNext-reads at w r (byte-at s w 58 (eqb-true (getD s w 0) 59 e)) (paramAt s (w + 1))
+      (param-reads s (w + 1)))
       (λ _. tt)))
 
-  following-halt : (at : ℕ) (t : Following) → FollowingReads s at t → (r : Ending) → followingMove t ≡ halt r → EndingReads s at r
-  following-halt at following.Nothing l r e = let z : ValueEnd ≡ r = cc in subst (EndingReads s at) z ([], drop at s, G.done, l, refl)
-  following-halt at (following.Comma c) l r e = let z : NextEntry c ≡ r = cc in subst (EndingReads s at) z ([], l .0, G.done, l .1, l .2)
+  following-halt : (at : ℕ) (t : Following) → FollowingReads s at t → (r : Ending) → followingMove t ≡ halt r
+      → EndingReads s at r
+  following-halt at following.Nothing l r e = let z : ValueEnd ≡ r = cc in subst (EndingReads s at) z
+      ([], drop at s, G.done, l, refl)
+  following-halt at (following.Comma c) l r e = let z : NextEntry c ≡ r = cc in subst (EndingReads s at) z
+      ([], l .0, G.done, l .1, l .2)
   following-halt at (following.Param c) l r e = absurd (let z : _≡_ {A = ℕ} 0 1 = cc in omega arith)
   following-halt at following.Stray l r e = let z : NoEnding ≡ r = cc in subst (EndingReads s at) z tt
 
-  one-more : (at n : ℕ) (w p : List ℕ) → White w → Param p → drop at s ≡ w ++ (59 ∷ (p ++ drop n s)) → (t : Ending) → EndingReads s n t → EndingReads s at t
-  one-more at n w p ww pp h ValueEnd r =
-      (w ++ (59 ∷ (p ++ r .0)), r .1, G.param ww pp (r .2), r .3, h ∙ ap (λ (l : List ℕ). w ++ (59 ∷ (p ++ l))) (r .4) ∙ simp append-assoc)
-  one-more at n w p ww pp h (NextEntry c) r =
-      (w ++ (59 ∷ (p ++ r .0)), r .1, G.param ww pp (r .2), r .3, h ∙ ap (λ (l : List ℕ). w ++ (59 ∷ (p ++ l))) (r .4) ∙ simp append-assoc)
+  one-more : (at n : ℕ) (w p : List ℕ) → White w → Param p → drop at s ≡ w ++ (59 ∷ (p ++ drop n s)) → (t : Ending)
+      → EndingReads s n t → EndingReads s at t
+  one-more at n w p ww pp h ValueEnd r = (
+    w ++ (59 ∷ (p ++ r .0)),
+    r .1,
+    G.param ww pp (r .2),
+    r .3,
+    h ∙ ap (λ (l : List ℕ). w ++ (59 ∷ (p ++ l))) (r .4)
+        ∙ simp append-assoc,
+  )
+  one-more at n w p ww pp h (NextEntry c) r = (
+    w ++ (59 ∷ (p ++ r .0)),
+    r .1,
+    G.param ww pp (r .2),
+    r .3,
+    h ∙ ap (λ (l : List ℕ). w ++ (59 ∷ (p ++ l))) (r .4)
+        ∙ simp append-assoc,
+  )
   one-more at n w p ww pp h NoEnding r = tt
 
-  following-on : (at : ℕ) (t : Following) → FollowingReads s at t → (g : Ending → Ending) (n : ℕ) (x : Ending) → followingMove t ≡ move g n → EndingReads s n x → EndingReads s at (g x)
+  following-on : (at : ℕ) (t : Following) → FollowingReads s at t → (g : Ending → Ending) (n : ℕ) (x : Ending)
+      → followingMove t ≡ move g n → EndingReads s n x → EndingReads s at (g x)
   following-on at following.Nothing l g n x e r = absurd (let z : _≡_ {A = ℕ} 0 1 = cc in omega arith)
   following-on at (following.Comma c) l g n x e r = absurd (let z : _≡_ {A = ℕ} 0 1 = cc in omega arith)
   following-on at (following.Param c) l g n x e r =
       let z : _≡_ {A = Ending → Ending} (λ t. t) g = cc in
       let y : n ≡ c .at = cc in
-      subst (λ (k : Ending → Ending). EndingReads s at (k x)) z (one-more at (c .at) (l .0) (l .1) (l .2) (l .3) (l .4) x (subst (λ (m : ℕ). EndingReads s m x) y r))
+      subst (λ (k : Ending → Ending). EndingReads s at (k x)) z
+      (one-more at (c .at) (l .0) (l .1) (l .2) (l .3) (l .4) x (subst (λ (m : ℕ). EndingReads s m x) y r))
   following-on at following.Stray l g n x e r = absurd (let z : _≡_ {A = ℕ} 0 1 = cc in omega arith)
 
   ending-reads : (at : ℕ) → EndingReads s at (endingAt s at)
@@ -310,15 +379,31 @@ module _ (s : List ℕ) where
       (λ p r e. following-halt p (followingAt s p) (following-reads p) r e)
       (λ p g n x e h l. following-on p (followingAt s p) (following-reads p) g n x e l) at
 
-  closed-reads : (at w e : ℕ) → Reads White s at w → drop w s ≡ 60 ∷ drop (w + 1) s → Uri (cut s (w + 1) e) → drop (w + 1) s ≡ cut s (w + 1) e ++ drop e s
-      → drop e s ≡ 62 ∷ drop (e + 1) s → (t : Ending) → EndingReads s (e + 1) t → FoundReads s at (found (spanTo (w + 1) e) t)
+  closed-reads : (at w e : ℕ) → Reads White s at w → drop w s ≡ 60 ∷ drop (w + 1) s → Uri (cut s (w + 1) e)
+      → drop (w + 1) s ≡ cut s (w + 1) e ++ drop e s
+      → drop e s ≡ 62 ∷ drop (e + 1) s → (t : Ending) → EndingReads s (e + 1) t
+      → FoundReads s at (found (spanTo (w + 1) e) t)
   closed-reads at w e r h u k i ValueEnd q = (
-    r .0, 60 ∷ (cut s (w + 1) e ++ (62 ∷ q .0)), q .1, r .1, G.entry u (q .2), q .3,
-    r .2 ∙ ap (λ (l : List ℕ). r .0 ++ l) (h ∙ ap (λ (l : List ℕ). 60 ∷ l) (k ∙ ap (λ (l : List ℕ). cut s (w + 1) e ++ l) (i ∙ ap (λ (l : List ℕ). 62 ∷ l) (q .4)))) ∙ simp append-assoc,
+    r .0,
+    60 ∷ (cut s (w + 1) e ++ (62 ∷ q .0)),
+    q .1,
+    r .1,
+    G.entry u (q .2),
+    q .3,
+    r .2 ∙ ap (λ (l : List ℕ). r .0 ++ l) (h
+        ∙ ap (λ (l : List ℕ). 60 ∷ l) (k
+        ∙ ap (λ (l : List ℕ). cut s (w + 1) e ++ l) (i ∙ ap (λ (l : List ℕ). 62 ∷ l) (q .4)))) ∙ simp append-assoc,
   )
   closed-reads at w e r h u k i (NextEntry c) q = (
-    r .0, 60 ∷ (cut s (w + 1) e ++ (62 ∷ q .0)), q .1, r .1, G.entry u (q .2), q .3,
-    r .2 ∙ ap (λ (l : List ℕ). r .0 ++ l) (h ∙ ap (λ (l : List ℕ). 60 ∷ l) (k ∙ ap (λ (l : List ℕ). cut s (w + 1) e ++ l) (i ∙ ap (λ (l : List ℕ). 62 ∷ l) (q .4)))) ∙ simp append-assoc,
+    r .0,
+    60 ∷ (cut s (w + 1) e ++ (62 ∷ q .0)),
+    q .1,
+    r .1,
+    G.entry u (q .2),
+    q .3,
+    r .2 ∙ ap (λ (l : List ℕ). r .0 ++ l) (h
+        ∙ ap (λ (l : List ℕ). 60 ∷ l) (k
+        ∙ ap (λ (l : List ℕ). cut s (w + 1) e ++ l) (i ∙ ap (λ (l : List ℕ). 62 ∷ l) (q .4)))) ∙ simp append-assoc,
   )
   closed-reads at w e r h u k i NoEnding q = tt
 
@@ -331,7 +416,8 @@ module _ (s : List ℕ) where
       by-test (FoundReads s at) (eqb (getD s w 0) 60) (closedUri s a e) None
       (λ f. by-test (FoundReads s at) (eqb a e) None _ (λ _. tt)
       (λ n. by-test (FoundReads s at) (eqb (getD s e 0) 62) (found (spanTo a e) (endingAt s (e + 1))) None
-      (λ g. closed-reads at w e (white-reads s at) (byte-at s w 59 (eqb-true (getD s w 0) 60 f)) (some-cut isUri s a (eqb-false a e n)) (run-split isUri s a)
+      (λ g. closed-reads at w e (white-reads s at) (byte-at s w 59 (eqb-true (getD s w 0) 60 f))
+      (some-cut isUri s a (eqb-false a e n)) (run-split isUri s a)
       (byte-at s e 61 (eqb-true (getD s e 0) 62 g)) (endingAt s (e + 1)) (ending-reads (e + 1)))
       (λ _. tt)))
       (λ _. tt)
@@ -339,21 +425,25 @@ module _ (s : List ℕ) where
   entry-halt : (at : ℕ) (i : Found) → FoundReads s at i → (r : Reading) → entryMove i ≡ halt r → ReadingReads s at r
   entry-halt at (Last p) l r q =
       let z : spans (p ∷ []) ≡ r = cc in
-      subst (ReadingReads s at) z (subst (λ (x : List ℕ). Value x (partOf s p ∷ [])) (sym (l .6)) (G.last (l .3) (l .4) (l .5)))
+      subst (ReadingReads s at) z
+      (subst (λ (x : List ℕ). Value x (partOf s p ∷ [])) (sym (l .6)) (G.last (l .3) (l .4) (l .5)))
   entry-halt at (More p c) l r q = absurd (let z : _≡_ {A = ℕ} 0 1 = cc in omega arith)
   entry-halt at None l r q = let z : unfit ≡ r = cc in subst (ReadingReads s at) z tt
 
-  entry-more : (at : ℕ) (p : Span) (c : Cursor) → FoundReads s at (More p c) → (x : Reading) → ReadingReads s (c .at) x → ReadingReads s at (add p x)
+  entry-more : (at : ℕ) (p : Span) (c : Cursor) → FoundReads s at (More p c) → (x : Reading) → ReadingReads s (c .at) x
+      → ReadingReads s at (add p x)
   entry-more at p c l unfit r = tt
   entry-more at p c l (spans ps) r =
       subst (λ (x : List ℕ). Value x (partOf s p ∷ map (partOf s) ps)) (sym (l .6)) (G.comma (l .3) (l .4) (l .5) r)
 
-  entry-on : (at : ℕ) (i : Found) → FoundReads s at i → (g : Reading → Reading) (n : ℕ) (x : Reading) → entryMove i ≡ move g n → ReadingReads s n x → ReadingReads s at (g x)
+  entry-on : (at : ℕ) (i : Found) → FoundReads s at i → (g : Reading → Reading) (n : ℕ) (x : Reading)
+      → entryMove i ≡ move g n → ReadingReads s n x → ReadingReads s at (g x)
   entry-on at (Last p) l g n x q r = absurd (let z : _≡_ {A = ℕ} 0 1 = cc in omega arith)
   entry-on at (More p c) l g n x q r =
       let z : add p ≡ g = cc in
       let y : n ≡ c .at = cc in
-      subst (λ (k : Reading → Reading). ReadingReads s at (k x)) z (entry-more at p c l x (subst (λ (m : ℕ). ReadingReads s m x) y r))
+      subst (λ (k : Reading → Reading). ReadingReads s at (k x)) z
+      (entry-more at p c l x (subst (λ (m : ℕ). ReadingReads s m x) y r))
   entry-on at None l g n x q r = absurd (let z : _≡_ {A = ℕ} 0 1 = cc in omega arith)
 
   value-reads : (at : ℕ) → ReadingReads s at (readingFrom s at)

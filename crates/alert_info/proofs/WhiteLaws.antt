@@ -35,7 +35,8 @@ module _ (s : List ℕ) where
       let P : ℕ → Type 0 = λ k. at + k ≤ max at (length s) in
       by-test P (isBlank (getD s at 0)) 1 0 (λ e. omega (arith, blank-in at e)) (λ _. omega arith)
 
-  blank-ok : (at k : ℕ) → at + k ≤ max at (length s) → (g : ℕ → ℕ) (n : ℕ) → blankMove at k ≡ move g n → (at < n) × (n ≤ length s)
+  blank-ok : (at k : ℕ) → at + k ≤ max at (length s) → (g : ℕ → ℕ) (n : ℕ) → blankMove at k ≡ move g n
+      → (at < n) × (n ≤ length s)
   blank-ok at zero h g n e = absurd (let z : _≡_ {A = ℕ} 0 1 = cc in omega arith)
   blank-ok at (suc k) h g n e = let z : at + suc k ≡ n = cc in omega arith
 
@@ -51,7 +52,8 @@ module _ (s : List ℕ) where
   halt-bound at zero r e = let z : at ≡ r = cc in omega arith
   halt-bound at (suc k) r e = absurd (let z : _≡_ {A = ℕ} 0 1 = cc in omega arith)
 
-  move-bound : (at k : ℕ) (g : ℕ → ℕ) (n x : ℕ) → blankMove at k ≡ move g n → n ≤ length s → at < n → Bound n x → Bound at (g x)
+  move-bound : (at k : ℕ) (g : ℕ → ℕ) (n x : ℕ) → blankMove at k ≡ move g n → n ≤ length s → at < n → Bound n x
+      → Bound at (g x)
   unfolding Bound
   move-bound at zero g n x e h i l = absurd (let z : _≡_ {A = ℕ} 0 1 = cc in omega arith)
   move-bound at (suc k) g n x e h i l =
@@ -78,14 +80,17 @@ module _ (s : List ℕ) where
   unfolding whiteAt whiteStep
   white-stop at k e f = walk-halt (whiteStep s) 0 s at at (ap (blankMove at) (sym e ∙ f))
 
-  blank-go : (at k : ℕ) → k ≡ blankAt s at → (j : ℕ) → k ≡ suc j → (whiteAt s at ≡ whiteAt s (at + k)) × (at < at + k) × (at + k ≤ length s)
+  blank-go : (at k : ℕ) → k ≡ blankAt s at → (j : ℕ) → k ≡ suc j
+      → (whiteAt s at ≡ whiteAt s (at + k)) × (at < at + k) × (at + k ≤ length s)
   unfolding whiteAt whiteStep
   blank-go at k e j f =
-      let m : blankMove at (blankAt s at) ≡ move (λ r. r) (at + k) = ap (blankMove at) (sym e ∙ f) ∙ ap (λ (n : ℕ). move (λ r. r) (at + n)) (sym f) in
+      let m : blankMove at (blankAt s at) ≡ move (λ r. r) (at + k) = ap (blankMove at) (sym e ∙ f)
+      ∙ ap (λ (n : ℕ). move (λ r. r) (at + n)) (sym f) in
       let o = white-ok at (λ r. r) (at + k) m in
       (walk-move (whiteStep s) 0 s at (λ r. r) (at + k) m (o .0) (o .1), o .0, o .1)
 
-  pub white-more : (at k : ℕ) → k ≡ blankAt s at → (k ≡ 0 → ⊥) → (whiteAt s at ≡ whiteAt s (at + k)) × (at < at + k) × (at + k ≤ length s)
+  pub white-more : (at k : ℕ) → k ≡ blankAt s at → (k ≡ 0 → ⊥)
+      → (whiteAt s at ≡ whiteAt s (at + k)) × (at < at + k) × (at + k ≤ length s)
   white-more at zero e f = absurd (f refl)
   white-more at (suc j) e f = blank-go at (suc j) e j refl
 

@@ -119,7 +119,11 @@ impl Cursor {
         ensures { λ r. ⌜ r ≡ tokenAt (now (s .entry)) (self .at) ⌝ }
     {
         let c = self.run(classes, s, TOKEN);
-        if self.at == c.at { Passed::Refused } else { Passed::Next(c) }
+        if self.at == c.at {
+            Passed::Refused
+        } else {
+            Passed::Next(c)
+        }
     }
 
     // Past a quoted string.

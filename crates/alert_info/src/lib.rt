@@ -13,10 +13,11 @@ mod c;
 mod classes;
 mod cursor;
 mod value;
+
+use crate::value::judge;
 pub use alert_param::Found;
 pub use alert_param::Span;
 pub use cursor::Cursor;
-use crate::value::judge;
 ghost use mathlib.Core.Path.{_≡_};
 ghost use Rattle.alert_info.specs.Value.{refusalOf, entriesOf, entryOf, entryRefusalOf};
 

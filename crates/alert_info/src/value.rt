@@ -1,8 +1,8 @@
 // A pass over a whole value, and what is answered about it.
-use crate::classes::table;
-use crate::cursor::Cursor;
 use crate::alert_param::Found;
 use crate::alert_param::Span;
+use crate::classes::table;
+use crate::cursor::Cursor;
 ghost use mathlib.Core.Path.{_≡_};
 ghost use Prim.Native.Nat.{_≤_};
 ghost use lib.ListN.{length};

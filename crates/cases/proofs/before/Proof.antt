@@ -18,7 +18,8 @@ part-result-start : tie.Need-part-result-start
 part-result-start c = search needs
 
 part-result-end : tie.Need-part-result-end
-part-result-end c = omega (arith, c .find .ensures, short (c .before .before .args .mark) (now (c .before .before .args .s)))
+part-result-end c = omega
+    (arith, c .find .ensures, short (c .before .before .args .mark) (now (c .before .before .args .s)))
 
 returns : tie.Need-returns
 returns c = before-found _ _ _ (c .before .find .ensures)

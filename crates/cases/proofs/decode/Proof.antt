@@ -14,7 +14,8 @@ use Rattle.cases.proofs.decode.Lts as lts
 use Rattle.cases.proofs.hex_digit.Reads as hex-digit-reads
 
 abbrev Inv-loop : tie.InvT-loop
-Inv-loop text out₀ n room k₀ out k = (k ≤ n) × (k ≤ length out₀) × (length out ≡ length out₀) × (out ≡ over (tab (hexPair text) k) out₀)
+Inv-loop text out₀ n room k₀ out k = (k ≤ n) × (k ≤ length out₀) × (length out ≡ length out₀) ×
+    (out ≡ over (tab (hexPair text) k) out₀)
 
 abbrev μ-loop : tie.MeasureT-loop
 μ-loop text out₀ n room k₀ out k = n - k
@@ -65,7 +66,17 @@ loop-less : tie.Need-loop-less Inv-loop μ-loop
 loop-less c = search needs
 
 loop-again : tie.Need-loop-again Inv-loop μ-loop
-loop-again c = (omega arith, omega arith, simp length-set (c .before .before .before .before .before .before .loop .inv .2), over-more _ _ _ _ _ (c .before .before .before .before .before .before .loop .inv .3) (omega arith) (pair-is (now (c .before .before .before .before .before .before .before .before .before .args .text)) (c .before .before .before .before .before .before .loop .k) _ _ (c .before .before .hex-digit .ensures .0) (c .hex-digit2 .ensures .0)))
+loop-again c = (
+  omega arith,
+  omega arith,
+  simp length-set
+      (c .before .before .before .before .before .before .loop .inv .2),
+  over-more _ _ _ _ _
+      (c .before .before .before .before .before .before .loop .inv .3) (omega arith)
+      (pair-is (now (c .before .before .before .before .before .before .before .before .before .args .text))
+      (c .before .before .before .before .before .before .loop .k) _ _ (c .before .before .hex-digit .ensures .0)
+      (c .hex-digit2 .ensures .0)),
+)
 
 same-length-2 : tie.Need-same-length-2 Inv-loop μ-loop
 same-length-2 c = c .before .loop .inv .2

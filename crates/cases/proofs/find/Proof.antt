@@ -24,7 +24,9 @@ shared-slice-read-if1 : tie.Need-shared-slice-read-if1 Inv-loop μ-loop
 shared-slice-read-if1 c = search needs
 
 returns : tie.Need-returns Inv-loop μ-loop
-returns c = sym (c .before .before .before .loop .inv ∙ find-here (c .before .before .before .before .args .mark) (now (c .before .before .before .before .args .s)) (c .before .before .before .loop .at) (search needs) (c .if1 .taken))
+returns c = sym (c .before .before .before .loop .inv
+    ∙ find-here (c .before .before .before .before .args .mark) (now (c .before .before .before .before .args .s))
+    (c .before .before .before .loop .at) (search needs) (c .if1 .taken))
 
 add-at : tie.Need-add-at Inv-loop μ-loop
 add-at c = search needs
@@ -33,10 +35,13 @@ loop-less : tie.Need-loop-less Inv-loop μ-loop
 loop-less c = search needs
 
 loop-again : tie.Need-loop-again Inv-loop μ-loop
-loop-again c = c .before .before .before .loop .inv ∙ find-next (c .before .before .before .before .args .mark) (now (c .before .before .before .before .args .s)) (c .before .before .before .loop .at) (search needs) (c .if1 .left)
+loop-again c = c .before .before .before .loop .inv
+    ∙ find-next (c .before .before .before .before .args .mark) (now (c .before .before .before .before .args .s))
+    (c .before .before .before .loop .at) (search needs) (c .if1 .left)
 
 returns-2 : tie.Need-returns-2 Inv-loop μ-loop
-returns-2 c = sym (c .before .loop .inv ∙ find-none (c .before .before .args .mark) (now (c .before .before .args .s)) (c .before .loop .at) (search needs))
+returns-2 c = sym (c .before .loop .inv
+    ∙ find-none (c .before .before .args .mark) (now (c .before .before .args .s)) (c .before .loop .at) (search needs))
 
 pub find-spec : {M : Type 1} → statement M
 find-spec =

@@ -18,7 +18,8 @@ returns c = from _ _ _ _ (c .before .enum-told .given .1) (simp (eq-eqb _ _ (c .
 
 returns-2 : tie.Need-returns-2
 unfolding quoteStep
-returns-2 c = from _ _ _ _ (c .before .before .enum-told .given .1) (simp (ne-eqb _ _ (c .before .if1 .left), eq-eqb _ _ (c .if2 .taken)))
+returns-2 c = from _ _ _ _ (c .before .before .enum-told .given .1)
+    (simp (ne-eqb _ _ (c .before .if1 .left), eq-eqb _ _ (c .if2 .taken)))
 
 has-requires : tie.Need-has-requires
 has-requires c κs = search needs
@@ -37,11 +38,25 @@ enum-told-4 c = search needs
 
 returns-3 : tie.Need-returns-3
 unfolding quoteStep
-returns-3 c = from _ _ _ _ (c .before .before .before .before .enum-told .given .1) (simp (ne-eqb _ _ (c .before .before .before .if1 .left), ne-eqb _ _ (c .before .before .if2 .left), ← c .before .has .ensures, c .if3 .taken))
+returns-3 c = from _ _ _ _ (c .before .before .before .before .enum-told .given .1)
+    (simp (
+      ne-eqb _ _ (c .before .before .before .if1 .left),
+      ne-eqb _ _
+          (c .before .before .if2 .left),
+      ← c .before .has .ensures,
+      c .if3 .taken,
+    ))
 
 returns-4 : tie.Need-returns-4
 unfolding quoteStep
-returns-4 c = from _ _ _ _ (c .before .before .before .before .enum-told .given .1) (simp (ne-eqb _ _ (c .before .before .before .if1 .left), ne-eqb _ _ (c .before .before .if2 .left), ← c .before .has .ensures, c .if3 .left))
+returns-4 c = from _ _ _ _ (c .before .before .before .before .enum-told .given .1)
+    (simp (
+      ne-eqb _ _ (c .before .before .before .if1 .left),
+      ne-eqb _ _
+          (c .before .before .if2 .left),
+      ← c .before .has .ensures,
+      c .if3 .left,
+    ))
 
 returns-5 : tie.Need-returns-5
 unfolding quoteStep

@@ -36,7 +36,12 @@ note-requires : tie.Need-note-requires Inv-loop μ-loop
 note-requires c κs = search needs
 
 loop-less : tie.Need-loop-less Inv-loop μ-loop
-loop-less c = omega (arith, reading-more (now (c .before .before .before .before .before .before .before .args .v)) (c .before .before .before .before .before .loop .at) _ (c .before .before .before .before .entry-with .ensures) _ _ (c .before .before .found .given .1))
+loop-less c = omega (
+  arith,
+  reading-more (now (c .before .before .before .before .before .before .before .args .v))
+      (c .before .before .before .before .before .loop .at) _
+      (c .before .before .before .before .entry-with .ensures) _ _ (c .before .before .found .given .1),
+)
 
 loop-again : tie.Need-loop-again Inv-loop μ-loop
 loop-again c =
@@ -44,10 +49,11 @@ loop-again c =
     let k = c .before .before .before .before .before .before .before .args .k in
     let l = c .before .before .before .before .before .loop in
     let p = c .before .before .found .given .0 in
-    let m = reading-more s (l .at) _ (c .before .before .before .before .entry-with .ensures) _ _ (c .before .before .found .given .1) in
-    let n : c .note .result .entries ≡ l .t .entries + 1 = ap (λ (x : Scan). x .entries) (c .note .ensures) in
-    (
-      scan-more k (l .t) (c .note .result) (p .0) (scanOf s k) (readingFrom s (l .at)) (readingFrom s (p .1 .0 .at)) (l .inv .0) (m .0) (c .note .ensures),
+    let m = reading-more s (l .at) _ (c .before .before .before .before .entry-with .ensures) _ _
+    (c .before .before .found .given .1) in
+    let n : c .note .result .entries ≡ l .t .entries + 1 = ap (λ (x : Scan). x .entries) (c .note .ensures) in (
+      scan-more k (l .t) (c .note .result) (p .0) (scanOf s k) (readingFrom s (l .at)) (readingFrom s (p .1 .0 .at))
+          (l .inv .0) (m .0) (c .note .ensures),
       omega arith,
       m .2,
     )
@@ -59,13 +65,22 @@ note-requires-2 : tie.Need-note-requires-2 Inv-loop μ-loop
 note-requires-2 c κs = search needs
 
 returns : tie.Need-returns Inv-loop μ-loop
-returns c = c .note2 .ensures ∙ sym (c .before .before .before .before .before .loop .inv .0 ∙ ap (summary (c .before .before .before .before .before .before .before .args .k) (c .before .before .before .before .before .loop .t)) (reading-last (now (c .before .before .before .before .before .before .before .args .v)) (c .before .before .before .before .before .loop .at) _ (c .before .before .before .before .entry-with .ensures) _ (c .before .before .found2 .given .1) .0) ∙ summary-last (c .before .before .before .before .before .before .before .args .k) (c .before .before .before .before .before .loop .t) _)
+returns c = c .note2 .ensures
+    ∙ sym (c .before .before .before .before .before .loop .inv .0
+    ∙ ap (summary (c .before .before .before .before .before .before .before .args .k)
+    (c .before .before .before .before .before .loop .t)) (reading-last
+    (now (c .before .before .before .before .before .before .before .args .v))
+    (c .before .before .before .before .before .loop .at) _ (c .before .before .before .before .entry-with .ensures) _
+    (c .before .before .found2 .given .1) .0) ∙ summary-last (c .before .before .before .before .before .before .before .args .k) (c .before .before .before .before .before .loop .t) _)
 
 enum-told : tie.Need-enum-told Inv-loop μ-loop
 enum-told c = search needs
 
 returns-2 : tie.Need-returns-2 Inv-loop μ-loop
-returns-2 c = sym (c .before .before .before .loop .inv .0 ∙ ap (summary (c .before .before .before .before .before .args .k) (c .before .before .before .loop .t)) (reading-none (now (c .before .before .before .before .before .args .v)) (c .before .before .before .loop .at) _ (c .before .before .entry-with .ensures) (c .enum-told .given .1)))
+returns-2 c = sym (c .before .before .before .loop .inv .0
+    ∙ ap (summary (c .before .before .before .before .before .args .k) (c .before .before .before .loop .t))
+    (reading-none (now (c .before .before .before .before .before .args .v)) (c .before .before .before .loop .at) _
+    (c .before .before .entry-with .ensures) (c .enum-told .given .1)))
 
 pub scan-value-spec : {M : Type 1} → statement M
 scan-value-spec =

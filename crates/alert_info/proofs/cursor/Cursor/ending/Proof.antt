@@ -28,28 +28,39 @@ enum-known-next : tie.Need-enum-known-next Inv-loop μ-loop
 enum-known-next c = search needs
 
 loop-less : tie.Need-loop-less Inv-loop μ-loop
-loop-less c = omega (arith, ending-more (now (c .before .before .before .before .before .before .args .s)) (c .before .before .before .before .loop .at) _ _ (c .before .before .before .following .ensures) (c .before .next .given .1))
+loop-less c = omega (
+  arith,
+  ending-more (now (c .before .before .before .before .before .before .args .s))
+      (c .before .before .before .before .loop .at) _ _ (c .before .before .before .following .ensures)
+      (c .before .next .given .1),
+)
 
 loop-again : tie.Need-loop-again Inv-loop μ-loop
-loop-again c = c .before .before .before .before .loop .inv ∙ ending-more (now (c .before .before .before .before .before .before .args .s)) (c .before .before .before .before .loop .at) _ _ (c .before .before .before .following .ensures) (c .before .next .given .1) .0
+loop-again c = c .before .before .before .before .loop .inv
+    ∙ ending-more (now (c .before .before .before .before .before .before .args .s))
+    (c .before .before .before .before .loop .at) _ _ (c .before .before .before .following .ensures)
+    (c .before .next .given .1) .0
 
 enum-told : tie.Need-enum-told Inv-loop μ-loop
 enum-told c = search needs
 
 returns : tie.Need-returns Inv-loop μ-loop
-returns c = sym (c .before .before .before .loop .inv ∙ ending-halt _ _ _ _ _ (c .before .before .following .ensures) (c .enum-told .given .1) refl)
+returns c = sym (c .before .before .before .loop .inv
+    ∙ ending-halt _ _ _ _ _ (c .before .before .following .ensures) (c .enum-told .given .1) refl)
 
 enum-known-next-2 : tie.Need-enum-known-next-2 Inv-loop μ-loop
 enum-known-next-2 c = search needs
 
 returns-2 : tie.Need-returns-2 Inv-loop μ-loop
-returns-2 c = sym (c .before .before .before .before .loop .inv ∙ ending-halt _ _ _ _ _ (c .before .before .before .following .ensures) (c .before .next2 .given .1) refl)
+returns-2 c = sym (c .before .before .before .before .loop .inv
+    ∙ ending-halt _ _ _ _ _ (c .before .before .before .following .ensures) (c .before .next2 .given .1) refl)
 
 enum-told-2 : tie.Need-enum-told-2 Inv-loop μ-loop
 enum-told-2 c = search needs
 
 returns-3 : tie.Need-returns-3 Inv-loop μ-loop
-returns-3 c = sym (c .before .before .before .loop .inv ∙ ending-halt _ _ _ _ _ (c .before .before .following .ensures) (c .enum-told2 .given .1) refl)
+returns-3 c = sym (c .before .before .before .loop .inv
+    ∙ ending-halt _ _ _ _ _ (c .before .before .following .ensures) (c .enum-told2 .given .1) refl)
 
 pub ending-spec : {M : Type 1} → statement M
 ending-spec =

@@ -1,4 +1,3 @@
-
 use Prim.Native.Nat.{_+_}
 use Rattle.alert_info.specs.Bytes.{isUri}
 use Rattle.alert_info.proofs.Lands.{run-from}
@@ -27,25 +26,44 @@ returns : tie.Need-returns
 returns c = entry-open _ _ _ (c .before .before .white .ensures) _ (c .before .peek .ensures) (c .if1 .taken)
 
 add-start : tie.Need-add-start
-add-start c = omega (arith, peeked (now (c .before .before .before .before .args .s)) (c .before .before .white .result .at) 59 (sym (c .before .peek .ensures) ∙ c .if1 .left))
+add-start c = omega (
+  arith,
+  peeked (now (c .before .before .before .before .args .s)) (c .before .before .white .result .at) 59
+      (sym (c .before .peek .ensures) ∙ c .if1 .left),
+)
 
 run-requires : tie.Need-run-requires
 run-requires c κs = search needs
 
 returns-2 : tie.Need-returns-2
-returns-2 c = entry-empty _ _ _ (c .before .before .before .before .white .ensures) _ (c .before .before .before .peek .ensures) (c .before .before .if1 .left) _ (c .before .run .ensures) (c .if2 .taken)
+returns-2 c = entry-empty _ _ _ (c .before .before .before .before .white .ensures) _
+    (c .before .before .before .peek .ensures) (c .before .before .if1 .left) _ (c .before .run .ensures)
+    (c .if2 .taken)
 
 peek-requires-2 : tie.Need-peek-requires-2
 peek-requires-2 c κs = search needs
 
 returns-3 : tie.Need-returns-3
-returns-3 c = entry-closed _ _ _ (c .before .before .before .before .before .before .white .ensures) _ (c .before .before .before .before .before .peek .ensures) (c .before .before .before .before .if1 .left) _ (c .before .before .before .run .ensures) (c .before .before .if2 .left) _ (c .before .peek2 .ensures) (c .if3 .taken)
+returns-3 c = entry-closed _ _ _ (c .before .before .before .before .before .before .white .ensures) _
+    (c .before .before .before .before .before .peek .ensures) (c .before .before .before .before .if1 .left) _
+    (c .before .before .before .run .ensures) (c .before .before .if2 .left) _ (c .before .peek2 .ensures)
+    (c .if3 .taken)
 
 sub-len : tie.Need-sub-len
-sub-len c = omega (arith, c .before .before .before .run .ensures, run-from isUri (now (c .before .before .before .before .before .before .before .before .args .s)) (c .before .before .before .before .before .before .white .result .at + 1))
+sub-len c = omega (
+  arith,
+  c .before .before .before .run .ensures,
+  run-from isUri
+      (now (c .before .before .before .before .before .before .before .before .args .s))
+      (c .before .before .before .before .before .before .white .result .at + 1),
+)
 
 add-after : tie.Need-add-after
-add-after c = omega (arith, peeked (now (c .before .before .before .before .before .before .before .before .args .s)) (c .before .before .before .run .result .at) 61 (sym (c .before .peek2 .ensures) ∙ c .if3 .left))
+add-after c = omega (
+  arith,
+  peeked (now (c .before .before .before .before .before .before .before .before .args .s))
+      (c .before .before .before .run .result .at) 61 (sym (c .before .peek2 .ensures) ∙ c .if3 .left),
+)
 
 ending-requires : tie.Need-ending-requires
 ending-requires c κs = search needs
@@ -60,13 +78,32 @@ enum-told-2 : tie.Need-enum-told-2
 enum-told-2 c = search needs
 
 returns-4 : tie.Need-returns-4
-returns-4 c = entry-some _ _ _ (c .before .before .before .before .before .before .before .before .before .white .ensures) _ (c .before .before .before .before .before .before .before .before .peek .ensures) (c .before .before .before .before .before .before .before .if1 .left) _ (c .before .before .before .before .before .before .run .ensures) (c .before .before .before .before .before .if2 .left) _ (c .before .before .before .before .peek2 .ensures) (c .before .before .before .if3 .left) _ _ (c .before .before .ending .ensures) (c .enum-told .given .1)
+returns-4 c = entry-some _ _ _
+    (c .before .before .before .before .before .before .before .before .before .white .ensures) _
+    (c .before .before .before .before .before .before .before .before .peek .ensures)
+    (c .before .before .before .before .before .before .before .if1 .left) _
+    (c .before .before .before .before .before .before .run .ensures)
+    (c .before .before .before .before .before .if2 .left) _ (c .before .before .before .before .peek2 .ensures)
+    (c .before .before .before .if3 .left) _ _ (c .before .before .ending .ensures) (c .enum-told .given .1)
 
 returns-5 : tie.Need-returns-5
-returns-5 c = entry-some _ _ _ (c .before .before .before .before .before .before .before .before .before .before .white .ensures) _ (c .before .before .before .before .before .before .before .before .before .peek .ensures) (c .before .before .before .before .before .before .before .before .if1 .left) _ (c .before .before .before .before .before .before .before .run .ensures) (c .before .before .before .before .before .before .if2 .left) _ (c .before .before .before .before .before .peek2 .ensures) (c .before .before .before .before .if3 .left) _ _ (c .before .before .before .ending .ensures) (c .before .rest .given .1)
+returns-5 c = entry-some _ _ _
+    (c .before .before .before .before .before .before .before .before .before .before .white .ensures) _
+    (c .before .before .before .before .before .before .before .before .before .peek .ensures)
+    (c .before .before .before .before .before .before .before .before .if1 .left) _
+    (c .before .before .before .before .before .before .before .run .ensures)
+    (c .before .before .before .before .before .before .if2 .left) _
+    (c .before .before .before .before .before .peek2 .ensures) (c .before .before .before .before .if3 .left) _ _
+    (c .before .before .before .ending .ensures) (c .before .rest .given .1)
 
 returns-6 : tie.Need-returns-6
-returns-6 c = entry-some _ _ _ (c .before .before .before .before .before .before .before .before .before .white .ensures) _ (c .before .before .before .before .before .before .before .before .peek .ensures) (c .before .before .before .before .before .before .before .if1 .left) _ (c .before .before .before .before .before .before .run .ensures) (c .before .before .before .before .before .if2 .left) _ (c .before .before .before .before .peek2 .ensures) (c .before .before .before .if3 .left) _ _ (c .before .before .ending .ensures) (c .enum-told2 .given .1)
+returns-6 c = entry-some _ _ _
+    (c .before .before .before .before .before .before .before .before .before .white .ensures) _
+    (c .before .before .before .before .before .before .before .before .peek .ensures)
+    (c .before .before .before .before .before .before .before .if1 .left) _
+    (c .before .before .before .before .before .before .run .ensures)
+    (c .before .before .before .before .before .if2 .left) _ (c .before .before .before .before .peek2 .ensures)
+    (c .before .before .before .if3 .left) _ _ (c .before .before .ending .ensures) (c .enum-told2 .given .1)
 
 pub entry-with-spec : {M : Type 1} → statement M
 entry-with-spec =

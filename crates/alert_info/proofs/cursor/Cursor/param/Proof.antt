@@ -26,7 +26,8 @@ enum-told : tie.Need-enum-told
 enum-told c = search needs
 
 returns : tie.Need-returns
-returns c = param-none _ _ _ (c .before .before .before .white .ensures) _ (c .before .before .token .ensures) (c .enum-told .given .1)
+returns c = param-none _ _ _ (c .before .before .before .white .ensures) _ (c .before .before .token .ensures)
+    (c .enum-told .given .1)
 
 white-requires-2 : tie.Need-white-requires-2
 white-requires-2 c κs = search needs
@@ -35,10 +36,17 @@ peek-requires : tie.Need-peek-requires
 peek-requires c κs = search needs
 
 returns-2 : tie.Need-returns-2
-returns-2 c = param-bare _ _ _ (c .before .before .before .before .before .before .before .white .ensures) _ (c .before .before .before .before .before .before .token .ensures) _ (c .before .before .before .before .name .given .1) _ (c .before .before .white2 .ensures) _ (c .before .peek .ensures) (c .if1 .taken)
+returns-2 c = param-bare _ _ _ (c .before .before .before .before .before .before .before .white .ensures) _
+    (c .before .before .before .before .before .before .token .ensures) _
+    (c .before .before .before .before .name .given .1) _ (c .before .before .white2 .ensures) _
+    (c .before .peek .ensures) (c .if1 .taken)
 
 add-after : tie.Need-add-after
-add-after c = omega (arith, peeked (now (c .before .before .before .before .before .before .before .before .before .args .s)) (c .before .before .white2 .result .at) 60 (sym (c .before .peek .ensures) ∙ c .if1 .left))
+add-after c = omega (
+  arith,
+  peeked (now (c .before .before .before .before .before .before .before .before .before .args .s))
+      (c .before .before .white2 .result .at) 60 (sym (c .before .peek .ensures) ∙ c .if1 .left),
+)
 
 white-requires-3 : tie.Need-white-requires-3
 white-requires-3 c κs = search needs
@@ -47,7 +55,12 @@ setting-requires : tie.Need-setting-requires
 setting-requires c κs = search needs
 
 returns-3 : tie.Need-returns-3
-returns-3 c = param-set _ _ _ (c .before .before .before .before .before .before .before .before .before .white .ensures) _ (c .before .before .before .before .before .before .before .before .token .ensures) _ (c .before .before .before .before .before .before .name .given .1) _ (c .before .before .before .before .white2 .ensures) _ (c .before .before .before .peek .ensures) (c .before .before .if1 .left) _ _ (c .before .white3 .ensures) (c .setting .ensures)
+returns-3 c = param-set _ _ _
+    (c .before .before .before .before .before .before .before .before .before .white .ensures) _
+    (c .before .before .before .before .before .before .before .before .token .ensures) _
+    (c .before .before .before .before .before .before .name .given .1) _
+    (c .before .before .before .before .white2 .ensures) _ (c .before .before .before .peek .ensures)
+    (c .before .before .if1 .left) _ _ (c .before .white3 .ensures) (c .setting .ensures)
 
 pub param-spec : {M : Type 1} → statement M
 param-spec =

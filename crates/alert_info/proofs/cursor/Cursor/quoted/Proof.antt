@@ -32,12 +32,17 @@ abbrev μ-loop : tie.MeasureT-loop
 abbrev S : tie.At-loop Inv-loop μ-loop → List ℕ
 S c = now (c .before .before .before .before .before .args .s)
 
-open-at : (c : tie.At-loop Inv-loop μ-loop) → quotedAt (S c) (c .before .before .before .before .before .args .self .at) ≡ quotedFrom (c .loop .q) (c .loop .at) (drop (c .loop .at) (S c))
-open-at c = opened (S c) (c .before .before .before .before .before .args .self .at) (sym (c .before .before .before .peek .ensures) ∙ c .before .before .if1 .left) ∙ c .loop .inv
+open-at : (c : tie.At-loop Inv-loop μ-loop)
+    → quotedAt (S c) (c .before .before .before .before .before .args .self .at) ≡ quotedFrom (c .loop .q)
+    (c .loop .at) (drop (c .loop .at) (S c))
+open-at c = opened (S c) (c .before .before .before .before .before .args .self .at)
+    (sym (c .before .before .before .peek .ensures) ∙ c .before .before .if1 .left) ∙ c .loop .inv
 
 -- a turn
-turn : (c : tie.At-loop Inv-loop μ-loop) (r k : Quote) → c .loop .at < length (S c) → r ≡ quoteStep (c .loop .q) (getD (S c) (c .loop .at) 0) → r ≡ k
-    → quotedAt (S c) (c .before .before .before .before .before .args .self .at) ≡ afterQuote k (c .loop .at + 1) (quotedFrom r (c .loop .at + 1) (drop (c .loop .at + 1) (S c)))
+turn : (c : tie.At-loop Inv-loop μ-loop) (r k : Quote) → c .loop .at < length (S c)
+    → r ≡ quoteStep (c .loop .q) (getD (S c) (c .loop .at) 0) → r ≡ k
+    → quotedAt (S c) (c .before .before .before .before .before .args .self .at) ≡ afterQuote k (c .loop .at + 1)
+    (quotedFrom r (c .loop .at + 1) (drop (c .loop .at + 1) (S c)))
 turn c r k h e f = open-at c ∙ quoted-to (S c) (c .loop .q) (c .loop .at) r k h e f
 
 peek-requires : tie.Need-peek-requires Inv-loop μ-loop
@@ -48,7 +53,8 @@ unfolding quotedAt
 returns c = simp (← c .before .peek .ensures, ne-eqb _ _ (c .if1 .taken))
 
 add-at : tie.Need-add-at Inv-loop μ-loop
-add-at c = let a = c .before .before .before .before .args in omega (arith, peeked (now (a .s)) (a .self .at) 33 (sym (c .before .before .peek .ensures) ∙ c .before .if1 .left))
+add-at c = let a = c .before .before .before .before .args in omega
+    (arith, peeked (now (a .s)) (a .self .at) 33 (sym (c .before .before .peek .ensures) ∙ c .before .if1 .left))
 
 loop-holds : tie.Need-loop-holds Inv-loop μ-loop
 loop-holds c = refl
@@ -66,13 +72,17 @@ enum-told : tie.Need-enum-told Inv-loop μ-loop
 enum-told c = search needs
 
 returns-2 : tie.Need-returns-2 Inv-loop μ-loop
-returns-2 c = sym (turn (c .before .before .before .before .before) _ Closed (search needs) (c .before .before .quote-step .ensures) (c .enum-told .given .1))
+returns-2 c = sym
+    (turn (c .before .before .before .before .before) _ Closed (search needs) (c .before .before .quote-step .ensures)
+    (c .enum-told .given .1))
 
 enum-told-2 : tie.Need-enum-told-2 Inv-loop μ-loop
 enum-told-2 c = search needs
 
 returns-3 : tie.Need-returns-3 Inv-loop μ-loop
-returns-3 c = sym (turn (c .before .before .before .before .before) _ Broken (search needs) (c .before .before .quote-step .ensures) (c .enum-told2 .given .1))
+returns-3 c = sym
+    (turn (c .before .before .before .before .before) _ Broken (search needs) (c .before .before .quote-step .ensures)
+    (c .enum-told2 .given .1))
 
 enum-told-3 : tie.Need-enum-told-3 Inv-loop μ-loop
 enum-told-3 c = search needs
@@ -81,7 +91,9 @@ loop-less : tie.Need-loop-less Inv-loop μ-loop
 loop-less c = search needs
 
 loop-again : tie.Need-loop-again Inv-loop μ-loop
-loop-again c = let l = c .before .before .before .before .before in l .loop .inv ∙ quoted-to (S l) (l .loop .q) (l .loop .at) _ Inside (search needs) (c .before .before .quote-step .ensures) (c .enum-told3 .given .1)
+loop-again c = let l = c .before .before .before .before .before in l .loop .inv
+    ∙ quoted-to (S l) (l .loop .q) (l .loop .at) _ Inside (search needs) (c .before .before .quote-step .ensures)
+    (c .enum-told3 .given .1)
 
 enum-told-4 : tie.Need-enum-told-4 Inv-loop μ-loop
 enum-told-4 c = search needs
@@ -90,10 +102,13 @@ loop-less-2 : tie.Need-loop-less-2 Inv-loop μ-loop
 loop-less-2 c = search needs
 
 loop-again-2 : tie.Need-loop-again-2 Inv-loop μ-loop
-loop-again-2 c = let l = c .before .before .before .before .before in l .loop .inv ∙ quoted-to (S l) (l .loop .q) (l .loop .at) _ Escaped (search needs) (c .before .before .quote-step .ensures) (c .enum-told4 .given .1)
+loop-again-2 c = let l = c .before .before .before .before .before in l .loop .inv
+    ∙ quoted-to (S l) (l .loop .q) (l .loop .at) _ Escaped (search needs) (c .before .before .quote-step .ensures)
+    (c .enum-told4 .given .1)
 
 returns-4 : tie.Need-returns-4 Inv-loop μ-loop
-returns-4 c = sym (open-at (c .before) ∙ quoted-end (S (c .before)) (c .before .loop .q) (c .before .loop .at) (search needs))
+returns-4 c = sym (open-at (c .before)
+    ∙ quoted-end (S (c .before)) (c .before .loop .q) (c .before .loop .at) (search needs))
 
 pub quoted-spec : {M : Type 1} → statement M
 quoted-spec =

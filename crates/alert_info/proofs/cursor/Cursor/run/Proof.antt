@@ -30,7 +30,10 @@ has-requires : tie.Need-has-requires Inv-loop μ-loop
 has-requires c κs = search needs
 
 returns : tie.Need-returns Inv-loop μ-loop
-returns c = let a = c .before .before .before .before .before .before .args in sym (c .before .before .before .before .loop .inv ∙ run-stop (inClass (a .class)) (now (a .s)) (c .before .before .before .before .loop .at) (search needs) (sym (c .before .has .ensures) ∙ not-true _ (c .if1 .taken)))
+returns c = let a = c .before .before .before .before .before .before .args in sym
+    (c .before .before .before .before .loop .inv
+    ∙ run-stop (inClass (a .class)) (now (a .s)) (c .before .before .before .before .loop .at) (search needs)
+    (sym (c .before .has .ensures) ∙ not-true _ (c .if1 .taken)))
 
 add-at : tie.Need-add-at Inv-loop μ-loop
 add-at c = search needs
@@ -42,7 +45,8 @@ loop-again : tie.Need-loop-again Inv-loop μ-loop
 loop-again c = let a = c .before .before .before .before .before .before .args in c .before .before .before .before .loop .inv ∙ run-step (inClass (a .class)) (now (a .s)) (c .before .before .before .before .loop .at) (search needs) (sym (c .before .has .ensures) ∙ not-false _ (c .if1 .left))
 
 returns-2 : tie.Need-returns-2 Inv-loop μ-loop
-returns-2 c = let a = c .before .before .before .args in sym (c .before .loop .inv ∙ run-end (inClass (a .class)) (now (a .s)) (c .before .loop .at) (search needs))
+returns-2 c = let a = c .before .before .before .args in sym (c .before .loop .inv
+    ∙ run-end (inClass (a .class)) (now (a .s)) (c .before .loop .at) (search needs))
 
 pub run-spec : {M : Type 1} → statement M
 run-spec =

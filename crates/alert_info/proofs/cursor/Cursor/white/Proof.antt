@@ -28,10 +28,18 @@ returns : tie.Need-returns Inv-loop μ-loop
 returns c = sym (c .before .before .loop .inv ∙ white-stop _ _ _ (c .before .blank .ensures) (c .if1 .taken))
 
 add-at : tie.Need-add-at Inv-loop μ-loop
-add-at c = omega (arith, white-more (now (c .before .before .before .before .args .s)) (c .before .before .loop .at) _ (c .before .blank .ensures) (c .if1 .left))
+add-at c = omega (
+  arith,
+  white-more (now (c .before .before .before .before .args .s)) (c .before .before .loop .at) _
+      (c .before .blank .ensures) (c .if1 .left),
+)
 
 loop-less : tie.Need-loop-less Inv-loop μ-loop
-loop-less c = omega (arith, white-more (now (c .before .before .before .before .args .s)) (c .before .before .loop .at) _ (c .before .blank .ensures) (c .if1 .left))
+loop-less c = omega (
+  arith,
+  white-more (now (c .before .before .before .before .args .s)) (c .before .before .loop .at) _
+      (c .before .blank .ensures) (c .if1 .left),
+)
 
 loop-again : tie.Need-loop-again Inv-loop μ-loop
 loop-again c = c .before .before .loop .inv ∙ white-more _ _ _ (c .before .blank .ensures) (c .if1 .left) .0
