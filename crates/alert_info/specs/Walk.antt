@@ -1,9 +1,9 @@
 -- Going along a list: over a run of bytes of one kind, or in strides. Structural on the list, with no fuel.
 -- Assumes nothing.
 use Prim.Native.Nat.{ℕ, zero, suc, _+_, _-_}
-use mathlib.Core.Bool.{Bool, cond}
+use mathlib.Core.Bool.{Bool, cond, _&&_}
 use mathlib.Core.List.{List, [], _∷_}
-use lib.ListN.{drop}
+use lib.ListN.{getD, drop}
 
 -- how many bytes at the front pass a test
 unfoldable pub run : (ℕ → Bool) → List ℕ → ℕ
@@ -13,6 +13,10 @@ run p (b ∷ l) = cond (p b) (suc (run p l)) 0
 -- the position after the run at a position
 unfoldable pub runAt : (ℕ → Bool) → List ℕ → ℕ → ℕ
 runAt p s at = at + run p (drop at s)
+
+-- the four bytes at a position pass a test
+abbrev pub fourAt : (ℕ → Bool) → List ℕ → ℕ → Bool
+fourAt p s at = p (getD s at 0) && (p (getD s (at + 1) 0) && (p (getD s (at + 2) 0) && p (getD s (at + 3) 0)))
 
 -- a step at a position: end with a result, or go on at a later position and change what comes back from there
 pub data Move (R : Type 0) : Type 0 where

@@ -5,10 +5,10 @@ use crate::classes::TEXT;
 use crate::classes::TOKEN;
 use crate::classes::has;
 ghost use mathlib.Core.Path.{_≡_};
-ghost use Prim.Native.Nat.{_<_};
-ghost use lib.ListN.{getD};
+ghost use Prim.Native.Nat.{_<_, _≤_, _+_};
+ghost use lib.ListN.{length, getD};
 ghost use Rattle.alert_info.specs.Bytes.{inClass, Classes};
-ghost use Rattle.alert_info.specs.Walk.{runAt};
+ghost use Rattle.alert_info.specs.Walk.{runAt, fourAt};
 ghost use Rattle.alert_info.specs.Parts.{blankAt, whiteAt, tokenAt, quoteStep, quotedAt};
 
 // A position in a value. Its methods hand back the cursor after what they pass.
@@ -70,12 +70,51 @@ impl Cursor {
         if at < s.len() { s[at] } else { 0 }
     }
 
+    // The four bytes from here on are all in a class.
+    fn four(self, classes: &[u8; 256], s: &[u8], class: u8) -> bool
+        requires { ⌜ (class < 5) × Classes (now classes) × (self .at + 4 ≤ length (now s)) ⌝ }
+        ensures { λ r. ⌜ r ≡ fourAt (inClass class) (now (s .entry)) (self .at) ⌝ }
+    {
+        let at = self.at;
+        if !has(classes, s[at], class) {
+            return false;
+        }
+        if !has(classes, s[at + 1], class) {
+            return false;
+        }
+        if !has(classes, s[at + 2], class) {
+            return false;
+        }
+        has(classes, s[at + 3], class)
+    }
+
+    // Past the bytes of a class, four at a time: a quicker way through the most of them.
+    fn run_fours(self, classes: &[u8; 256], s: &[u8], class: u8) -> Cursor
+        requires { ⌜ (class < 5) × Classes (now classes) ⌝ }
+        ensures { λ r. ⌜ runAt (inClass class) (now (s .entry)) (self .at) ≡ runAt (inClass class) (now (s .entry)) (r .at) ⌝ }
+    {
+        let end = s.len();
+        let mut at = self.at;
+        while at < end {
+            let c = Cursor { at };
+            if end - at < 4 {
+                return c;
+            }
+            if !c.four(classes, s, class) {
+                return c;
+            }
+            at += 4;
+        }
+        Cursor { at }
+    }
+
     // Past all bytes of a class.
     pub(crate) fn run(self, classes: &[u8; 256], s: &[u8], class: u8) -> Cursor
         requires { ⌜ (class < 5) × Classes (now classes) ⌝ }
         ensures { λ r. ⌜ r .at ≡ runAt (inClass class) (now (s .entry)) (self .at) ⌝ }
     {
-        let mut at = self.at;
+        let c = self.run_fours(classes, s, class);
+        let mut at = c.at;
         while at < s.len() {
             if !has(classes, s[at], class) {
                 return Cursor { at };
