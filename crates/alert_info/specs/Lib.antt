@@ -4,3 +4,4 @@ pub mod Walk
 pub mod Parts
 pub mod Value
 pub mod Pass
+pub mod Claims
