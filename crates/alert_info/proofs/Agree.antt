@@ -34,13 +34,15 @@ misfit s = ((λ e us k. let a = complete s us k in never (readingOf s) (a .0) e 
   where
     never : (r : Reading) (ps : List Span) → r ≡ unfit → r ≡ spans ps → ⊥
     never r ps e f = let z : _≡_ {A = ℕ} 0 1 = cc in omega arith
+
     go : (r : Reading) → readingOf s ≡ r → ((us : List (List ℕ)) → Value s us → ⊥) → readingOf s ≡ unfit
     go unfit e n = e
     go (spans ps) e n = absurd (n (map (partOf s) ps) (sound s ps e))
 
 module _ (s : List ℕ) where
   -- the number that is given says what holds
-  few : length s ≤ 4096 → (ps : List Span) → readingOf s ≡ spans ps → (x : Bool) → ltb 64 (length ps) ≡ x → Given s (refusalOf s)
+  few : length s ≤ 4096 → (ps : List Span) → readingOf s ≡ spans ps → (x : Bool) → ltb 64 (length ps) ≡ x
+      → Given s (refusalOf s)
   few short ps e true f =
       let m = ltb-true 64 (length ps) f in
       subst (Given s) (sym (refusal-many s short (spans ps) e ps refl m))
@@ -62,12 +64,14 @@ module _ (s : List ℕ) where
   given : (n : ℕ) → Given s n → refusalOf s ≡ n
   given zero (short, us, k, h) =
       let a = complete s us k in
-      refusal-none s short (readingOf s) refl (a .0) (a .1) (omega (arith, length-map (a .0) (partOf s), ap length (a .2)))
+      refusal-none s short (readingOf s) refl (a .0) (a .1)
+      (omega (arith, length-map (a .0) (partOf s), ap length (a .2)))
   given (suc zero) h = refusal-long s h
   given (suc (suc zero)) (short, n) = refusal-unfit s short (readingOf s) refl (misfit s .1 n)
   given (suc (suc (suc zero))) (short, us, k, h) =
       let a = complete s us k in
-      refusal-many s short (readingOf s) refl (a .0) (a .1) (omega (arith, length-map (a .0) (partOf s), ap length (a .2)))
+      refusal-many s short (readingOf s) refl (a .0) (a .1)
+      (omega (arith, length-map (a .0) (partOf s), ap length (a .2)))
   given (suc (suc (suc (suc n)))) h = absurd h
 
 pub refused-exactly : RefusedExactly

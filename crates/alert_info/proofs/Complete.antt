@@ -15,7 +15,7 @@ use Rattle.alert_info.specs.Bytes.{isBlank, isUri, isToken, isText, isEs
 use mathlib.Core.Bool.{cond}
 use Rattle.alert_info.specs.Walk.{run, runAt}
 use Rattle.alert_info.specs.Walk.{Move, halt, move, walkAt}
-use Rattle.alert_info.specs.Parts.{blankAt, whiteAt, tokenAt, quoteStep, afterQuote, quotedFrom, quotedAt}
+use Rattle.alert_info.specs.Parts.{blankAt, whiteAt, tokenAt, quoteAt, quotedFrom, quotedAt}
 use Rattle.alert_info.specs.Parts.{settingAt, paramAt, followingAt, followingMove, endingAt, spanTo, found}
 use Rattle.alert_info.specs.Parts.{entryAt}
 use Rattle.alert_info.specs.Value.{Reading, unfit, spans, add, entryMove, readingFrom, readingOf, partOf}
@@ -23,7 +23,7 @@ use Rattle.alert_info.specs.Grammar.{Any, Some, White, Token, Uri, Text,
 use Rattle.alert_info.specs.Grammar as G
 use Rattle.alert_info.specs.declared.cursor.Cursor.{Cursor}
 use Rattle.alert_info.specs.declared.cursor.Quote.{Quote}
-use Rattle.alert_info.specs.declared.cursor.Quote.the-variants.{Inside, Escaped, Closed, Broken}
+use Rattle.alert_info.specs.declared.cursor.Quote.the-variants.{Closed, Escaped, Unclosed}
 use Rattle.alert_info.specs.declared.cursor.Passed.{Passed}
 use Rattle.alert_info.specs.declared.cursor.Passed.the-variants.{Next, Refused}
 use Rattle.alert_info.specs.declared.alert_param.Span.{Span}
@@ -33,7 +33,9 @@ use Rattle.alert_info.specs.declared.alert_param.Ending.{Ending}
 use Rattle.alert_info.specs.declared.alert_param.Ending.the-variants.{ValueEnd, NextEntry, NoEnding}
 use Rattle.alert_info.specs.declared.alert_param.Found.{Found}
 use Rattle.alert_info.specs.declared.alert_param.Found.the-variants.{Last, More, None}
-use Rattle.alert_info.proofs.QuoteLaws.{quoted-to, opened}
+use Rattle.alert_info.proofs.QuoteLaws.{opened, quote-closed, quote-escaped, quoted-halt, quoted-more}
+use Rattle.alert_info.proofs.QuoteLaws.{quoted-text}
+use Rattle.alert_info.proofs.RunLaws.{run-stop}
 use Rattle.alert_info.proofs.PartLaws.{token-some, setting-quoted, setting-token, param-bare, param-set}
 use Rattle.alert_info.proofs.PartLaws.{following-stop, following-entry, following-param, ending-halt}
 use Rattle.alert_info.proofs.PartLaws.{ending-more, entry-some}
@@ -119,48 +121,31 @@ token-to s at r e (G.some {b = b} {l = l} t a) h =
       run-past isToken s at (b ∷ l) r e h (G.more t a),
     )
 
-text-not : (b : ℕ) → T (isText b) → (b ≡ 34 → ⊥) × (b ≡ 92 → ⊥)
-unfolding isText
-text-not b t = ((λ e. subst (λ (x : ℕ). T (isText x)) e t), (λ e. subst (λ (x : ℕ). T (isText x)) e t))
-
-text-stays : (b : ℕ) → T (isText b) → quoteStep Inside b ≡ Inside
-unfolding quoteStep
-text-stays b t = simp (ne-eqb b 34 (text-not b t .0), ne-eqb b 92 (text-not b t .1), to-true (isText b) t)
-
-escaped-stays : (b : ℕ) → T (isEscapable b) → quoteStep Escaped b ≡ Inside
-unfolding quoteStep
-escaped-stays b t = simp (to-true (isEscapable b) t)
-
 module _ (s : List ℕ) (r : List ℕ) where
-  text-to : {x : List ℕ} → Text x → (at : ℕ) → drop at s ≡ x ++ (34 ∷ r)
-      → PassedTo s r (quotedFrom Inside at (drop at s))
-  unfolding quoteStep
-  text-to G.ends at e = (
-    record { at = at + 1 },
-    sym
-        (quoted-to s Inside at Closed Closed (front-in s at 34 r e)
-        (sym (ap (quoteStep Inside) (front-byte s at 34 r e))) refl),
-    front-rest s at 34 r e,
-  )
+  text-to : {x : List ℕ} → Text x → (at : ℕ) → drop at s ≡ x ++ (34 ∷ r) → PassedTo s r (quotedFrom s at)
+  unfolding isText
+  text-to G.ends at e =
+      let b = front-byte s at 34 r e in
+      let n = run-stop isText s at (front-in s at 34 r e) (ap isText b) in
+      let c : Cursor = record { at = at + 1 } in
+      let q = quote-closed s at at (sym n) (getD s at 0) refl b in
+      (c, sym (quoted-halt s at (quoteAt s at) (Closed c) (Next c) refl (sym q) refl), front-rest s at 34 r e)
   text-to (G.plain {b = b} {l = l} t x) at e =
-      let n = text-to x (at + 1) (front-rest s at b (l ++ (34 ∷ r)) e) in (
-        n .0,
-        n .1
-            ∙ sym (quoted-to s Inside at Inside Inside (front-in s at b (l ++ (34 ∷ r)) e)
-            (sym (ap (quoteStep Inside) (front-byte s at b (l ++ (34 ∷ r)) e) ∙ text-stays b t)) refl),
-        n .2,
-      )
+      let n = text-to x (at + 1) (front-rest s at b (l ++ (34 ∷ r)) e) in
+      let f = ap isText (front-byte s at b (l ++ (34 ∷ r)) e) ∙ to-true (isText b) t in
+      (n .0, n .1 ∙ sym (quoted-text s at (front-in s at b (l ++ (34 ∷ r)) e) f), n .2)
   text-to (G.escaped {b = b} {l = l} t x) at e =
+      let k = front-byte s at 92 (b ∷ (l ++ (34 ∷ r))) e in
+      let n = run-stop isText s at (front-in s at 92 (b ∷ (l ++ (34 ∷ r))) e) (ap isText k) in
       let f = front-rest s at 92 (b ∷ (l ++ (34 ∷ r))) e in
-      let n = text-to x (at + 1 + 1) (front-rest s (at + 1) b (l ++ (34 ∷ r)) f) in (
-        n .0,
-        n .1
-            ∙ sym (quoted-to s Escaped (at + 1) Inside Inside (front-in s (at + 1) b (l ++ (34 ∷ r)) f)
-            (sym (ap (quoteStep Escaped) (front-byte s (at + 1) b (l ++ (34 ∷ r)) f) ∙ escaped-stays b t)) refl)
-            ∙ sym (quoted-to s Inside at Escaped Escaped (front-in s at 92 (b ∷ (l ++ (34 ∷ r))) e)
-            (sym (ap (quoteStep Inside) (front-byte s at 92 (b ∷ (l ++ (34 ∷ r))) e))) refl),
-        n .2,
-      )
+      let c : Cursor = record { at = at + 1 + 1 } in
+      let no : getD s at 0 ≡ 34 → ⊥ = λ z. let y : _≡_ {A = ℕ} 92 34 = sym k ∙ z in omega arith in
+      let i = ap isEscapable (front-byte s (at + 1) b (l ++ (34 ∷ r)) f) ∙ to-true (isEscapable b) t in
+      let q = quote-escaped s at at (sym n) (getD s at 0) refl no k (front-in s (at + 1) b (l ++ (34 ∷ r)) f)
+      (isEscapable (getD s (at + 1) 0)) refl i in
+      let m = quoted-more s at (quoteAt s at) c refl (sym q) in
+      let j = text-to x (at + 1 + 1) (front-rest s (at + 1) b (l ++ (34 ∷ r)) f) in
+      (j .0, j .1 ∙ sym (m .0), j .2)
 
   pub setting-to : {v : List ℕ} → Setting v → (at : ℕ) → drop at s ≡ v ++ r → Stops isToken r
       → PassedTo s r (settingAt s at)

@@ -8,17 +8,18 @@ use native.Mathlib.Omega.{arith}
 use lib.Dec.{eqb, leb}
 use lib.ListN.{length, getD, drop, length-drop}
 use borrow.Author.Tests.{eqb-true, eqb-false, leb-false}
-use Rattle.alert_info.specs.Bytes.{isToken, isUri, isBlank}
+use Rattle.alert_info.specs.Bytes.{isToken, isUri, isText, isEscapable}
 use mathlib.Core.Bool.{cond}
 use Rattle.alert_info.specs.Walk.{run, runAt}
 use Rattle.alert_info.specs.Walk.{Move, halt, move, walkAt}
-use Rattle.alert_info.specs.Parts.{whiteAt, moved, tokenAt, quoteStep, afterQuote, quotedFrom, quotedAt}
+use Rattle.alert_info.specs.Parts.{whiteAt, moved, tokenAt, escapeByte, quoteByte, quoteAt, quoteMove, quotedStep}
+use Rattle.alert_info.specs.Parts.{quotedFrom, quotedAt}
 use Rattle.alert_info.specs.Parts.{settingAt, named, paramAt, paramNext, followingByte, followingAt}
 use Rattle.alert_info.specs.Parts.{followingMove, endingStep, endingAt, spanTo, found, closedUri, bracket}
 use Rattle.alert_info.specs.Parts.{entryAt}
 use Rattle.alert_info.specs.declared.cursor.Cursor.{Cursor}
 use Rattle.alert_info.specs.declared.cursor.Quote.{Quote}
-use Rattle.alert_info.specs.declared.cursor.Quote.the-variants.{Inside, Escaped, Closed, Broken}
+use Rattle.alert_info.specs.declared.cursor.Quote.the-variants.{Closed, Escaped, Unclosed}
 use Rattle.alert_info.specs.declared.cursor.Passed.{Passed}
 use Rattle.alert_info.specs.declared.cursor.Passed.the-variants.{Next, Refused}
 use Rattle.alert_info.specs.declared.alert_param.Span.{Span}
@@ -54,6 +55,11 @@ abbrev pub Lands : List ℕ → ℕ → Passed → Type 0
 Lands s at (Next c) = Inner s at (c .at)
 Lands s at Refused = Unit
 
+abbrev pub QuoteLands : List ℕ → ℕ → Quote → Type 0
+QuoteLands s at (Closed c) = Inner s at (c .at)
+QuoteLands s at (Escaped c) = Inner s at (c .at)
+QuoteLands s at Unclosed = Unit
+
 later : (s : List ℕ) (at from : ℕ) (p : Passed) → at ≤ from → Lands s from p → Lands s at p
 later s at from (Next c) h l = omega arith
 later s at from Refused h l = tt
@@ -65,29 +71,54 @@ module _ (s : List ℕ) where
       by-test (Lands s at) (eqb at (runAt isToken s at)) Refused (Next (record { at = runAt isToken s at })) (λ _. tt)
       (λ e. let n = eqb-false at (runAt isToken s at) e in omega (arith, n, run-from isToken s at, run-to isToken s at))
 
-  quote-lands : (at n : ℕ) (r : Quote) (p : Passed) → at + 1 ≤ n → n ≤ length s → Lands s at p
-      → Lands s at (afterQuote r n p)
-  quote-lands at n Inside p h k l = l
-  quote-lands at n Escaped p h k l = l
-  quote-lands at n Closed p h k l = omega arith
-  quote-lands at n Broken p h k l = tt
+  pub quote-lands : (at : ℕ) → QuoteLands s at (quoteAt s at)
+  unfolding quoteAt
+  quote-lands at =
+      let e = runAt isText s at in
+      by-test (QuoteLands s at) (eqb (getD s e 0) 34) (Closed (record { at = e + 1 })) _
+      (λ q. let h = peeked s e 33 (eqb-true _ _ q) in omega (arith, h, run-from isText s at))
+      (λ _. by-test (QuoteLands s at) (eqb (getD s e 0) 92) (escapeByte s (e + 1)) Unclosed
+      (λ _. by-test (QuoteLands s at) (leb (length s) (e + 1)) Unclosed _ (λ _. tt)
+      (λ i. let h = leb-false (length s) (e + 1) i in
+      by-test (QuoteLands s at) (isEscapable (getD s (e + 1) 0)) (Escaped (record { at = e + 1 + 1 })) Unclosed
+      (λ _. omega (arith, h, run-from isText s at)) (λ _. tt)))
+      (λ _. tt))
 
-  quoted-lands-from : (q : Quote) (at : ℕ) (l : List ℕ) → at + length l ≤ length s → Lands s at (quotedFrom q at l)
-  unfolding quotedFrom
-  quoted-lands-from q at [] h = tt
-  quoted-lands-from q at (b ∷ l) h =
-      quote-lands at (at + 1) (quoteStep q b) (quotedFrom (quoteStep q b) (at + 1) l) (omega arith) (omega arith)
-      (later s at (at + 1) (quotedFrom (quoteStep q b) (at + 1) l) (omega arith)
-      (quoted-lands-from (quoteStep q b) (at + 1) l (omega arith)))
+  quote-ok : (at : ℕ) (q : Quote) → QuoteLands s at q → (g : Passed → Passed) (n : ℕ) → quoteMove q ≡ move g n
+      → Inner s at n
+  quote-ok at (Closed c) l g n e = absurd (let z : _≡_ {A = ℕ} 0 1 = cc in omega arith)
+  quote-ok at (Escaped c) l g n e = let z : c .at ≡ n = cc in omega arith
+  quote-ok at Unclosed l g n e = absurd (let z : _≡_ {A = ℕ} 0 1 = cc in omega arith)
+
+  pub quoted-ok : (at : ℕ) (g : Passed → Passed) (n : ℕ) → quotedStep s at ≡ move g n → Inner s at n
+  unfolding quotedStep
+  quoted-ok at g n e = quote-ok at (quoteAt s at) (quote-lands at) g n e
+
+  quote-halt : (at : ℕ) (q : Quote) → QuoteLands s at q → (r : Passed) → quoteMove q ≡ halt r → Lands s at r
+  quote-halt at (Closed c) l r e = let z : Next c ≡ r = cc in subst (Lands s at) z l
+  quote-halt at (Escaped c) l r e = absurd (let z : _≡_ {A = ℕ} 0 1 = cc in omega arith)
+  quote-halt at Unclosed l r e = let z : Refused ≡ r = cc in subst (Lands s at) z tt
+
+  quote-on : (at : ℕ) (q : Quote) (g : Passed → Passed) (n : ℕ) (x : Passed) → quoteMove q ≡ move g n → at ≤ n
+      → Lands s n x → Lands s at (g x)
+  quote-on at (Closed c) g n x e h l = absurd (let z : _≡_ {A = ℕ} 0 1 = cc in omega arith)
+  quote-on at (Escaped c) g n x e h l =
+      let z : _≡_ {A = Passed → Passed} (λ p. p) g = cc in
+      subst (λ (k : Passed → Passed). Lands s at (k x)) z (later s at n x h l)
+  quote-on at Unclosed g n x e h l = absurd (let z : _≡_ {A = ℕ} 0 1 = cc in omega arith)
+
+  quoted-lands-from : (at : ℕ) → Lands s at (quotedFrom s at)
+  unfolding quotedFrom quotedStep
+  quoted-lands-from at =
+      walk-ind (quotedStep s) Refused s quoted-ok (Lands s)
+      (λ p r e. quote-halt p (quoteAt s p) (quote-lands p) r e)
+      (λ p g n x e h l. quote-on p (quoteAt s p) g n x e (omega arith) l) at
 
   pub quoted-lands : (at : ℕ) → Lands s at (quotedAt s at)
   unfolding quotedAt
   quoted-lands at =
-      by-test (Lands s at) (eqb (getD s at 0) 34) (quotedFrom Inside (at + 1) (drop (at + 1) s)) Refused
-      (λ e. let h = peeked s at 33 (eqb-true _ _ e) in
-      later s at (at + 1) (quotedFrom Inside (at + 1) (drop (at + 1) s)) (omega arith)
-      (quoted-lands-from Inside (at + 1) (drop (at + 1) s) (omega (arith, length-drop (at + 1) s))))
-      (λ _. tt)
+      by-test (Lands s at) (eqb (getD s at 0) 34) (quotedFrom s (at + 1)) Refused
+      (λ _. later s at (at + 1) (quotedFrom s (at + 1)) (omega arith) (quoted-lands-from (at + 1))) (λ _. tt)
 
   pub setting-lands : (at : ℕ) → Lands s at (settingAt s at)
   unfolding settingAt

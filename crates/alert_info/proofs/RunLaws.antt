@@ -36,7 +36,8 @@ four-all false b c d e = absurd (let y : _≡_ {A = ℕ} 0 1 = cc in omega arith
 pub run-four : (p : ℕ → Bool) (s : List ℕ) (at : ℕ) (x : Bool) → at + 4 ≤ length s → x ≡ fourAt p s at → x ≡ true
     → runAt p s at ≡ runAt p s (at + 4)
 run-four p s at x h g e =
-    let f = four-all (p (getD s at 0)) (p (getD s (at + 1) 0)) (p (getD s (at + 2) 0)) (p (getD s (at + 3) 0)) (sym g ∙ e) in
+    let f = four-all (p (getD s at 0)) (p (getD s (at + 1) 0)) (p (getD s (at + 2) 0)) (p (getD s (at + 3) 0)) (sym g
+    ∙ e) in
     let two : at + 1 + 1 ≡ at + 2 = omega arith in
     let three : at + 2 + 1 ≡ at + 3 = omega arith in
     let all : at + 3 + 1 ≡ at + 4 = omega arith in
@@ -66,11 +67,13 @@ yes-and x r e = sym (ap (λ (z : Bool). z && r) e)
 
 module _ (p : ℕ → Bool) (s : List ℕ) (at : ℕ) (a : Bool) (is-a : a ≡ p (getD s at 0)) where
   pub four-1 : a ≡ false → false ≡ fourAt p s at
-  four-1 f = no-and (p (getD s at 0)) (p (getD s (at + 1) 0) && (p (getD s (at + 2) 0) && p (getD s (at + 3) 0))) (sym is-a ∙ f)
+  four-1 f = no-and (p (getD s at 0)) (p (getD s (at + 1) 0) && (p (getD s (at + 2) 0) && p (getD s (at + 3) 0)))
+      (sym is-a ∙ f)
 
   module _ (ta : a ≡ true) (b : Bool) (is-b : b ≡ p (getD s (at + 1) 0)) where
     past-1 : (p (getD s (at + 1) 0) && (p (getD s (at + 2) 0) && p (getD s (at + 3) 0))) ≡ fourAt p s at
-    past-1 = yes-and (p (getD s at 0)) (p (getD s (at + 1) 0) && (p (getD s (at + 2) 0) && p (getD s (at + 3) 0))) (sym is-a ∙ ta)
+    past-1 = yes-and (p (getD s at 0)) (p (getD s (at + 1) 0) && (p (getD s (at + 2) 0) && p (getD s (at + 3) 0)))
+        (sym is-a ∙ ta)
 
     pub four-2 : b ≡ false → false ≡ fourAt p s at
     four-2 f = no-and (p (getD s (at + 1) 0)) (p (getD s (at + 2) 0) && p (getD s (at + 3) 0)) (sym is-b ∙ f) ∙ past-1

@@ -15,8 +15,10 @@ use Rattle.alert_info.specs.Bytes.{isBlank, isUri, isToken, isText, isEs
 use mathlib.Core.Bool.{cond}
 use Rattle.alert_info.specs.Walk.{run, runAt}
 use Rattle.alert_info.specs.Walk.{Move, halt, move, walkAt}
-use Rattle.alert_info.specs.Parts.{blankAt, blankMove, whiteStep, whiteAt, tokenAt, quoteStep, afterQuote}
-use Rattle.alert_info.specs.Parts.{quotedFrom, quotedAt, settingAt, named, paramAt, paramNext, followingAt}
+use Rattle.alert_info.specs.Parts.{blankAt, blankMove, whiteStep, whiteAt, tokenAt, escapeByte, quoteByte}
+use Rattle.alert_info.specs.Parts.{quoteAt, quoteMove}
+use Rattle.alert_info.specs.Parts.{quotedStep, quotedFrom, quotedAt, settingAt, named, paramAt, paramNext}
+use Rattle.alert_info.specs.Parts.{followingAt}
 use Rattle.alert_info.specs.Parts.{followingMove, endingStep, endingAt, spanTo, found, closedUri, entryAt}
 use Rattle.alert_info.specs.Value.{Reading, unfit, spans, add, entryMove, valueStep, readingFrom, readingOf}
 use Rattle.alert_info.specs.Value.{partOf}
@@ -24,7 +26,7 @@ use Rattle.alert_info.specs.Grammar.{Any, Some, White, Token, Uri, Text,
 use Rattle.alert_info.specs.Grammar as G
 use Rattle.alert_info.specs.declared.cursor.Cursor.{Cursor}
 use Rattle.alert_info.specs.declared.cursor.Quote.{Quote}
-use Rattle.alert_info.specs.declared.cursor.Quote.the-variants.{Inside, Escaped, Closed, Broken}
+use Rattle.alert_info.specs.declared.cursor.Quote.the-variants.{Closed, Escaped, Unclosed}
 use Rattle.alert_info.specs.declared.cursor.Passed.{Passed}
 use Rattle.alert_info.specs.declared.cursor.Passed.the-variants.{Next, Refused}
 use Rattle.alert_info.specs.declared.alert_param.Span.{Span}
@@ -37,7 +39,7 @@ use Rattle.alert_info.specs.declared.alert_param.Found.the-variants.{Las
 use Rattle.alert_info.proofs.RunLaws.{peeked, by-test}
 use Rattle.alert_info.proofs.WhiteLaws.{white-ok, blank-in}
 use Rattle.alert_info.proofs.WalkLaws.{walk-ind}
-use Rattle.alert_info.proofs.Lands.{run-from, run-to, ending-ok}
+use Rattle.alert_info.proofs.Lands.{run-from, run-to, quoted-ok, ending-ok}
 use Rattle.alert_info.proofs.ReadingLaws.{value-ok}
 
 is-true : (b : Bool) → b ≡ true → T b
@@ -98,92 +100,102 @@ widen : (K L : List ℕ → Type 0) (s : List ℕ) (at : ℕ) → ((t : List ℕ
 widen K L s at f (Next c) r = (r .0, f (r .0) (r .1), r .2)
 widen K L s at f Refused r = tt
 
--- an open quoted string
-abbrev QuoteReads : Quote → List ℕ → ℕ → Passed → Type 0
-QuoteReads Inside s at (Next c) = (x : List ℕ) × Text x × (drop at s ≡ x ++ (34 ∷ drop (c .at) s))
-QuoteReads Escaped s at (Next c) = (b : ℕ) × (x : List ℕ) × T (isEscapable b) × Text x ×
-    (drop at s ≡ b ∷ (x ++ (34 ∷ drop (c .at) s)))
-QuoteReads Closed s at (Next c) = Unit
-QuoteReads Broken s at (Next c) = Unit
-QuoteReads Inside s at Refused = Unit
-QuoteReads Escaped s at Refused = Unit
-QuoteReads Closed s at Refused = Unit
-QuoteReads Broken s at Refused = Unit
+-- text of a quoted string, and what follows it
+abbrev QuoteReads : List ℕ → ℕ → Quote → Type 0
+QuoteReads s at (Closed c) = (x : List ℕ) × Any isText x × (drop at s ≡ x ++ (34 ∷ drop (c .at) s))
+QuoteReads s at (Escaped c) =
+    (x : List ℕ) × (b : ℕ) × Any isText x × T (isEscapable b) × (drop at s ≡ x ++ (92 ∷ b ∷ drop (c .at) s))
+QuoteReads s at Unclosed = Unit
 
-Quoted : List ℕ → Type 0
-Quoted l = (x : List ℕ) × Text x × (l ≡ 34 ∷ (x ++ (34 ∷ [])))
+-- a quoted string after its opening quote
+abbrev TextReads : List ℕ → ℕ → Passed → Type 0
+TextReads s at (Next c) = (x : List ℕ) × Text x × (drop at s ≡ x ++ (34 ∷ drop (c .at) s))
+TextReads s at Refused = Unit
+
+text-any : {x y : List ℕ} → Any isText x → Text y → Text (x ++ y)
+text-any G.none k = k
+text-any (G.more t a) k = G.plain t (text-any a k)
+
+any-text : {x : List ℕ} → Any isText x → Text x
+any-text G.none = G.ends
+any-text (G.more t a) = G.plain t (any-text a)
 
 module _ (s : List ℕ) where
-  next-tail : (at b : ℕ) (l : List ℕ) → drop at s ≡ b ∷ l → drop (at + 1) s ≡ l
-  next-tail at b l e = sym (drop-drop 1 at s) ∙ ap (drop 1) e
+  quote-reads : (at : ℕ) → QuoteReads s at (quoteAt s at)
+  unfolding quoteAt
+  quote-reads at =
+      let e = runAt isText s at in
+      by-test (QuoteReads s at) (eqb (getD s e 0) 34) (Closed (record { at = e + 1 })) _
+      (λ q. (
+        cut s at e,
+        any-cut isText s at,
+        run-split isText s at
+            ∙ ap (λ (l : List ℕ). cut s at e ++ l) (byte-at s e 33 (eqb-true _ _ q)),
+      ))
+      (λ _. by-test (QuoteReads s at) (eqb (getD s e 0) 92) (escapeByte s (e + 1)) Unclosed
+      (λ q. by-test (QuoteReads s at) (leb (length s) (e + 1)) Unclosed _ (λ _. tt)
+      (λ i. by-test (QuoteReads s at) (isEscapable (getD s (e + 1) 0)) (Escaped (record { at = e + 1 + 1 })) Unclosed
+      (λ k. (
+        cut s at e,
+        getD s (e + 1) 0,
+        any-cut isText s at,
+        is-true (isEscapable (getD s (e + 1) 0)) k,
+        run-split isText s at
+            ∙ ap (λ (l : List ℕ). cut s at e ++ l) (byte-at s e 91 (eqb-true _ _ q)
+            ∙ ap (λ (l : List ℕ). 92 ∷ l) (byte-in (e + 1) (leb-false (length s) (e + 1) i))),
+      ))
+      (λ _. tt)))
+      (λ _. tt))
+    where
+      byte-in : (n : ℕ) → n < length s → drop n s ≡ getD s n 0 ∷ drop (n + 1) s
+      byte-in n h = rw (drop-cons s n 0 h, add-one)
 
-  module _ (at b : ℕ) (h : drop at s ≡ b ∷ drop (at + 1) s) where
-    plain-step : T (isText b) → (p : Passed) → QuoteReads Inside s (at + 1) p → QuoteReads Inside s at p
-    plain-step t (Next c) r = (b ∷ r .0, G.plain t (r .1), h ∙ ap (λ (x : List ℕ). b ∷ x) (r .2))
-    plain-step t Refused r = tt
+  quote-halt : (at : ℕ) (q : Quote) → QuoteReads s at q → (r : Passed) → quoteMove q ≡ halt r → TextReads s at r
+  quote-halt at (Closed c) l r e = let z : Next c ≡ r = cc in subst (TextReads s at) z (l .0, any-text (l .1), l .2)
+  quote-halt at (Escaped c) l r e = absurd (let z : _≡_ {A = ℕ} 0 1 = cc in omega arith)
+  quote-halt at Unclosed l r e = let z : Refused ≡ r = cc in subst (TextReads s at) z tt
 
-    escape-step : b ≡ 92 → (p : Passed) → QuoteReads Escaped s (at + 1) p → QuoteReads Inside s at p
-    escape-step e (Next c) r = (
-      92 ∷ r .0 ∷ r .1,
-      G.escaped (r .2) (r .3),
-      h ∙ ap (λ (x : ℕ). x ∷ drop (at + 1) s) e
-          ∙ ap (λ (x : List ℕ). 92 ∷ x) (r .4),
-    )
-    escape-step e Refused r = tt
+  text-more : (at n : ℕ) (x : List ℕ) (b : ℕ) → Any isText x → T (isEscapable b) → drop at s ≡ x ++ (92 ∷ b ∷ drop n s)
+      → (p : Passed) → TextReads s n p → TextReads s at p
+  text-more at n x b a t h (Next c) r = (
+    x ++ (92 ∷ b ∷ r .0),
+    text-any a (G.escaped t (r .1)),
+    h ∙ ap (λ (l : List ℕ). x ++ (92 ∷ b ∷ l)) (r .2) ∙ sym (append-assoc x (92 ∷ b ∷ r .0) (34 ∷ drop (c .at) s)),
+  )
+  text-more at n x b a t h Refused r = tt
 
-    escaped-step : T (isEscapable b) → (p : Passed) → QuoteReads Inside s (at + 1) p → QuoteReads Escaped s at p
-    escaped-step t (Next c) r = (b, r .0, t, r .1, h ∙ ap (λ (x : List ℕ). b ∷ x) (r .2))
-    escaped-step t Refused r = tt
+  quote-on : (at : ℕ) (q : Quote) → QuoteReads s at q → (g : Passed → Passed) (n : ℕ) (x : Passed)
+      → quoteMove q ≡ move g n
+      → TextReads s n x → TextReads s at (g x)
+  quote-on at (Closed c) l g n x e r = absurd (let z : _≡_ {A = ℕ} 0 1 = cc in omega arith)
+  quote-on at (Escaped c) l g n x e r =
+      let z : _≡_ {A = Passed → Passed} (λ p. p) g = cc in
+      let y : n ≡ c .at = cc in
+      subst (λ (k : Passed → Passed). TextReads s at (k x)) z
+      (text-more at (c .at) (l .0) (l .1) (l .2) (l .3) (l .4) x (subst (λ (m : ℕ). TextReads s m x) y r))
+  quote-on at Unclosed l g n x e r = absurd (let z : _≡_ {A = ℕ} 0 1 = cc in omega arith)
 
-    quote-step : (l : List ℕ) → ((r : Quote) → QuoteReads r s (at + 1) (quotedFrom r (at + 1) l)) → (q : Quote)
-        → QuoteReads q s at (afterQuote (quoteStep q b) (at + 1) (quotedFrom (quoteStep q b) (at + 1) l))
-    unfolding quoteStep
-    quote-step l ih Inside =
-        let P : Quote → Type 0 = λ r. QuoteReads Inside s at (afterQuote r (at + 1) (quotedFrom r (at + 1) l)) in
-        by-test P (eqb b 34) Closed _
-        (λ e. ([], G.ends, h ∙ ap (λ (x : ℕ). x ∷ drop (at + 1) s) (eqb-true b 34 e)))
-        (λ _. by-test P (eqb b 92) Escaped _
-        (λ e. escape-step (eqb-true b 92 e) (quotedFrom Escaped (at + 1) l) (ih Escaped))
-        (λ _. by-test P (isText b) Inside Broken
-        (λ e. plain-step (is-true (isText b) e) (quotedFrom Inside (at + 1) l) (ih Inside))
-        (λ _. tt)))
-    quote-step l ih Escaped =
-        let P : Quote → Type 0 = λ r. QuoteReads Escaped s at (afterQuote r (at + 1) (quotedFrom r (at + 1) l)) in
-        by-test P (isEscapable b) Inside Broken
-        (λ e. escaped-step (is-true (isEscapable b) e) (quotedFrom Inside (at + 1) l) (ih Inside))
-        (λ _. tt)
-    quote-step l ih Closed = tt
-    quote-step l ih Broken = tt
+  text-reads : (at : ℕ) → TextReads s at (quotedFrom s at)
+  unfolding quotedFrom quotedStep
+  text-reads at =
+      walk-ind (quotedStep s) Refused s (quoted-ok s) (TextReads s)
+      (λ p r e. quote-halt p (quoteAt s p) (quote-reads p) r e)
+      (λ p g n x e h l. quote-on p (quoteAt s p) (quote-reads p) g n x e l) at
 
-  nothing : (q : Quote) (at : ℕ) → QuoteReads q s at Refused
-  nothing Inside at = tt
-  nothing Escaped at = tt
-  nothing Closed at = tt
-  nothing Broken at = tt
-
-  quoted-from : (l : List ℕ) (q : Quote) (at : ℕ) → drop at s ≡ l → QuoteReads q s at (quotedFrom q at l)
-  unfolding quotedFrom
-  quoted-from [] q at e = nothing q at
-  quoted-from (b ∷ l) q at e =
-      let n = next-tail at b l e in
-      quote-step at b (e ∙ ap (λ (x : List ℕ). b ∷ x) (sym n)) l (λ r. quoted-from l r (at + 1) n) q
-
-  opened : (at : ℕ) (p : Passed) → drop at s ≡ 34 ∷ drop (at + 1) s → QuoteReads Inside s (at + 1) p
+  opened : (at : ℕ) (p : Passed) → drop at s ≡ 34 ∷ drop (at + 1) s → TextReads s (at + 1) p
       → PassedReads Setting s at p
   opened at (Next c) h r = (
     34 ∷ (r .0 ++ (34 ∷ [])),
     G.quoted (r .1),
-    h
-        ∙ ap (λ (x : List ℕ). 34 ∷ x) (r .2 ∙ sym (append-assoc (r .0) (34 ∷ []) (drop (c .at) s))),
+    h ∙ ap (λ (x : List ℕ). 34 ∷ x) (r .2 ∙ sym (append-assoc (r .0) (34 ∷ []) (drop (c .at) s))),
   )
   opened at Refused h r = tt
 
   quoted-reads : (at : ℕ) → PassedReads Setting s at (quotedAt s at)
   unfolding quotedAt
   quoted-reads at =
-      by-test (PassedReads Setting s at) (eqb (getD s at 0) 34) (quotedFrom Inside (at + 1) (drop (at + 1) s)) Refused
-      (λ e. opened at (quotedFrom Inside (at + 1) (drop (at + 1) s)) (byte-at s at 33 (eqb-true (getD s at 0) 34 e))
-      (quoted-from (drop (at + 1) s) Inside (at + 1) refl))
+      by-test (PassedReads Setting s at) (eqb (getD s at 0) 34) (quotedFrom s (at + 1)) Refused
+      (λ e. opened at (quotedFrom s (at + 1)) (byte-at s at 33 (eqb-true (getD s at 0) 34 e)) (text-reads (at + 1)))
       (λ _. tt)
 
   token-reads : (at : ℕ) → PassedReads Token s at (tokenAt s at)

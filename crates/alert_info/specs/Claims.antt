@@ -13,7 +13,8 @@ use Rattle.alert_info.specs.declared.alert_param.Span.{Span}
 -- s is a value with the URIs us exactly if it is read, and us are the parts that are read
 abbrev pub Agrees : Type 0
 Agrees =
-    (s : List ℕ) (us : List (List ℕ)) → Value s us ↔ ((ps : List Span) × (readingOf s ≡ spans ps) × (map (partOf s) ps ≡ us))
+    (s : List ℕ) (us : List (List ℕ))
+    → Value s us ↔ ((ps : List Span) × (readingOf s ≡ spans ps) × (map (partOf s) ps ≡ us))
 
 -- no value has two readings: its URIs are determined by its bytes
 abbrev pub OneReading : Type 0

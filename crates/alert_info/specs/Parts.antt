@@ -12,7 +12,7 @@ use Rattle.alert_info.specs.declared.cursor.Cursor.{Cursor}
 use Rattle.alert_info.specs.declared.cursor.Passed.{Passed}
 use Rattle.alert_info.specs.declared.cursor.Passed.the-variants.{Next, Refused}
 use Rattle.alert_info.specs.declared.cursor.Quote.{Quote}
-use Rattle.alert_info.specs.declared.cursor.Quote.the-variants.{Inside, Escaped, Closed, Broken}
+use Rattle.alert_info.specs.declared.cursor.Quote.the-variants.{Closed, Escaped, Unclosed}
 use Rattle.alert_info.specs.declared.alert_param.Span.{Span}
 use Rattle.alert_info.specs.declared.alert_param.Following.{Following}
 use Rattle.alert_info.specs.declared.alert_param.Following.the-variants.{Nothing, Comma, Param, Stray}
@@ -47,25 +47,34 @@ moved at to = cond (eqb at to) Refused (Next (record { at = to }))
 unfoldable pub tokenAt : List ℕ → ℕ → Passed
 tokenAt s at = moved at (runAt isToken s at)
 
--- a quoted string after its opening quote, one byte: 34 is ", 92 is \
-unfoldable pub quoteStep : Quote → ℕ → Quote
-quoteStep Inside b = cond (eqb b 34) Closed (cond (eqb b 92) Escaped (cond (isText b) Inside Broken))
-quoteStep Escaped b = cond (isEscapable b) Inside Broken
-quoteStep Closed b = Closed
-quoteStep Broken b = Broken
+-- after a \: one byte that may stand there
+abbrev pub escapeByte : List ℕ → ℕ → Quote
+escapeByte s e =
+    cond (leb (length s) e) Unclosed (cond (isEscapable (getD s e 0)) (Escaped (record { at = e + 1 })) Unclosed)
 
-abbrev pub afterQuote : Quote → ℕ → Passed → Passed
-afterQuote Inside at p = p
-afterQuote Escaped at p = p
-afterQuote Closed at p = Next (record { at = at })
-afterQuote Broken at p = Refused
+-- after text in a quoted string: " (34) closes it, \ (92) escapes the next byte
+abbrev pub quoteByte : List ℕ → ℕ → Quote
+quoteByte s e =
+    cond (eqb (getD s e 0) 34) (Closed (record { at = e + 1 }))
+    (cond (eqb (getD s e 0) 92) (escapeByte s (e + 1)) Unclosed)
 
-unfoldable pub quotedFrom : Quote → ℕ → List ℕ → Passed
-quotedFrom q at [] = Refused
-quotedFrom q at (b ∷ l) = afterQuote (quoteStep q b) (at + 1) (quotedFrom (quoteStep q b) (at + 1) l)
+unfoldable pub quoteAt : List ℕ → ℕ → Quote
+quoteAt s at = quoteByte s (runAt isText s at)
+
+abbrev pub quoteMove : Quote → Move Passed
+quoteMove (Closed c) = halt (Next c)
+quoteMove (Escaped c) = move (λ p. p) (c .at)
+quoteMove Unclosed = halt Refused
+
+unfoldable pub quotedStep : List ℕ → ℕ → Move Passed
+quotedStep s at = quoteMove (quoteAt s at)
+
+-- a quoted string after its opening quote
+unfoldable pub quotedFrom : List ℕ → ℕ → Passed
+quotedFrom s at = walkAt (quotedStep s) Refused s at
 
 unfoldable pub quotedAt : List ℕ → ℕ → Passed
-quotedAt s at = cond (eqb (getD s at 0) 34) (quotedFrom Inside (at + 1) (drop (at + 1) s)) Refused
+quotedAt s at = cond (eqb (getD s at 0) 34) (quotedFrom s (at + 1)) Refused
 
 -- Parameters.
 

@@ -9,7 +9,7 @@ ghost use Prim.Native.Nat.{_<_, _≤_, _+_};
 ghost use lib.ListN.{length, getD};
 ghost use Rattle.alert_info.specs.Bytes.{inClass, Classes};
 ghost use Rattle.alert_info.specs.Walk.{runAt, fourAt};
-ghost use Rattle.alert_info.specs.Parts.{blankAt, whiteAt, tokenAt, quoteStep, quotedAt};
+ghost use Rattle.alert_info.specs.Parts.{blankAt, whiteAt, tokenAt, quoteAt, quotedAt};
 
 // A position in a value. Its methods hand back the cursor after what they pass.
 pub struct Cursor {
@@ -22,43 +22,11 @@ pub enum Passed {
     Refused,
 }
 
-// Where in a quoted string the reading stands.
+// What passing text of a quoted string gives: its closing quote is passed, or an escaped byte, or neither follows.
 pub enum Quote {
-    Inside,
-    Escaped,
-    Closed,
-    Broken,
-}
-
-// The next byte of a quoted string.
-fn quote_step(classes: &[u8; 256], q: Quote, b: u8) -> Quote
-    requires { ⌜ Classes (now classes) ⌝ }
-    ensures { λ r. ⌜ r ≡ quoteStep q b ⌝ }
-{
-    match q {
-        Quote::Inside => {
-            if b == b'"' {
-                return Quote::Closed;
-            }
-            if b == b'\\' {
-                return Quote::Escaped;
-            }
-            if has(classes, b, TEXT) {
-                Quote::Inside
-            } else {
-                Quote::Broken
-            }
-        }
-        Quote::Escaped => {
-            if has(classes, b, ESCAPABLE) {
-                Quote::Inside
-            } else {
-                Quote::Broken
-            }
-        }
-        Quote::Closed => Quote::Closed,
-        Quote::Broken => Quote::Broken,
-    }
+    Closed(Cursor),
+    Escaped(Cursor),
+    Unclosed,
 }
 
 impl Cursor {
@@ -165,6 +133,32 @@ impl Cursor {
         }
     }
 
+    // Past text of a quoted string and the closing quote or escaped byte after it.
+    fn quoted_text(self, classes: &[u8; 256], s: &[u8]) -> Quote
+        requires { ⌜ Classes (now classes) ⌝ }
+        ensures { λ r. ⌜ r ≡ quoteAt (now (s .entry)) (self .at) ⌝ }
+    {
+        let t = self.run(classes, s, TEXT);
+        let b = t.peek(s);
+        let end = t.at;
+        if b == b'"' {
+            let after = end + 1;
+            return Quote::Closed(Cursor { at: after });
+        }
+        if b != b'\\' {
+            return Quote::Unclosed;
+        }
+        let escaped = end + 1;
+        if s.len() <= escaped {
+            return Quote::Unclosed;
+        }
+        if !has(classes, s[escaped], ESCAPABLE) {
+            return Quote::Unclosed;
+        }
+        let next = escaped + 1;
+        Quote::Escaped(Cursor { at: next })
+    }
+
     // Past a quoted string.
     pub(crate) fn quoted(self, classes: &[u8; 256], s: &[u8]) -> Passed
         requires { ⌜ Classes (now classes) ⌝ }
@@ -174,17 +168,16 @@ impl Cursor {
             return Passed::Refused;
         }
         let mut at = self.at + 1;
-        let mut q = Quote::Inside;
-        while at < s.len() {
-            q = quote_step(classes, q, s[at]);
-            at += 1;
+        loop {
+            let c = Cursor { at };
+            let q = c.quoted_text(classes, s);
             match q {
-                Quote::Closed => return Passed::Next(Cursor { at }),
-                Quote::Broken => return Passed::Refused,
-                Quote::Inside => {}
-                Quote::Escaped => {}
+                Quote::Escaped(n) => {
+                    at = n.at;
+                }
+                Quote::Closed(n) => return Passed::Next(n),
+                Quote::Unclosed => return Passed::Refused,
             }
         }
-        Passed::Refused
     }
 }

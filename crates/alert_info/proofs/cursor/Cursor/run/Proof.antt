@@ -33,7 +33,12 @@ has-requires : tie.Need-has-requires Inv-loop μ-loop
 has-requires c κs = search needs
 
 returns : tie.Need-returns Inv-loop μ-loop
-returns c = sym (c .before .before .before .before .before .run-fours .ensures ∙ c .before .before .before .before .loop .inv ∙ run-stop (inClass (c .before .before .before .before .before .before .before .args .class)) (now (c .before .before .before .before .before .before .before .args .s)) (c .before .before .before .before .loop .at) (search needs) (sym (c .before .has .ensures) ∙ not-true _ (c .if1 .taken)))
+returns c = sym (c .before .before .before .before .before .run-fours .ensures
+    ∙ c .before .before .before .before .loop .inv
+    ∙ run-stop (inClass (c .before .before .before .before .before .before .before .args .class))
+    (now (c .before .before .before .before .before .before .before .args .s))
+    (c .before .before .before .before .loop .at) (search needs) (sym (c .before .has .ensures)
+    ∙ not-true _ (c .if1 .taken)))
 
 add-at : tie.Need-add-at Inv-loop μ-loop
 add-at c = search needs
@@ -42,10 +47,16 @@ loop-less : tie.Need-loop-less Inv-loop μ-loop
 loop-less c = search needs
 
 loop-again : tie.Need-loop-again Inv-loop μ-loop
-loop-again c = c .before .before .before .before .loop .inv ∙ run-step (inClass (c .before .before .before .before .before .before .before .args .class)) (now (c .before .before .before .before .before .before .before .args .s)) (c .before .before .before .before .loop .at) (search needs) (sym (c .before .has .ensures) ∙ not-false _ (c .if1 .left))
+loop-again c = c .before .before .before .before .loop .inv
+    ∙ run-step (inClass (c .before .before .before .before .before .before .before .args .class))
+    (now (c .before .before .before .before .before .before .before .args .s))
+    (c .before .before .before .before .loop .at) (search needs) (sym (c .before .has .ensures)
+    ∙ not-false _ (c .if1 .left))
 
 returns-2 : tie.Need-returns-2 Inv-loop μ-loop
-returns-2 c = sym (c .before .before .run-fours .ensures ∙ c .before .loop .inv ∙ run-end (inClass (c .before .before .before .before .args .class)) (now (c .before .before .before .before .args .s)) (c .before .loop .at) (search needs))
+returns-2 c = sym (c .before .before .run-fours .ensures ∙ c .before .loop .inv
+    ∙ run-end (inClass (c .before .before .before .before .args .class))
+    (now (c .before .before .before .before .args .s)) (c .before .loop .at) (search needs))
 
 pub run-spec : {M : Type 1} → statement M
 run-spec =

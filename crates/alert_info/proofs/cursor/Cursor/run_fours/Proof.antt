@@ -41,7 +41,10 @@ loop-less : tie.Need-loop-less Inv-loop μ-loop
 loop-less c = search needs
 
 loop-again : tie.Need-loop-again Inv-loop μ-loop
-loop-again c = c .before .before .before .before .loop .inv ∙ run-four (inClass (c .before .before .before .before .before .before .args .class)) (now (c .before .before .before .before .before .before .args .s)) (c .before .before .before .before .loop .at) _ (omega arith) (c .before .four .ensures) (not-false _ (c .if2 .left))
+loop-again c = c .before .before .before .before .loop .inv
+    ∙ run-four (inClass (c .before .before .before .before .before .before .args .class))
+    (now (c .before .before .before .before .before .before .args .s)) (c .before .before .before .before .loop .at) _
+    (omega arith) (c .before .four .ensures) (not-false _ (c .if2 .left))
 
 returns-3 : tie.Need-returns-3 Inv-loop μ-loop
 returns-3 c = c .before .loop .inv
