@@ -1,0 +1,13 @@
+pub mod Agree
+mod ClassTable
+mod Complete
+pub mod Lands
+mod PartLaws
+mod PassLaws
+mod QuoteLaws
+pub mod ReadingLaws
+mod RunLaws
+mod Sound
+mod Table
+mod WalkLaws
+mod WhiteLaws

@@ -1,0 +1,89 @@
+-- A run of bytes, one byte at a time.
+-- Assumes nothing.
+use mathlib.Core.Path.{_≡_, refl, sym, ap, _∙_}
+use mathlib.Core.Bool.{Bool, true, false, cond, _&&_}
+use mathlib.Core.List.{List, [], _∷_}
+use Prim.Native.Nat.{ℕ, zero, suc, _+_, _≤_, _<_}
+use native.Mathlib.Nat.{add-zero}
+use native.Mathlib.Numerals.{add-one}
+use native.Mathlib.Omega.{arith}
+use lib.ListN.{length, getD, drop, drop-of-length-le}
+use lib.Seq.{drop-cons}
+use Rattle.alert_info.specs.Walk.{run, runAt, fourAt}
+
+module _ (p : ℕ → Bool) (s : List ℕ) (at : ℕ) where
+  pub run-step : at < length s → p (getD s at 0) ≡ true → runAt p s at ≡ runAt p s (at + 1)
+  unfolding run runAt
+  run-step h e = rw (drop-cons s at 0, e, add-one) (omega arith)
+
+  pub run-stop : at < length s → p (getD s at 0) ≡ false → runAt p s at ≡ at
+  unfolding run runAt
+  run-stop h e = rw (drop-cons s at 0, e) (add-zero at)
+
+  pub run-end : length s ≤ at → runAt p s at ≡ at
+  unfolding run runAt
+  run-end h = rw (drop-of-length-le s) (add-zero at)
+
+-- four tests that all pass
+four-all : (a b c d : Bool) → (a && (b && (c && d))) ≡ true → (a ≡ true) × (b ≡ true) × (c ≡ true) × (d ≡ true)
+four-all true true true true e = (refl, refl, refl, refl)
+four-all true true true false e = absurd (let y : _≡_ {A = ℕ} 0 1 = cc in omega arith)
+four-all true true false d e = absurd (let y : _≡_ {A = ℕ} 0 1 = cc in omega arith)
+four-all true false c d e = absurd (let y : _≡_ {A = ℕ} 0 1 = cc in omega arith)
+four-all false b c d e = absurd (let y : _≡_ {A = ℕ} 0 1 = cc in omega arith)
+
+-- four bytes that pass are four steps
+pub run-four : (p : ℕ → Bool) (s : List ℕ) (at : ℕ) (x : Bool) → at + 4 ≤ length s → x ≡ fourAt p s at → x ≡ true
+    → runAt p s at ≡ runAt p s (at + 4)
+run-four p s at x h g e =
+    let f = four-all (p (getD s at 0)) (p (getD s (at + 1) 0)) (p (getD s (at + 2) 0)) (p (getD s (at + 3) 0)) (sym g
+    ∙ e) in
+    let two : at + 1 + 1 ≡ at + 2 = omega arith in
+    let three : at + 2 + 1 ≡ at + 3 = omega arith in
+    let all : at + 3 + 1 ≡ at + 4 = omega arith in
+    run-step p s at (omega arith) (f .0)
+    ∙ run-step p s (at + 1) (omega arith) (f .1) ∙ ap (runAt p s) two
+    ∙ run-step p s (at + 2) (omega arith) (f .2) ∙ ap (runAt p s) three
+    ∙ run-step p s (at + 3) (omega arith) (f .3) ∙ ap (runAt p s) all
+
+-- a byte other than 0 is in the list
+pub peeked : (s : List ℕ) (at b : ℕ) → getD s at 0 ≡ suc b → at < length s
+peeked [] at b e = absurd (let z : _≡_ {A = ℕ} 0 (suc b) = e in omega arith)
+peeked (x ∷ s) zero b e = omega arith
+peeked (x ∷ s) (suc at) b e = let h = peeked s at b e in omega arith
+
+-- by which way a test goes
+pub by-test {ℓ} : {A : Type ℓ} (P : A → Type 0) (b : Bool) (x y : A) → (b ≡ true → P x) → (b ≡ false → P y) → P
+    (cond b x y)
+by-test P true x y f g = f refl
+by-test P false x y f g = g refl
+
+-- the four tests one after the other; a, b, c and d are what they gave
+no-and : (x r : Bool) → x ≡ false → false ≡ (x && r)
+no-and x r e = sym (ap (λ (z : Bool). z && r) e)
+
+yes-and : (x r : Bool) → x ≡ true → r ≡ (x && r)
+yes-and x r e = sym (ap (λ (z : Bool). z && r) e)
+
+module _ (p : ℕ → Bool) (s : List ℕ) (at : ℕ) (a : Bool) (is-a : a ≡ p (getD s at 0)) where
+  pub four-1 : a ≡ false → false ≡ fourAt p s at
+  four-1 f = no-and (p (getD s at 0)) (p (getD s (at + 1) 0) && (p (getD s (at + 2) 0) && p (getD s (at + 3) 0)))
+      (sym is-a ∙ f)
+
+  module _ (ta : a ≡ true) (b : Bool) (is-b : b ≡ p (getD s (at + 1) 0)) where
+    past-1 : (p (getD s (at + 1) 0) && (p (getD s (at + 2) 0) && p (getD s (at + 3) 0))) ≡ fourAt p s at
+    past-1 = yes-and (p (getD s at 0)) (p (getD s (at + 1) 0) && (p (getD s (at + 2) 0) && p (getD s (at + 3) 0)))
+        (sym is-a ∙ ta)
+
+    pub four-2 : b ≡ false → false ≡ fourAt p s at
+    four-2 f = no-and (p (getD s (at + 1) 0)) (p (getD s (at + 2) 0) && p (getD s (at + 3) 0)) (sym is-b ∙ f) ∙ past-1
+
+    module _ (tb : b ≡ true) (c : Bool) (is-c : c ≡ p (getD s (at + 2) 0)) where
+      past-2 : (p (getD s (at + 2) 0) && p (getD s (at + 3) 0)) ≡ fourAt p s at
+      past-2 = yes-and (p (getD s (at + 1) 0)) (p (getD s (at + 2) 0) && p (getD s (at + 3) 0)) (sym is-b ∙ tb) ∙ past-1
+
+      pub four-3 : c ≡ false → false ≡ fourAt p s at
+      four-3 f = no-and (p (getD s (at + 2) 0)) (p (getD s (at + 3) 0)) (sym is-c ∙ f) ∙ past-2
+
+      pub four-4 : c ≡ true → (d : Bool) → d ≡ p (getD s (at + 3) 0) → d ≡ fourAt p s at
+      four-4 tc d is-d = is-d ∙ yes-and (p (getD s (at + 2) 0)) (p (getD s (at + 3) 0)) (sym is-c ∙ tc) ∙ past-2

@@ -1,0 +1,16 @@
+use Rattle.alert_info.proofs.PassLaws.{entries-of}
+use borrow.Author.Needs.{needs}
+use Rattle.alert_info.proofs.entries.Statement.{statement}
+use Rattle.alert_info.proofs.entries.Tie as tie
+use Rattle.alert_info.proofs.entries.Reads as reads
+use Rattle.alert_info.proofs.entries.Lts as lts
+use Rattle.alert_info.proofs.value.judge.Reads as judge-reads
+
+judge-requires : tie.Need-judge-requires
+judge-requires c κs = search needs
+
+returns : tie.Need-returns
+returns c = entries-of _ _ _ (c .judge .ensures)
+
+pub entries-spec : {M : Type 1} → statement M
+entries-spec = tie.close (tie.spec judge-requires returns)

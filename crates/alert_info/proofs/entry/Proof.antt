@@ -1,0 +1,33 @@
+use mathlib.Core.Path.{refl}
+use native.Mathlib.Omega.{arith}
+use Rattle.alert_info.proofs.PassLaws.{span-fits, entry-of}
+use denote.Ref.{now}
+use borrow.Author.Needs.{needs}
+use Rattle.alert_info.proofs.entry.Statement.{statement}
+use Rattle.alert_info.proofs.entry.Tie as tie
+use Rattle.alert_info.proofs.entry.Reads as reads
+use Rattle.alert_info.proofs.entry.Lts as lts
+use Rattle.alert_info.proofs.value.judge.Reads as judge-reads
+
+judge-requires : tie.Need-judge-requires
+judge-requires c κs = search needs
+
+add-end : tie.Need-add-end
+add-end c = omega (arith, span-fits (now (c .before .before .before .args .v)) _ _ (c .before .judge .ensures))
+
+sub-result : tie.Need-sub-result
+sub-result c = search needs
+
+part-result-start : tie.Need-part-result-start
+part-result-start c = search needs
+
+part-result-end : tie.Need-part-result-end
+part-result-end c = span-fits _ _ _ (c .before .judge .ensures)
+
+returns : tie.Need-returns
+returns c = entry-of _ _ _ (c .before .before .judge .ensures) _ refl
+
+pub entry-spec : {M : Type 1} → statement M
+entry-spec =
+    tie.close
+    (tie.spec judge-requires add-end sub-result part-result-start part-result-end returns)

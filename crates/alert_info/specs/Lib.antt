@@ -1,0 +1,7 @@
+pub mod Bytes
+pub mod Grammar
+pub mod Walk
+pub mod Parts
+pub mod Value
+pub mod Pass
+pub mod Claims

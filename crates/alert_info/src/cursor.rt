@@ -1,0 +1,183 @@
+// A position in a value, and passing white space, a token or a quoted string from there.
+use crate::classes::BLANK;
+use crate::classes::ESCAPABLE;
+use crate::classes::TEXT;
+use crate::classes::TOKEN;
+use crate::classes::has;
+ghost use mathlib.Core.Path.{_≡_};
+ghost use Prim.Native.Nat.{_<_, _≤_, _+_};
+ghost use lib.ListN.{length, getD};
+ghost use Rattle.alert_info.specs.Bytes.{inClass, Classes};
+ghost use Rattle.alert_info.specs.Walk.{runAt, fourAt};
+ghost use Rattle.alert_info.specs.Parts.{blankAt, whiteAt, tokenAt, quoteAt, quotedAt};
+
+// A position in a value. Its methods hand back the cursor after what they pass.
+pub struct Cursor {
+    pub at: usize,
+}
+
+// What passing a token, a quoted string or a parameter gives.
+pub enum Passed {
+    Next(Cursor),
+    Refused,
+}
+
+// What passing text of a quoted string gives: its closing quote is passed, or an escaped byte, or neither follows.
+pub enum Quote {
+    Closed(Cursor),
+    Escaped(Cursor),
+    Unclosed,
+}
+
+impl Cursor {
+    // The byte at the cursor, 0 past the end.
+    pub(crate) fn peek(self, s: &[u8]) -> u8
+        ensures { λ r. ⌜ r ≡ getD (now (s .entry)) (self .at) 0 ⌝ }
+    {
+        let at = self.at;
+        if at < s.len() { s[at] } else { 0 }
+    }
+
+    // The four bytes from here on are all in a class.
+    fn four(self, classes: &[u8; 256], s: &[u8], class: u8) -> bool
+        requires { ⌜ (class < 5) × Classes (now classes) × (self .at + 4 ≤ length (now s)) ⌝ }
+        ensures { λ r. ⌜ r ≡ fourAt (inClass class) (now (s .entry)) (self .at) ⌝ }
+    {
+        let at = self.at;
+        if !has(classes, s[at], class) {
+            return false;
+        }
+        if !has(classes, s[at + 1], class) {
+            return false;
+        }
+        if !has(classes, s[at + 2], class) {
+            return false;
+        }
+        has(classes, s[at + 3], class)
+    }
+
+    // Past the bytes of a class, four at a time: a quicker way through the most of them.
+    fn run_fours(self, classes: &[u8; 256], s: &[u8], class: u8) -> Cursor
+        requires { ⌜ (class < 5) × Classes (now classes) ⌝ }
+        ensures { λ r. ⌜ runAt (inClass class) (now (s .entry)) (self .at) ≡ runAt (inClass class) (now (s .entry)) (r .at) ⌝ }
+    {
+        let end = s.len();
+        let mut at = self.at;
+        while at < end {
+            let c = Cursor { at };
+            if end - at < 4 {
+                return c;
+            }
+            if !c.four(classes, s, class) {
+                return c;
+            }
+            at += 4;
+        }
+        Cursor { at }
+    }
+
+    // Past all bytes of a class.
+    pub(crate) fn run(self, classes: &[u8; 256], s: &[u8], class: u8) -> Cursor
+        requires { ⌜ (class < 5) × Classes (now classes) ⌝ }
+        ensures { λ r. ⌜ r .at ≡ runAt (inClass class) (now (s .entry)) (self .at) ⌝ }
+    {
+        let c = self.run_fours(classes, s, class);
+        let mut at = c.at;
+        while at < s.len() {
+            if !has(classes, s[at], class) {
+                return Cursor { at };
+            }
+            at += 1;
+        }
+        Cursor { at }
+    }
+
+    // How many bytes of white space stand right at the cursor: 1 for a space or a tab, else 0.
+    fn blank(self, classes: &[u8; 256], s: &[u8]) -> usize
+        requires { ⌜ Classes (now classes) ⌝ }
+        ensures { λ r. ⌜ r ≡ blankAt (now (s .entry)) (self .at) ⌝ }
+    {
+        let at = self.at;
+        if s.len() <= at {
+            return 0;
+        }
+        if has(classes, s[at], BLANK) { 1 } else { 0 }
+    }
+
+    // Past white space, also where there is none.
+    pub(crate) fn white(self, classes: &[u8; 256], s: &[u8]) -> Cursor
+        requires { ⌜ Classes (now classes) ⌝ }
+        ensures { λ r. ⌜ r .at ≡ whiteAt (now (s .entry)) (self .at) ⌝ }
+    {
+        let mut at = self.at;
+        loop {
+            let c = Cursor { at };
+            let n = c.blank(classes, s);
+            if n == 0 {
+                return c;
+            }
+            at += n;
+        }
+    }
+
+    // Past a token.
+    pub(crate) fn token(self, classes: &[u8; 256], s: &[u8]) -> Passed
+        requires { ⌜ Classes (now classes) ⌝ }
+        ensures { λ r. ⌜ r ≡ tokenAt (now (s .entry)) (self .at) ⌝ }
+    {
+        let c = self.run(classes, s, TOKEN);
+        if self.at == c.at {
+            Passed::Refused
+        } else {
+            Passed::Next(c)
+        }
+    }
+
+    // Past text of a quoted string and the closing quote or escaped byte after it.
+    fn quoted_text(self, classes: &[u8; 256], s: &[u8]) -> Quote
+        requires { ⌜ Classes (now classes) ⌝ }
+        ensures { λ r. ⌜ r ≡ quoteAt (now (s .entry)) (self .at) ⌝ }
+    {
+        let t = self.run(classes, s, TEXT);
+        let b = t.peek(s);
+        let end = t.at;
+        if b == b'"' {
+            let after = end + 1;
+            return Quote::Closed(Cursor { at: after });
+        }
+        if b != b'\\' {
+            return Quote::Unclosed;
+        }
+        let escaped = end + 1;
+        if s.len() <= escaped {
+            return Quote::Unclosed;
+        }
+        if !has(classes, s[escaped], ESCAPABLE) {
+            return Quote::Unclosed;
+        }
+        let next = escaped + 1;
+        Quote::Escaped(Cursor { at: next })
+    }
+
+    // Past a quoted string.
+    pub(crate) fn quoted(self, classes: &[u8; 256], s: &[u8]) -> Passed
+        requires { ⌜ Classes (now classes) ⌝ }
+        ensures { λ r. ⌜ r ≡ quotedAt (now (s .entry)) (self .at) ⌝ }
+    {
+        if self.peek(s) != b'"' {
+            return Passed::Refused;
+        }
+        let mut at = self.at + 1;
+        loop {
+            let c = Cursor { at };
+            let q = c.quoted_text(classes, s);
+            match q {
+                Quote::Escaped(n) => {
+                    at = n.at;
+                }
+                Quote::Closed(n) => return Passed::Next(n),
+                Quote::Unclosed => return Passed::Refused,
+            }
+        }
+    }
+}
