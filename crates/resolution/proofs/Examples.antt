@@ -4,7 +4,7 @@ use mathlib.Core.Path.{_≡_, refl}
 use mathlib.Core.Bool.{true}
 use mathlib.Core.List.{List, [], _∷_, map}
 use lib.ListN.{length}
-use Rattle.resolution.specs.Lists.{tabulate}
+use Rattle.resolution.specs.Lists.{tabulate, all}
 use Rattle.resolution.specs.Direct.{step, direct, usedOf, usedCount, skippedCount}
 use Rattle.resolution.specs.Nodes.{nodes, leaf, deepest}
 use Rattle.resolution.specs.Symbols.{symbols}
@@ -37,7 +37,7 @@ unfolding step nodes leaf expand discover tabulate
 example-built = refl
 
 pub example-accepted : accepts T1 M1 ≡ true
-unfolding step nodes leaf
+unfolding step nodes leaf all
 example-accepted = refl
 
 pub node-counts : map (λ t. length (nodes t)) tables ≡ 2 ∷ 4 ∷ 4 ∷ 3 ∷ 3 ∷ []
