@@ -3,8 +3,8 @@
 use Prim.Native.Nat.{ℕ, _+_, _-_, _*_, _≤_, _<_}
 use mathlib.Core.Path.{_≡_, refl, sym, ap, subst, _∙_}
 use mathlib.Core.Bool.{true}
-use mathlib.Core.List.{List, _++_}
-use lib.ListN.{length, getD, replicate, length-map, length-append, length-replicate}
+use mathlib.Core.List.{_++_}
+use lib.ListN.{length, getD, replicate}
 use native.Mathlib.Nat.{mul-le-mul}
 use native.Mathlib.Decide.{decLt}
 use native.Mathlib.Omega.{arith}
@@ -16,15 +16,14 @@ use Rattle.resolution.specs.Direct.{State, start, StateOf, sameState}
 use Rattle.resolution.specs.Nodes.{nodes, isNode}
 use Rattle.resolution.specs.Symbols.{symbols, stepAt}
 use Rattle.resolution.specs.Machine.{MachineState, Machine, Accepted}
-use Rattle.resolution.specs.Discovery.{targets}
 use Rattle.resolution.specs.Build.{discovered, ReachableOver, machineOf}
 use Rattle.resolution.proofs.Lists.{mem-at, tabulate-length}
 use Rattle.resolution.proofs.Table.{find-below}
 use Rattle.resolution.proofs.Build.{machine-length, machine-state, built-accepted, discovered-state}
 use Rattle.resolution.proofs.Theorems.{build-law, symbols-within}
-use Rattle.machine_image.specs.Image.{imageOf, machineImage, machineIn}
+use Rattle.machine_image.specs.Image.{imageOf, machineImage}
 use Rattle.machine_image.specs.Refusals.{buildRefusal, buildLength, bufferOf, checkOf}
-use Rattle.machine_image.specs.Claim.{Storable}
+use Rattle.machine_image.specs.Storable.{Storable}
 use Rattle.machine_image.proofs.Form.{form-of}
 use Rattle.machine_image.proofs.Stored.{image-machine, image-formed, image-length}
 use Rattle.machine_image.proofs.Check.{check-of}

@@ -1,9 +1,9 @@
 -- Laws of the check: 0 exactly if the form is right and the machine in the image is a right one; else the number of what is
 -- wrong first.
 use Prim.Native.Nat.{ℕ, _<_}
-use mathlib.Core.Path.{_≡_, refl, sym, _∙_}
+use mathlib.Core.Path.{_≡_, refl}
 use mathlib.Core.Logic.{_≢_}
-use mathlib.Core.Bool.{Bool, true, false, true≢false, and-eq-true-iff}
+use mathlib.Core.Bool.{Bool, true, false, cond, and-eq-true-iff}
 use mathlib.Core.List.{List}
 use lib.Dec.{ltb}
 use lib.ListN.{length}
@@ -14,12 +14,18 @@ use Rattle.resolution.specs.Table.{Table}
 use Rattle.resolution.specs.Direct.{start, sameState}
 use Rattle.resolution.specs.Symbols.{symbols, stepAt}
 use Rattle.resolution.specs.Machine.{machineState, target, Accepted, targetRight, rowRight}
-use Rattle.resolution.proofs.Lists.{tabulate-length, all-to, all-stop}
+use Rattle.resolution.proofs.Lists.{tabulate-length, all-stop}
 use Rattle.resolution.proofs.Direct.{state-exact}
 use Rattle.resolution.proofs.Machine.{accepts-to, accepts-of}
 use Rattle.machine_image.specs.Image.{stateCount, stateIn, machineIn}
 use Rattle.machine_image.specs.Refusals.{formOf, checkOf}
 use Rattle.machine_image.proofs.Form.{form-to}
+
+all-passed : (a b c : Bool) → _≡_ {A = ℕ} (cond a (cond b (cond c 0 17) 16) 15) 0 → (a ≡ true) × (b ≡ true) × (c ≡ true)
+all-passed true true true e = (refl, refl, refl)
+all-passed true true false e = absurd (omega arith)
+all-passed true false c e = absurd (omega arith)
+all-passed false b c e = absurd (omega arith)
 
 module _ (T : Table) (im : List ℕ) where
   abbrev starts : Bool
@@ -36,13 +42,7 @@ module _ (T : Table) (im : List ℕ) where
   -- the tests that an accepted image passes
   zero-tests : checkOf T im ≡ 0 → (formOf T im ≡ true) × (starts ≡ true) × (rowsRight ≡ true)
   unfolding checkOf
-  zero-tests e = go (formOf T im) refl starts refl rowsRight refl
-    where
-      go : (a : Bool) → formOf T im ≡ a → (b : Bool) → starts ≡ b → (c : Bool) → rowsRight ≡ c → (formOf T im ≡ true) × (starts ≡ true) × (rowsRight ≡ true)
-      go true p true q true r = (p, q, r)
-      go true p true q false r = let z : _≡_ {A = ℕ} 17 0 = rw (p, q, r) at e in absurd (omega arith)
-      go true p false q c r = let z : _≡_ {A = ℕ} 16 0 = rw (p, q) at e in absurd (omega arith)
-      go false p b q c r = let z : _≡_ {A = ℕ} 15 0 = rw p at e in absurd (omega arith)
+  zero-tests e = all-passed (formOf T im) starts rowsRight e
 
   -- an image is accepted exactly if its form is right and its machine is a right one for the table
   pub check-to : checkOf T im ≡ 0 → (formOf T im ≡ true) × Accepted T (machineIn T im)

@@ -1,6 +1,6 @@
 -- Reading what was written: the machine in the image of a machine of the table's form is that machine, and the image's form
 -- is right.
-use Prim.Native.Nat.{ℕ, zero, suc, _+_, _*_, _/_, _%_, _^_, _≤_, _<_}
+use Prim.Native.Nat.{ℕ, suc, _+_, _*_, _/_, _%_, _^_, _<_}
 use mathlib.Core.Path.{_≡_, refl, sym, ap, _∙_}
 use mathlib.Core.List.{List, [], _∷_, _++_, append-assoc}
 use lib.ListN.{length, getD, take, drop, length-append}
@@ -13,8 +13,8 @@ use Rattle.resolution.specs.Symbols.{symbols}
 use Rattle.resolution.specs.Machine.{Machine, blank, machineState, target, signalAt}
 use Rattle.node_step.specs.Step.{bits}
 use Rattle.node_step.proofs.Both.{bits-below}
-use Rattle.machine_image.specs.Image.{joined, storedSymbols, stateBytes, imageOf, symbolCount, stateCount, placeOf, signalIn, shutIn, targetIn, statuses, stateIn, machineIn}
-use Rattle.machine_image.specs.Claim.{Storable}
+use Rattle.machine_image.specs.Image.{joined, storedSymbols, stateBytes, imageOf, symbolCount, stateCount, signalIn, shutIn, targetIn, statuses, stateIn, machineIn}
+use Rattle.machine_image.specs.Storable.{Storable}
 use Rattle.machine_image.proofs.Joined.{joined-length, joined-at, stored-length, tabulate-entries, statuses-bits}
 use Rattle.machine_image.proofs.Form.{Formed}
 
@@ -26,7 +26,7 @@ module _ (T : Table) (m : Machine) where
   abbrev front : List ℕ
   front = count ∷ storedSymbols T
 
-  image-parts : imageOf T m ≡ front ++ length m % 256 ∷ length m / 256 ∷ joined stateBytes m
+  pub image-parts : imageOf T m ≡ front ++ length m % 256 ∷ length m / 256 ∷ joined stateBytes m
   unfolding imageOf
   image-parts = append-assoc front (length m % 256 ∷ length m / 256 ∷ []) (joined stateBytes m)
 

@@ -1,14 +1,12 @@
 -- Laws of the walk of an image: it is the walk of the machine in it, and so the claim over whole lists of URIs holds of
 -- every accepted image.
-use Prim.Native.Nat.{ℕ, zero, _+_, _<_}
-use mathlib.Core.Path.{_≡_, refl, sym, ap, ap₂, _∙_}
-use mathlib.Core.Bool.{true}
+use Prim.Native.Nat.{ℕ, _<_}
+use mathlib.Core.Path.{_≡_, refl, sym, ap, _∙_}
 use mathlib.Core.Option.{Option, none, some}
-use mathlib.Core.List.{List, [], _∷_, _++_, foldl, List·Memᴰ, List·Memᴰ·head, List·Memᴰ·tail, Memᴰ·append-left}
-use lib.Dec.{eqb}
-use lib.ListN.{length, getD}
+use mathlib.Core.List.{List, [], _∷_, _++_, foldl, List·Memᴰ·head, List·Memᴰ·tail, Memᴰ·append-left}
+use lib.ListN.{getD}
 use Rattle.resolution.specs.Table.{Urn, Table, WellFormed}
-use Rattle.resolution.specs.Direct.{Used, usedOf, AllUsed, stepUri, changed, changes}
+use Rattle.resolution.specs.Direct.{Used, usedOf, AllUsed, stepUri, changes}
 use Rattle.resolution.specs.Nodes.{nodes}
 use Rattle.resolution.specs.Symbols.{symbols, symbolOf, symbolIndex}
 use Rattle.resolution.specs.Machine.{blank, machineState, target, walkStep, walk, signalAt}
