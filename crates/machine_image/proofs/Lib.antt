@@ -7,4 +7,5 @@ pub mod Bytes
 pub mod Check
 pub mod Build
 pub mod Walk
+pub mod Uris
 pub mod Read

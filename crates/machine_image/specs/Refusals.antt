@@ -41,7 +41,8 @@ stateFormed T im j =
     && (eqb (shutIn im j / 2 ^ T .cats) 0
     && all (symbolCount im) (targetBelow im j))
 
--- long enough to hold its two counts, of the length that they give, with the table's symbols, 1 to 256 states, each of right form
+-- long enough to hold its two counts, of the length that they give, with the table's symbols, and with 1 to 256 states,
+-- each of right form
 unfoldable pub formOf : Table → List ℕ → Bool
 formOf T im =
     leb (3 + 3 * symbolCount im) (length im)

@@ -1,12 +1,18 @@
 -- The walk of an image over a list of URIs, checked or not: it reads the image as stored.
 use Prim.Native.Nat.{ℕ}
 use mathlib.Core.Option.{Option}
-use mathlib.Core.List.{List, foldl}
+use mathlib.Core.List.{List, map, foldl}
+use Rattle.resolution.specs.Names.{Name}
 use Rattle.resolution.specs.Table.{Urn, Table}
 use Rattle.resolution.specs.Direct.{stepUri}
 use Rattle.resolution.specs.Nodes.{nodes}
 use Rattle.resolution.specs.Symbols.{symbols, symbolOf, symbolIndex}
+use Rattle.node_step.specs.Uses.{usedUrn}
 use Rattle.machine_image.specs.Image.{signalIn, targetIn}
+
+-- a list of URIs, given as bytes: some u for a used one with its URN, none for a skipped one, by the categories' names
+abbrev pub urisOf : List Name → List (List ℕ) → List (Option Urn)
+urisOf names l = map (usedUrn names) l
 
 -- a used URN moves the walk to the target that the present state's row holds for its symbol
 abbrev pub stepIn : Table → List ℕ → ℕ → Urn → ℕ
