@@ -1,0 +1,226 @@
+-- Laws of the text definitions at a turn of a loop: one byte or one name further.
+use Prim.Native.Nat.{ℕ, suc, _+_, _-_, _≤_, _<_}
+use mathlib.Core.Path.{_≡_, refl, ap, sym, _∙_}
+use mathlib.Core.Bool.{Bool, true, false, cond, not, _&&_, _||_, and-false, and-true, and-eq-true-iff}
+use mathlib.Core.List.{List, [], _∷_}
+use native.Mathlib.Numerals.{add-one}
+use native.Mathlib.Omega.{arith}
+use native.Mathlib.Nat.{zero-add, sub-zero, sub-self}
+use lib.ListN.{length, getD, take, drop, length-drop, drop-of-length-le}
+use lib.Seq.{drop-cons, drop-length, take-all, take-nil}
+use lib.Dec.{eqb, leb, ltb}
+use borrow.Author.Tests.{lt-leb, le-leb, eq-eqb, ne-eqb, leb-true, leb-false}
+use Rattle.resolution.specs.Lists.{sameList}
+use Rattle.resolution.specs.Names.{sameName}
+use Rattle.alert_urn.specs.Text.{all, within, upTo, past, fields, nameOk, labelOk, covers}
+use Rattle.alert_urn.specs.Urn.{bytes, bytesFrom, lower, begins, namesIn, restOk, alertUrn, urnOk}
+use Rattle.alert_urn.proofs.Fields.{byTest, upTo-take, upTo-le, past-drop, past-at, part-upTo, part-end, fields-first, fields-more, fields-last, coversBytes, covers-fields}
+
+-- one byte more of a test of all
+pub all-at : (p : ℕ → Bool) (s : List ℕ) (i : ℕ) → i < length s → all p (drop i s) ≡ (p (getD s i 0) && all p (drop (i + 1) s))
+unfolding all
+all-at p s i h = rw (add-one, drop-cons s i 0)
+
+pub all-more : (p : ℕ → Bool) (s : List ℕ) (i : ℕ) {b : Bool} → all p s ≡ all p (drop i s) → i < length s → b ≡ p (getD s i 0) → b ≡ true → all p s ≡ all p (drop (i + 1) s)
+all-more p s i v h e t = v ∙ all-at p s i h ∙ simp (sym e ∙ t)
+
+pub all-less : (p : ℕ → Bool) (s : List ℕ) (i : ℕ) {b : Bool} → all p s ≡ all p (drop i s) → i < length s → b ≡ p (getD s i 0) → b ≡ false → false ≡ all p s
+all-less p s i v h e t = sym (v ∙ all-at p s i h ∙ simp (sym e ∙ t))
+
+pub all-end : (p : ℕ → Bool) (s : List ℕ) (i : ℕ) → length s ≤ i → i ≤ length s → all p (drop i s) ≡ true
+unfolding all
+all-end p s i h k = let e : i ≡ length s = omega arith in rw (e, drop-length)
+
+-- the search for a byte, one byte further
+pub upTo-hit : (c : ℕ) (s : List ℕ) (i : ℕ) → i < length s → eqb (getD s i 0) c ≡ true → length (upTo c (drop i s)) ≡ 0
+unfolding upTo
+upTo-hit c s i h e = rw (drop-cons s i 0, e)
+
+pub upTo-miss : (c : ℕ) (s : List ℕ) (i : ℕ) → i < length s → eqb (getD s i 0) c ≡ false → length (upTo c (drop i s)) ≡ suc (length (upTo c (drop (i + 1) s)))
+unfolding upTo
+upTo-miss c s i h e = rw (add-one, drop-cons s i 0, e)
+
+pub upTo-end : (c : ℕ) (s : List ℕ) (i : ℕ) → length s ≤ i → i ≤ length s → length (upTo c (drop i s)) ≡ 0
+unfolding upTo
+upTo-end c s i h k = let e : i ≡ length s = omega arith in rw (e, drop-length)
+
+module _ (s : List ℕ) (i : ℕ) {b₁ : Bool} (e : i ≡ length (upTo 64 s)) (f₁ : b₁ ≡ labelOk s) (t₁ : b₁ ≡ false) where
+  one : take (i - 0) (drop 0 s) ≡ upTo 64 s
+  one = simp (sub-zero, e) (upTo-take 64 s)
+
+  two : take (length s - (i + 1)) (drop (i + 1) s) ≡ past 64 s
+  two = part-end s (i + 1) ∙ rw (add-one, e) (past-drop 64 s)
+
+  pub name-second : {b₂ b₃ : Bool} → b₂ ≡ labelOk (take (i - 0) (drop 0 s)) → b₂ ≡ true → b₃ ≡ labelOk (take (length s - (i + 1)) (drop (i + 1) s)) → b₃ ≡ nameOk s
+  unfolding nameOk
+  name-second f₂ t₂ f₃ =
+      f₃ ∙ simp (sym f₁ ∙ t₁, ← two, ← one, sym f₂ ∙ t₂)
+
+  pub name-first : {b₂ : Bool} → b₂ ≡ labelOk (take (i - 0) (drop 0 s)) → b₂ ≡ false → false ≡ nameOk s
+  unfolding nameOk
+  name-first f₂ t₂ = simp (sym f₁ ∙ t₁, ← one, sym f₂ ∙ t₂)
+
+  pub name-none : length s ≤ i → false ≡ nameOk s
+  unfolding nameOk labelOk
+  name-none h =
+      let z : past 64 s ≡ [] = sym (past-drop 64 s) ∙ drop-of-length-le s {i = suc (length (upTo 64 s))} (omega (arith, e)) in
+      simp (sym f₁ ∙ t₁, z, and-false)
+
+-- a part of the table, as far as it goes
+pub part-none : (t : List ℕ) (at len n : ℕ) → length t ≤ at → n ≡ length t → take (n - n) (drop n t) ≡ take len (drop at t)
+part-none t at len n h e = simp (sub-self, drop-of-length-le t {i = at} h, take-nil)
+
+pub part-all : (t : List ℕ) (at len : ℕ) → length t - at ≤ len → take (length t - at) (drop at t) ≡ take len (drop at t)
+part-all t at len h =
+    take-all (length t - at) (drop at t) (omega (arith, length-drop at t)) ∙ sym (take-all len (drop at t) (omega (arith, length-drop at t)))
+
+-- two texts, one byte further
+module _ (a b : List ℕ) (i : ℕ) (v : sameName a b ≡ sameName (drop i a) (drop i b)) where
+  pub same-more : i < length a → i < length b → getD a i 0 ≡ getD b i 0 → sameName a b ≡ sameName (drop (i + 1) a) (drop (i + 1) b)
+  same-more h k e = v ∙ rw (add-one, drop-cons a i 0 h, drop-cons b i 0 k, eq-eqb (getD a i 0) (getD b i 0) e)
+
+  pub same-less : i < length a → i < length b → (getD a i 0 ≡ getD b i 0 → ⊥) → false ≡ sameName a b
+  same-less h k e = sym (v ∙ rw (drop-cons a i 0 h, drop-cons b i 0 k, ne-eqb (getD a i 0) (getD b i 0) e))
+
+  pub same-short : i < length a → length b ≤ i → false ≡ sameName a b
+  same-short h k = sym (v ∙ rw (drop-cons a i 0 h, drop-of-length-le b {i = i} k))
+
+  pub same-end : length a ≤ i → leb (length b) i ≡ sameName a b
+  same-end h =
+      let z : drop i a ≡ [] = drop-of-length-le a {i = i} h in
+      byTest (leb (length b) i)
+      (λ e. e ∙ sym (v ∙ rw (z, drop-of-length-le b {i = i} (leb-true (length b) i e))))
+      (λ e. e ∙ sym (v ∙ rw (z, drop-cons b i 0 (leb-false (length b) i e))))
+
+-- the bytes before and after the first c, as the code lends them
+pub before-end : (c : ℕ) (s : List ℕ) (k : ℕ) → k ≡ length (upTo c s) → take (k - 0) s ≡ upTo c s
+before-end c s k e = simp (sub-zero, e) (upTo-take c s)
+
+pub after-end : (c : ℕ) (s : List ℕ) (k : ℕ) → k ≡ length (upTo c s) → take (length s - (k + 1)) (drop (k + 1) s) ≡ past c s
+after-end c s k e = part-end s (k + 1) ∙ rw (add-one, e) (past-drop c s)
+
+pub after-none : (c : ℕ) (s : List ℕ) (k : ℕ) → k ≡ length (upTo c s) → length s ≤ k → take (length s - length s) (drop (length s) s) ≡ past c s
+after-none c s k e h =
+    let z : past c s ≡ [] = sym (past-drop c s) ∙ drop-of-length-le s {i = suc (length (upTo c s))} (omega (arith, e)) in
+    rw (sub-self, z)
+
+-- p covers w, one byte further
+module _ (p w : List ℕ) (i : ℕ) (v : covers p w ≡ coversBytes (drop i p) (drop i w)) where
+  pub covers-short : i < length p → length w ≤ i → false ≡ covers p w
+  unfolding coversBytes
+  covers-short h k = sym (v ∙ rw (drop-cons p i 0 h, drop-of-length-le w {i = i} k))
+
+  pub covers-more : i < length p → i < length w → getD p i 0 ≡ getD w i 0 → covers p w ≡ coversBytes (drop (i + 1) p) (drop (i + 1) w)
+  unfolding coversBytes
+  covers-more h k e = v ∙ rw (add-one, drop-cons p i 0 h, drop-cons w i 0 k, eq-eqb (getD p i 0) (getD w i 0) e)
+
+  pub covers-less : i < length p → i < length w → (getD p i 0 ≡ getD w i 0 → ⊥) → false ≡ covers p w
+  unfolding coversBytes
+  covers-less h k e = sym (v ∙ rw (drop-cons p i 0 h, drop-cons w i 0 k, ne-eqb (getD p i 0) (getD w i 0) e))
+
+  pub covers-end : length p ≤ i → length w ≤ i → true ≡ covers p w
+  unfolding coversBytes
+  covers-end h k = sym (v ∙ rw (drop-of-length-le p {i = i} h, drop-of-length-le w {i = i} k))
+
+  pub covers-colon : length p ≤ i → i < length w → eqb (getD w i 0) 58 ≡ covers p w
+  unfolding coversBytes
+  covers-colon h k = sym (v ∙ rw (drop-of-length-le p {i = i} h, drop-cons w i 0 k))
+
+-- `urn:alert:`, byte by byte
+abbrev pub scheme : List ℕ
+scheme = 117 ∷ 114 ∷ 110 ∷ 58 ∷ 97 ∷ 108 ∷ 101 ∷ 114 ∷ 116 ∷ 58 ∷ []
+
+pub scheme-bytes : bytes "urn:alert:" ≡ scheme
+unfolding bytes bytesFrom
+scheme-bytes = refl
+
+pub upper-le : (x : ℕ) {b : Bool} → b ≡ within 65 90 x → b ≡ true → x ≤ 90
+upper-le x e t = leb-true x 90 (and-eq-true-iff (leb 65 x) (leb x 90) .0 (sym e ∙ t) .1)
+
+pub lower-in : (x : ℕ) {b : Bool} → b ≡ within 65 90 x → b ≡ true → x + 32 ≡ lower x
+lower-in x e t = simp (sym e ∙ t)
+
+pub lower-out : (x : ℕ) {b : Bool} → b ≡ within 65 90 x → b ≡ false → x ≡ lower x
+lower-out x e t = simp (sym e ∙ t)
+
+module _ (w s : List ℕ) (i : ℕ) {b : Bool} (v : b ≡ begins (drop i w) (drop i s)) where
+  pub begins-short : i < length w → length s ≤ i → false ≡ b
+  unfolding begins
+  begins-short h k = sym (v ∙ rw (drop-cons w i 0 h, drop-of-length-le s {i = i} k))
+
+  pub begins-more : {y : ℕ} → i < length w → i < length s → y ≡ lower (getD s i 0) → y ≡ getD w i 0 → b ≡ begins (drop (i + 1) w) (drop (i + 1) s)
+  unfolding begins
+  begins-more h k e q = v ∙ rw (add-one, drop-cons w i 0 h, drop-cons s i 0 k, eq-eqb (lower (getD s i 0)) (getD w i 0) (sym e ∙ q))
+
+  pub begins-less : {y : ℕ} → i < length w → i < length s → y ≡ lower (getD s i 0) → (y ≡ getD w i 0 → ⊥) → false ≡ b
+  unfolding begins
+  begins-less h k e q = sym (v ∙ rw (drop-cons w i 0 h, drop-cons s i 0 k, ne-eqb (lower (getD s i 0)) (getD w i 0) (λ z. q (e ∙ z))))
+
+  pub begins-end : length w ≤ i → true ≡ b
+  unfolding begins
+  begins-end h = sym (v ∙ rw (drop-of-length-le w {i = i} h))
+
+-- the names of a text, with n already read
+unfoldable pub namesFrom : ℕ → List ℕ → ℕ
+namesFrom n s = cond (all nameOk (fields 58 s)) (n + length (fields 58 s)) 0
+
+pub names-start : (s : List ℕ) → namesIn s ≡ namesFrom 0 s
+unfolding namesIn namesFrom
+names-start s = simp zero-add
+
+names-bad : (n : ℕ) (s : List ℕ) {b : Bool} → b ≡ nameOk (upTo 58 s) → b ≡ false → 0 ≡ namesFrom n s
+unfolding namesFrom all
+names-bad n s e t = simp (fields-first 58 s .1, sym e ∙ t)
+
+names-last : (n : ℕ) (s : List ℕ) {b : Bool} → length s ≤ length (upTo 58 s) → b ≡ nameOk (upTo 58 s) → b ≡ true → n + 1 ≡ namesFrom n s
+unfolding namesFrom all
+names-last n s h e t = simp (fields-last 58 s h, sym e ∙ t)
+
+names-more : (n : ℕ) (s : List ℕ) {b : Bool} → length (upTo 58 s) < length s → b ≡ nameOk (upTo 58 s) → b ≡ true
+    → namesFrom n s ≡ namesFrom (n + 1) (past 58 s)
+unfolding namesFrom all
+names-more n s h e t =
+    let l = length (fields 58 (past 58 s)) in
+    let k : n + suc l ≡ n + 1 + l = omega arith in
+    simp (fields-more 58 s h, sym e ∙ t, k)
+
+-- one name, read from `at`: k bytes long
+module _ (s : List ℕ) (at k : ℕ) (e : k ≡ length (upTo 58 (take (length s - at) (drop at s)))) where
+  rest : k ≡ length (upTo 58 (drop at s))
+  rest = rw part-end at e
+
+  pub field-le : at ≤ length s → at + k ≤ length s
+  field-le h = omega (arith, rest, upTo-le 58 (drop at s), length-drop at s)
+
+  module _ (n : ℕ) {b : Bool} (v : namesIn s ≡ namesFrom n (drop at s)) (f : b ≡ nameOk (take (at + k - at) (drop at s))) where
+    named : b ≡ nameOk (upTo 58 (drop at s))
+    named = rw (part-upTo 58 s at k rest) at f
+
+    pub names-stop : b ≡ false → 0 ≡ namesIn s
+    names-stop t = names-bad n (drop at s) named t ∙ sym v
+
+    pub names-step : b ≡ true → at + k < length s → namesIn s ≡ namesFrom (n + 1) (drop (at + k + 1) s)
+    names-step t h =
+        v ∙ names-more n (drop at s) (omega (arith, rest, length-drop at s)) named t ∙ ap (namesFrom (n + 1)) (sym (past-at 58 s at k rest))
+
+    pub names-done : b ≡ true → length s ≤ at + k → n + 1 ≡ namesIn s
+    names-done t h = names-last n (drop at s) (omega (arith, rest, length-drop at s)) named t ∙ sym v
+
+-- the forms, by the number of names
+pub rest-names : (s : List ℕ) {n : ℕ} → n ≡ namesIn s → leb 2 n ≡ restOk s
+unfolding namesIn restOk
+rest-names s e = byTest (all nameOk (fields 58 s)) (λ t. simp (e, t, and-true)) (λ t. simp (e, t, and-false))
+
+pub urn-names : (s : List ℕ) {n : ℕ} → n ≡ namesIn s → within 2 9 n ≡ urnOk s
+unfolding namesIn urnOk
+urn-names s e = byTest (all nameOk (fields 58 s)) (λ t. simp (e, t, and-true)) (λ t. simp (e, t, and-false))
+
+-- the form of a URI
+pub alert-other : (uri : List ℕ) {a : Bool} → a ≡ begins (bytes "urn:alert:") uri → a ≡ false → false ≡ alertUrn uri
+unfolding alertUrn
+alert-other uri e t = simp (sym e ∙ t)
+
+pub alert-rest : (uri s : List ℕ) {a b : Bool} → a ≡ begins (bytes "urn:alert:") uri → a ≡ true → s ≡ take (length uri) (drop 10 uri) → b ≡ restOk s → b ≡ alertUrn uri
+unfolding alertUrn
+alert-rest uri s e t i f =
+    f ∙ ap restOk (i ∙ take-all (length uri) (drop 10 uri) (simp length-drop (omega arith))) ∙ sym (simp (sym e ∙ t))

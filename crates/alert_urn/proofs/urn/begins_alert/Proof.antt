@@ -1,0 +1,62 @@
+use native.Mathlib.Omega.{arith}
+use Prim.Native.Nat.{_≤_, _-_}
+use mathlib.Core.Path.{_≡_, ap}
+use lib.ListN.{drop}
+use Rattle.alert_urn.specs.Urn.{begins, bytes}
+use Rattle.alert_urn.proofs.Turns.{scheme, scheme-bytes, begins-short, begins-more, begins-less, begins-end}
+use borrow.Author.Needs.{needs}
+use Rattle.alert_urn.proofs.urn.begins_alert.Statement.{statement}
+use Rattle.alert_urn.proofs.urn.begins_alert.Tie as tie
+
+abbrev Inv-loop : tie.InvT-loop
+Inv-loop s n scheme₀ i₀ i = (i ≤ 10) × (begins (bytes "urn:alert:") s ≡ begins (drop i scheme) (drop i s))
+
+abbrev μ-loop : tie.MeasureT-loop
+μ-loop s n scheme₀ i₀ i = 10 - i
+
+loop-holds : tie.Need-loop-holds Inv-loop μ-loop
+loop-holds c = (omega arith, ap (λ w. begins w (c .before .args .s .now)) scheme-bytes)
+
+returns : tie.Need-returns Inv-loop μ-loop
+returns c = begins-short scheme (c .before .before .before .before .args .s .now) (c .before .before .loop .i) (c .before .before .loop .inv .1) (c .before .loop-test .taken) (c .if1 .taken)
+
+array-read-x : tie.Need-array-read-x Inv-loop μ-loop
+array-read-x c = search needs
+
+shared-slice-read-lower-of : tie.Need-shared-slice-read-lower-of Inv-loop μ-loop
+shared-slice-read-lower-of c = search needs
+
+lower-of-requires : tie.Need-lower-of-requires Inv-loop μ-loop
+lower-of-requires c κs = search needs
+
+add-i : tie.Need-add-i Inv-loop μ-loop
+add-i c = search needs
+
+loop-less : tie.Need-loop-less Inv-loop μ-loop
+loop-less c = search needs
+
+loop-again : tie.Need-loop-again Inv-loop μ-loop
+loop-again c = (omega arith, begins-more scheme (c .before .before .before .before .before .before .before .args .s .now) (c .before .before .before .before .before .loop .i) (c .before .before .before .before .before .loop .inv .1) (c .before .before .before .before .loop-test .taken) (c .before .before .before .if1 .left) (c .before .lower-of .ensures) (c .if2 .taken))
+
+returns-2 : tie.Need-returns-2 Inv-loop μ-loop
+returns-2 c = begins-less scheme (c .before .before .before .before .before .before .before .args .s .now) (c .before .before .before .before .before .loop .i) (c .before .before .before .before .before .loop .inv .1) (c .before .before .before .before .loop-test .taken) (c .before .before .before .if1 .left) (c .before .lower-of .ensures) (c .if2 .left)
+
+returns-3 : tie.Need-returns-3 Inv-loop μ-loop
+returns-3 c = begins-end scheme (c .before .before .before .args .s .now) (c .before .loop .i) (c .before .loop .inv .1) (c .loop-test .left)
+
+pub begins-alert-spec : {M : Type 1} → statement M
+begins-alert-spec =
+    tie.close
+    (tie.spec
+    Inv-loop
+    μ-loop
+    loop-holds
+    returns
+    array-read-x
+    shared-slice-read-lower-of
+    lower-of-requires
+    add-i
+    loop-less
+    loop-again
+    returns-2
+    returns-3)

@@ -1,0 +1,52 @@
+-- Alert URNs: in a value with `urn:alert:` before them, in a stored table without it.
+use Prim.Native.Nat.{ℕ, zero, suc, _+_}
+use Prim.Native.String.{String, len, charAt}
+use Prim.Native.Char.{code}
+use mathlib.Core.Bool.{Bool, true, false, cond, _&&_}
+use mathlib.Core.List.{List, [], _∷_}
+use lib.ListN.{length, drop}
+use lib.Dec.{eqb, leb}
+use Rattle.alert_urn.specs.Text.{within, all, upTo, past, nameOk, fields}
+
+-- n characters of an ASCII text from the i-th on, as bytes
+unfoldable pub bytesFrom : String → ℕ → ℕ → List ℕ
+bytesFrom s i zero = []
+bytesFrom s i (suc n) = code (charAt s i) ∷ bytesFrom s (suc i) n
+
+-- an ASCII text as bytes
+unfoldable pub bytes : String → List ℕ
+bytes s = bytesFrom s 0 (len s)
+
+-- a letter as a small one
+abbrev pub lower : ℕ → ℕ
+lower x = cond (within 65 90 x) (x + 32) x
+
+-- the text begins with these small letters, in any letter case
+unfoldable pub begins : List ℕ → List ℕ → Bool
+begins [] s = true
+begins (x ∷ w) [] = false
+begins (x ∷ w) (y ∷ s) = eqb (lower y) x && begins w s
+
+-- what stands after `urn:alert:` : a category and one or more parts, with colons between
+unfoldable pub restOk : List ℕ → Bool
+restOk s = leb 2 (length (fields 58 s)) && all nameOk (fields 58 s)
+
+-- a URI is an alert URN
+unfoldable pub alertUrn : List ℕ → Bool
+alertUrn uri = begins (bytes "urn:alert:") uri && restOk (drop 10 uri)
+
+-- a URN in a stored table, without `urn:alert:` : a category and 1 to 8 parts
+unfoldable pub urnOk : List ℕ → Bool
+urnOk s = within 2 9 (length (fields 58 s)) && all nameOk (fields 58 s)
+
+-- what stands before the first colon of a URN without `urn:alert:`
+abbrev pub categoryOf : List ℕ → List ℕ
+categoryOf = upTo 58
+
+-- what stands after the first colon of a URN without `urn:alert:`
+abbrev pub pathOf : List ℕ → List ℕ
+pathOf = past 58
+
+-- how many names stand between the colons, or 0 if one of them is of bad form
+unfoldable pub namesIn : List ℕ → ℕ
+namesIn s = cond (all nameOk (fields 58 s)) (length (fields 58 s)) 0

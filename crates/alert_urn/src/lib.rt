@@ -1,0 +1,3 @@
+// Alert URNs as bytes: their form, and how texts are cut and compared.
+pub mod text;
+pub mod urn;

@@ -1,0 +1,179 @@
+ghost use mathlib.Core.Path.{_≡_};
+ghost use lib.ListN.{length, take, drop};
+ghost use Rattle.resolution.specs.Names.{sameName};
+ghost use Rattle.alert_urn.specs.Text.{within, labelByte, all, labelOk, upTo, past, nameOk, covers};
+
+// lo ≤ x ≤ hi
+pub fn in_range(x: u8, lo: u8, hi: u8) -> bool
+    ensures { λ r. ⌜ r ≡ within lo hi x ⌝ }
+{
+    if x < lo {
+        return false;
+    }
+    x <= hi
+}
+
+// A letter, a digit or a hyphen.
+pub fn label_byte(b: u8) -> bool
+    ensures { λ r. ⌜ r ≡ labelByte b ⌝ }
+{
+    if in_range(b, 97, 122) {
+        return true;
+    }
+    if in_range(b, 65, 90) {
+        return true;
+    }
+    if in_range(b, 48, 57) {
+        return true;
+    }
+    b == 45
+}
+
+// Every byte may stand in a label.
+pub fn label_bytes(s: &[u8]) -> bool
+    ensures { λ r. ⌜ r ≡ all labelByte (now (s .entry)) ⌝ }
+{
+    let mut i = 0;
+    while i < s.len() {
+        if label_byte(s[i]) {
+            i += 1;
+        } else {
+            return false;
+        }
+    }
+    true
+}
+
+// A label: 1 to 27 letters, digits and hyphens, no hyphen first or last.
+pub fn label(s: &[u8]) -> bool
+    ensures { λ r. ⌜ r ≡ labelOk (now (s .entry)) ⌝ }
+{
+    let n = s.len();
+    if n < 1 {
+        return false;
+    }
+    if 27 < n {
+        return false;
+    }
+    if s[0] == 45 {
+        return false;
+    }
+    let last = n - 1;
+    if s[last] == 45 {
+        return false;
+    }
+    label_bytes(s)
+}
+
+// How many bytes stand before the first c.
+pub fn find(s: &[u8], c: u8) -> usize
+    ensures { λ r. ⌜ r ≡ length (upTo c (now (s .entry))) ⌝ }
+{
+    let mut i = 0;
+    while i < s.len() {
+        if s[i] == c {
+            return i;
+        }
+        i += 1;
+    }
+    i
+}
+
+// A category or part: a label, or a label, `@` and a label.
+pub fn name(s: &[u8]) -> bool
+    ensures { λ r. ⌜ r ≡ nameOk (now (s .entry)) ⌝ }
+{
+    if label(s) {
+        return true;
+    }
+    let a = 0;
+    let i = find(s, 64);
+    let n = s.len();
+    if i < n {
+        let j = i + 1;
+        if label(&s[a..i]) {
+            return label(&s[j..n]);
+        }
+        return false;
+    }
+    false
+}
+
+// The len bytes from at, as far as the table has them.
+pub fn part(t: &[u8], at: usize, len: usize) -> &[u8]
+    ensures { λ r. ⌜ now r ≡ take len (drop at (now (t .entry))) ⌝ }
+{
+    let n = t.len();
+    if n <= at {
+        return &t[n..n];
+    }
+    let left = n - at;
+    if left <= len {
+        return &t[at..n];
+    }
+    let end = at + len;
+    &t[at..end]
+}
+
+// Two texts are equal.
+pub fn same(a: &[u8], b: &[u8]) -> bool
+    ensures { λ r. ⌜ r ≡ sameName (now (a .entry)) (now (b .entry)) ⌝ }
+{
+    let mut i = 0;
+    while i < a.len() {
+        if b.len() <= i {
+            return false;
+        }
+        if a[i] == b[i] {
+            i += 1;
+        } else {
+            return false;
+        }
+    }
+    b.len() <= i
+}
+
+// The text p is w or stands at its beginning, before a colon.
+pub fn covers(p: &[u8], w: &[u8]) -> bool
+    ensures { λ r. ⌜ r ≡ covers (now (p .entry)) (now (w .entry)) ⌝ }
+{
+    let n = p.len();
+    let m = w.len();
+    let mut i = 0;
+    while i < n {
+        if m <= i {
+            return false;
+        }
+        if p[i] == w[i] {
+            i += 1;
+        } else {
+            return false;
+        }
+    }
+    if m <= i {
+        return true;
+    }
+    w[i] == 58
+}
+
+// The bytes before the first colon.
+pub fn before_colon(s: &[u8]) -> &[u8]
+    ensures { λ r. ⌜ now r ≡ upTo 58 (now (s .entry)) ⌝ }
+{
+    let a = 0;
+    let k = find(s, 58);
+    &s[a..k]
+}
+
+// The bytes after the first colon.
+pub fn after_colon(s: &[u8]) -> &[u8]
+    ensures { λ r. ⌜ now r ≡ past 58 (now (s .entry)) ⌝ }
+{
+    let n = s.len();
+    let k = find(s, 58);
+    if k < n {
+        let a = k + 1;
+        return &s[a..n];
+    }
+    &s[n..n]
+}

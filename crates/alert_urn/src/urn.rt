@@ -1,0 +1,91 @@
+ghost use mathlib.Core.Path.{_≡_};
+ghost use lib.ListN.{length, drop};
+ghost use Rattle.alert_urn.specs.Text.{fields};
+ghost use Rattle.alert_urn.specs.Urn.{bytes, lower, begins, namesIn, restOk, alertUrn, urnOk};
+
+// urn:alert:
+const SCHEME: [u8; 10] = [117, 114, 110, 58, 97, 108, 101, 114, 116, 58];
+
+// A letter as a small one.
+pub fn lower_of(x: u8) -> u8
+    ensures { λ r. ⌜ r ≡ lower x ⌝ }
+{
+    if crate::text::in_range(x, 65, 90) {
+        return x + 32;
+    }
+    x
+}
+
+// The URI begins with `urn:alert:`, in any letter case.
+pub fn begins_alert(s: &[u8]) -> bool
+    ensures { λ r. ⌜ r ≡ begins (bytes "urn:alert:") (now (s .entry)) ⌝ }
+{
+    let n = s.len();
+    let scheme = SCHEME;
+    let mut i = 0;
+    while i < 10 {
+        if n <= i {
+            return false;
+        }
+        let x = scheme[i];
+        let y = lower_of(s[i]);
+        if y == x {
+            i += 1;
+        } else {
+            return false;
+        }
+    }
+    true
+}
+
+// How many names stand between the colons, or 0 if one of them is of bad form.
+pub fn names(s: &[u8]) -> usize
+    ensures { λ r. ⌜ r ≡ namesIn (now (s .entry)) ⌝ }
+{
+    let n = s.len();
+    let mut at = 0;
+    let mut count: usize = 0;
+    while at <= n {
+        let end = at + crate::text::find(&s[at..n], 58);
+        if crate::text::name(&s[at..end]) {
+            count += 1;
+            if end < n {
+                at = end + 1;
+            } else {
+                return count;
+            }
+        } else {
+            return 0;
+        }
+    }
+    0
+}
+
+// What stands after `urn:alert:` is a category and one or more parts.
+pub fn rest_formed(s: &[u8]) -> bool
+    ensures { λ r. ⌜ r ≡ restOk (now (s .entry)) ⌝ }
+{
+    2 <= names(s)
+}
+
+// The URI is an alert URN.
+pub fn is_alert_urn(uri: &[u8]) -> bool
+    ensures { λ r. ⌜ r ≡ alertUrn (now (uri .entry)) ⌝ }
+{
+    if begins_alert(uri) {
+        let n = uri.len();
+        return rest_formed(crate::text::part(uri, 10, n));
+    }
+    false
+}
+
+// A URN as a table stores it: a category and 1 to 8 parts.
+pub fn urn_formed(s: &[u8]) -> bool
+    ensures { λ r. ⌜ r ≡ urnOk (now (s .entry)) ⌝ }
+{
+    let n = names(s);
+    if n < 2 {
+        return false;
+    }
+    n <= 9
+}
