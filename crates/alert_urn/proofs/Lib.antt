@@ -1,2 +1,3 @@
+mod Alike
 pub mod Fields
 pub mod Turns

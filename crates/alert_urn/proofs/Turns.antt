@@ -74,24 +74,6 @@ pub part-all : (t : List ℕ) (at len : ℕ) → length t - at ≤ len → take 
 part-all t at len h =
     take-all (length t - at) (drop at t) (omega (arith, length-drop at t)) ∙ sym (take-all len (drop at t) (omega (arith, length-drop at t)))
 
--- two texts, one byte further
-module _ (a b : List ℕ) (i : ℕ) (v : sameName a b ≡ sameName (drop i a) (drop i b)) where
-  pub same-more : i < length a → i < length b → getD a i 0 ≡ getD b i 0 → sameName a b ≡ sameName (drop (i + 1) a) (drop (i + 1) b)
-  same-more h k e = v ∙ rw (add-one, drop-cons a i 0 h, drop-cons b i 0 k, eq-eqb (getD a i 0) (getD b i 0) e)
-
-  pub same-less : i < length a → i < length b → (getD a i 0 ≡ getD b i 0 → ⊥) → false ≡ sameName a b
-  same-less h k e = sym (v ∙ rw (drop-cons a i 0 h, drop-cons b i 0 k, ne-eqb (getD a i 0) (getD b i 0) e))
-
-  pub same-short : i < length a → length b ≤ i → false ≡ sameName a b
-  same-short h k = sym (v ∙ rw (drop-cons a i 0 h, drop-of-length-le b {i = i} k))
-
-  pub same-end : length a ≤ i → leb (length b) i ≡ sameName a b
-  same-end h =
-      let z : drop i a ≡ [] = drop-of-length-le a {i = i} h in
-      byTest (leb (length b) i)
-      (λ e. e ∙ sym (v ∙ rw (z, drop-of-length-le b {i = i} (leb-true (length b) i e))))
-      (λ e. e ∙ sym (v ∙ rw (z, drop-cons b i 0 (leb-false (length b) i e))))
-
 -- the bytes before and after the first c, as the code lends them
 pub before-end : (c : ℕ) (s : List ℕ) (k : ℕ) → k ≡ length (upTo c s) → take (k - 0) s ≡ upTo c s
 before-end c s k e = simp (sub-zero, e) (upTo-take c s)

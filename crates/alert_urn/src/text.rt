@@ -115,22 +115,27 @@ pub fn part(t: &[u8], at: usize, len: usize) -> &[u8]
     &t[at..end]
 }
 
-// Two texts are equal.
+// Two texts are equal. They are compared from both ends, since texts of one table often begin alike.
 pub fn same(a: &[u8], b: &[u8]) -> bool
     ensures { λ r. ⌜ r ≡ sameName (now (a .entry)) (now (b .entry)) ⌝ }
 {
-    let mut i = 0;
-    while i < a.len() {
-        if b.len() <= i {
-            return false;
-        }
-        if a[i] == b[i] {
-            i += 1;
-        } else {
-            return false;
-        }
+    let n = a.len();
+    if n != b.len() {
+        return false;
     }
-    b.len() <= i
+    let mut i = 0;
+    let mut end = n;
+    while i < end {
+        end -= 1;
+        if a[i] != b[i] {
+            return false;
+        }
+        if a[end] != b[end] {
+            return false;
+        }
+        i += 1;
+    }
+    true
 }
 
 // The text p is w or stands at its beginning, before a colon.
