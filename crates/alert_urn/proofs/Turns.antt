@@ -10,7 +10,8 @@ use lib.ListN.{length, getD, take, drop, length-drop, drop-of-length-le}
 use lib.Seq.{drop-cons, drop-length, take-all, take-nil}
 use lib.Dec.{eqb, leb, ltb}
 use borrow.Author.Tests.{lt-leb, le-leb, eq-eqb, ne-eqb, leb-true, leb-false}
-use Rattle.resolution.specs.Names.{sameList, sameName}
+use Rattle.resolution.specs.Lists.{sameList}
+use Rattle.resolution.specs.Names.{sameName}
 use Rattle.alert_urn.specs.Text.{all, within, upTo, past, fields, nameOk, labelOk, covers}
 use Rattle.alert_urn.specs.Urn.{bytes, bytesFrom, lower, begins, namesIn, restOk, alertUrn, urnOk}
 use Rattle.alert_urn.proofs.Fields.{byTest, upTo-take, upTo-le, past-drop, past-at, part-upTo, part-end, fields-first, fields-more, fields-last, coversBytes, covers-fields}

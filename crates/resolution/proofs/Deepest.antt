@@ -1,0 +1,84 @@
+-- Laws of the deepest node that is a path or above it, and of leaves.
+use Prim.Native.Nat.{ℕ, _+_}
+use mathlib.Core.Path.{_≡_, refl, sym, ap, _∙_}
+use mathlib.Core.Logic.{_⊎_, inl, inr, _≢_}
+use mathlib.Core.Bool.{Bool, true, false, cond, not, _&&_, _||_, true≢false, false≢true, and-eq-true-iff}
+use mathlib.Core.Option.{Option, none, some}
+use mathlib.Core.List.{List, [], _∷_, _++_, append-assoc, append-nil, append-cancel-left, List·Memᴰ, List·Memᴰ·head, List·Memᴰ·tail}
+use lib.Dec.{eqb}
+use lib.ListN.{length, length-append}
+use borrow.Author.Tests.{eqb-true, eq-eqb}
+use native.Mathlib.Omega.{arith}
+use Rattle.resolution.specs.Names.{Name, Parts, sameParts, below, properAncestor, somePart, longer, candidates, Above}
+use Rattle.resolution.proofs.Names.{parts-exact, below-to, below-self, longer-append, longer-first, Strict, in-longer}
+use Rattle.resolution.specs.Table.{Urn, urn}
+use Rattle.resolution.specs.Nodes.{sameUrn, member, isNode, hasUnder, isRoot, leaf, firstNode, deepest}
+use Rattle.resolution.specs.Symbols.{Symbol, isOther, symbolOf, stepsAsPath, stepsAs}
+use Rattle.resolution.proofs.Names.{above-root, between}
+
+module _ (ns : List Urn) (c : ℕ) where
+  first-in : (ps : List Parts) → (firstNode ns c ps ≡ []) ⊎ List·Memᴰ (firstNode ns c ps) ps
+  first-in [] = inl refl
+  first-in (p ∷ ps) = go (isNode ns c p) refl (first-in ps)
+    where
+      go : (b : Bool) → isNode ns c p ≡ b → (firstNode ns c ps ≡ []) ⊎ List·Memᴰ (firstNode ns c ps) ps
+          → (firstNode ns c (p ∷ ps) ≡ []) ⊎ List·Memᴰ (firstNode ns c (p ∷ ps)) (p ∷ ps)
+      go true e ih = inr (rw e (List·Memᴰ·head refl))
+      go false e (inl h) = inl (rw e h)
+      go false e (inr m) = inr (rw e (List·Memᴰ·tail m))
+
+  first-stop : (ps : List Parts) (p : Parts) (qs : List Parts) → isNode ns c p ≡ true → List·Memᴰ (firstNode ns c (ps ++ p ∷ qs)) (ps ++ p ∷ [])
+  first-stop [] p qs h = rw h (List·Memᴰ·head refl)
+  first-stop (q ∷ ps) p qs h = go (isNode ns c q) refl (first-stop ps p qs h)
+    where
+      go : (b : Bool) → isNode ns c q ≡ b → List·Memᴰ (firstNode ns c (ps ++ p ∷ qs)) (ps ++ p ∷ []) → List·Memᴰ (firstNode ns c ((q ∷ ps) ++ p ∷ qs)) ((q ∷ ps) ++ p ∷ [])
+      go true e m = rw e (List·Memᴰ·head refl)
+      go false e m = rw e (List·Memᴰ·tail m)
+
+  -- the deepest node is the path or its ancestor
+  pub deep-above : (u : Parts) → Above (deepest ns c u) u
+  unfolding deepest
+  deep-above u = go (first-in (longer [] u))
+    where
+      go : (deepest ns c u ≡ []) ⊎ List·Memᴰ (deepest ns c u) (longer [] u) → Above (deepest ns c u) u
+      go (inl e) = rw e (above-root u)
+      go (inr m) =
+          let s = in-longer [] u (deepest ns c u) m in
+          record { rest = s .last; joined = ap (λ l. l ++ s .last) (sym (s .is)) ∙ s .on }
+
+  -- and every node on the way is it or its ancestor
+  pub deep-most : (p u : Parts) → isNode ns c p ≡ true → Above p u → Above p (deepest ns c u)
+  unfolding deepest
+  deep-most [] u h a = above-root (deepest ns c u)
+  deep-most (x ∷ p) u h a =
+      let f = longer-first [] x p in
+      let k : longer [] u ≡ longer (x ∷ p) (a .rest) ++ (x ∷ p) ∷ f .0 = ap (longer []) (sym (a .joined)) ∙ longer-append [] (x ∷ p) (a .rest) ∙ ap (λ l. longer (x ∷ p) (a .rest) ++ l) (f .1) in
+      let m : List·Memᴰ (deepest ns c u) (candidates (x ∷ p) (a .rest)) = rw k (first-stop (longer (x ∷ p) (a .rest)) (x ∷ p) (f .0) h) in
+      between (x ∷ p) (a .rest) (deepest ns c u) m .0
+
+  -- no node lies under a leaf
+  under : (ms : List Urn) (q : Parts) (x : Name) (r : Parts) → member (urn c (q ++ x ∷ r)) ms ≡ true → hasUnder ms c q ≡ true
+  under [] q x r h = absurd (false≢true h)
+  under (n ∷ ms) q x r h = go (sameUrn (urn c (q ++ x ∷ r)) n) refl (λ h′. under ms q x r h′)
+    where
+      or-true : (b : Bool) → b || true ≡ true
+      or-true true = refl
+      or-true false = refl
+
+      go : (b : Bool) → sameUrn (urn c (q ++ x ∷ r)) n ≡ b → (member (urn c (q ++ x ∷ r)) ms ≡ true → hasUnder ms c q ≡ true) → hasUnder (n ∷ ms) c q ≡ true
+      go true e ih =
+          let k = and-eq-true-iff (eqb c (n .cat)) (sameParts (q ++ x ∷ r) (n .path)) .0 e in
+          rw (← eqb-true c (n .cat) (k .0), eq-eqb c c refl, ← parts-exact .to (q ++ x ∷ r) (n .path) (k .1), below-self q (x ∷ r))
+      go false e ih = rw (ih (rw e at h)) (or-true (eqb (n .cat) c && properAncestor q (n .path)))
+
+  pub leaf-ends : (q : Parts) (x : Name) (r : Parts) → leaf ns c q ≡ true → isNode ns c (q ++ x ∷ r) ≡ true → ⊥
+  unfolding leaf
+  leaf-ends q x r h k =
+      let a = and-eq-true-iff (not (isRoot q)) (not (hasUnder ns c q)) .0 h in
+      let b : false ≡ true = rw (under ns q x r k) at (a .1) in
+      false≢true b
+
+-- a node or the root above u is above the deepest
+pub above-deep : (ns : List Urn) (c : ℕ) (p u : Parts) → (p ≡ []) ⊎ (isNode ns c p ≡ true) → Above p u → Above p (deepest ns c u)
+above-deep ns c p u (inl e) a = rw e (above-root (deepest ns c u))
+above-deep ns c p u (inr n) a = deep-most ns c p u n a

@@ -1,0 +1,148 @@
+-- The step of direct resolution, and the step by symbols, are steps at a node.
+use Prim.Native.Nat.{ℕ, _+_, _<_}
+use mathlib.Core.Path.{_≡_, refl, sym, ap, subst, _∙_}
+use mathlib.Core.Logic.{_⊎_, inl, inr, _≢_}
+use mathlib.Core.Bool.{Bool, true, false, not, _&&_, true≢false, false≢true}
+use mathlib.Core.Option.{Option, none, some}
+use mathlib.Core.List.{List, [], _∷_, _++_, append-assoc, append-nil, List·Memᴰ, List·Memᴰ·not-nil, List·Memᴰ·eq-of-singleton}
+use lib.ListN.{length, getD, set, length-append}
+use lib.Seq.{set-getD, getD-set-same}
+use native.Mathlib.Omega.{arith}
+use Rattle.resolution.specs.Names.{Name, Parts, sameParts, below, properAncestor, longer, candidates, Above}
+use Rattle.resolution.proofs.Names.{parts-exact, below-to, below-self, above-self, above-root, above-trans, between, not-past, snoc-split, proper-to, proper-of, proper-above}
+use Rattle.resolution.specs.Table.{Urn, urn, Row}
+use Rattle.resolution.specs.Nodes.{isNode, RootOrNode, isRoot, deepest}
+use Rattle.resolution.specs.Direct.{Status, Open, Shut, State, Env, Hit, firstHit, openIf, statusAfter, takesUrn, move, step}
+use Rattle.resolution.proofs.Direct.{search-hit, search-last}
+use Rattle.resolution.specs.Symbols.{Symbol, stepsAsPath, stepsAs}
+use Rattle.resolution.proofs.Deepest.{deep-above, above-deep}
+use Rattle.resolution.proofs.Step.{EnvLaws, Valid, step-still, step-takes, seek, hit-node, beyond}
+use Rattle.resolution.specs.NodeStep.{nodeUnder, nodeTakes, nodeMove, nodeIfTaken, nodeStep}
+
+module _ (env : Env) (cats : ℕ) (ns : List Urn) (laws : EnvLaws env cats ns) where
+  -- a path d ++ f past d, where nothing is found past d and nodes above the path are above d
+  module _ (st : State) (g : Valid env cats ns st) (c : ℕ) (known : c < cats) (d f : Parts)
+      (quiet : (p : Parts) → List·Memᴰ p (longer d f) → env .finder (set (env .rows (st .signal)) c p) ≡ none)
+      (lies : (p : Parts) → RootOrNode ns c p → Above p (d ++ f) → Above p d) where
+    abbrev q : Parts
+    q = getD (env .rows (st .signal)) c []
+
+    q-node : RootOrNode ns c q
+    q-node = laws .noded (env .rows (st .signal)) (st .signal) c (g .live)
+
+    -- where p is a proper ancestor of d ++ f, and where it is not
+    same-under : (p : Parts) → RootOrNode ns c p → nodeUnder (below p d) (isRoot f) ≡ properAncestor p (d ++ f)
+    same-under p n = go (properAncestor p (d ++ f)) refl (below p d) refl f refl
+      where
+        past : (r : Parts) → p ++ r ≡ d → (x : Name) (h : Parts) → r ++ f ≡ x ∷ h → properAncestor p (d ++ f) ≡ true
+        past r j x h e = proper-of p (d ++ f) x h (ap (λ z. p ++ z) (sym e) ∙ sym (append-assoc p r f) ∙ ap (λ z. z ++ f) j)
+
+        go : (b : Bool) → properAncestor p (d ++ f) ≡ b → (o : Option Parts) → below p d ≡ o → (h : Parts) → f ≡ h → nodeUnder o (isRoot h) ≡ b
+        go true e none j h i =
+            let a = lies p n (proper-above p (d ++ f) e) in
+            let k : none ≡ some (a .rest) = sym j ∙ ap (below p) (sym (a .joined)) ∙ below-self p (a .rest) in
+            cc
+        go true e (some []) j [] i =
+            let w = proper-to p (d ++ f) e in
+            let k = below-to p d [] j in
+            absurd (omega (arith, length-append p (w .0 ∷ w .1), ap length (w .2), length-append d f, ap length i, length-append p [], ap length k))
+        go true e (some []) j (x ∷ h) i = refl
+        go true e (some (x ∷ r)) j h i = refl
+        go false e none j h i = refl
+        go false e (some []) j [] i = refl
+        go false e (some []) j (x ∷ h) i = absurd (true≢false (sym (past [] (below-to p d [] j) x h i) ∙ e))
+        go false e (some (x ∷ r)) j h i = absurd (true≢false (sym (past (x ∷ r) (below-to p d (x ∷ r) j) x (r ++ f) refl) ∙ e))
+
+    same-takes : (o : Status) → nodeTakes o q d (isRoot f) ≡ takesUrn o q (d ++ f)
+    same-takes Open = same-under q q-node
+    same-takes Shut = refl
+
+    pub step-at-node : step env st (urn c (d ++ f)) ≡ nodeStep env st c d (isRoot f)
+    unfolding nodeStep
+    step-at-node = go (takesUrn (getD (st .status) c Open) q (d ++ f)) refl
+      where
+        taken : (o : Status) → takesUrn o q (d ++ f) ≡ true → Above q d
+        taken Open e = lies q q-node (proper-above q (d ++ f) e)
+        taken Shut e = absurd (false≢true e)
+
+        settles : (p h : Parts) → f ≡ h → Above p d
+            → openIf (sameParts p (d ++ f)) ≡ openIf (isRoot h && sameParts p d)
+        settles p [] i a = ap (λ z. openIf (sameParts p z)) (ap (λ z. d ++ z) i ∙ append-nil d)
+        settles p (x ∷ h) i a = rw (not-past p d x h (d ++ f) a (ap (λ z. d ++ z) (sym i)))
+
+        go : (b : Bool) → takesUrn (getD (st .status) c Open) q (d ++ f) ≡ b
+            → step env st (urn c (d ++ f)) ≡ nodeIfTaken env st c d (isRoot f) (nodeTakes (getD (st .status) c Open) q d (isRoot f)) (below q d)
+        go false e = step-still env st (urn c (d ++ f)) e ∙ sym (rw (same-takes (getD (st .status) c Open), e))
+        go true e =
+            step-takes env st (urn c (d ++ f)) (a .rest ++ f) e (sym (append-assoc q (a .rest) f) ∙ ap (λ z. z ++ f) (a .joined))
+            ∙ ap (move env st c (d ++ f)) (seek env (env .rows (st .signal)) c q (a .rest) f (rw (a .joined) quiet) ∙ hh .1)
+            ∙ rw (same-takes (getD (st .status) c Open), e, at, hh .1) (ap (λ z. record { signal = hh .0 .signal; status = set (st .status) c z }) (settles (hh .0 .at) f refl h-above))
+          where
+            a : Above q d
+            a = taken (getD (st .status) c Open) e
+
+            at : below q d ≡ some (a .rest)
+            at = ap (below q) (sym (a .joined)) ∙ below-self q (a .rest)
+
+            hh : (h : Hit) × (firstHit env (env .rows (st .signal)) c (candidates q (a .rest)) ≡ some h)
+            hh = search-last env (env .rows (st .signal)) c (longer q (a .rest)) q (st .signal) (rw (set-getD (env .rows (st .signal)) c []) (g .live))
+
+            h-above : Above (hh .0 .at) d
+            h-above = rw (a .joined) at (between q (a .rest) (hh .0 .at) (search-hit env (env .rows (st .signal)) c (candidates q (a .rest)) (hh .0) (hh .1) .1) .1)
+
+  isRoot-same : (d f u : Parts) → d ++ f ≡ u → isRoot f ≡ sameParts d u
+  isRoot-same d [] u j = sym (ap (sameParts d) (sym j ∙ append-nil d) ∙ parts-exact .self d)
+  isRoot-same d (x ∷ f) u j = sym (not-past d d x f u (above-self d) j)
+
+  -- the step of direct resolution, at the deepest node above the URN
+  pub direct-at-node : (st : State) → Valid env cats ns st → (u : Urn) → u .cat < cats
+      → step env st u ≡ nodeStep env st (u .cat) (deepest ns (u .cat) (u .path)) (sameParts (deepest ns (u .cat) (u .path)) (u .path))
+  direct-at-node st g u known =
+      ap (λ z. step env st (urn (u .cat) z)) (sym (a .joined))
+      ∙ step-at-node st g (u .cat) known d (a .rest)
+      (beyond env cats ns laws (env .rows (st .signal)) (u .cat) (u .path) (a .rest) (rw (g .wide) known) (a .joined))
+      (λ p n b. above-deep ns (u .cat) p (u .path) n (rw (a .joined) at b))
+      ∙ ap (nodeStep env st (u .cat) d) (isRoot-same d (a .rest) (u .path) (a .joined))
+    where
+      d : Parts
+      d = deepest ns (u .cat) (u .path)
+
+      a : Above d (u .path)
+      a = deep-above ns (u .cat) (u .path)
+
+  -- the step by a symbol, at its node or root
+  pub symbol-at-node : (st : State) → Valid env cats ns st → (s : Symbol) → s .cat < cats
+      → step env st (stepsAs s) ≡ nodeStep env st (s .cat) (s .path) (not (s .other))
+  symbol-at-node st g s known = go (s .other)
+    where
+      q : Parts
+      q = getD (env .rows (st .signal)) (s .cat) []
+
+      in-row : s .cat < length (env .rows (st .signal))
+      in-row = rw (g .wide) known
+
+      quiet-fresh : (p : Parts) → List·Memᴰ p (longer (s .path) ([] ∷ [])) → env .finder (set (env .rows (st .signal)) (s .cat) p) ≡ none
+      quiet-fresh p m = by (env .finder (set (env .rows (st .signal)) (s .cat) p)) refl
+        where
+          by : (o : Option ℕ) → env .finder (set (env .rows (st .signal)) (s .cat) p) ≡ o → o ≡ none
+          by none e = refl
+          by (some t) e = absurd (no-hit (List·Memᴰ·eq-of-singleton m) (hit-node env cats ns laws (env .rows (st .signal)) (s .cat) p t in-row e))
+            where
+              no-hit : p ≡ s .path ++ [] ∷ [] → (p ≡ []) ⊎ (isNode ns (s .cat) p ≡ true) → ⊥
+              no-hit i (inl k) = omega (arith, length-append (s .path) ([] ∷ []), ap length i, ap length k)
+              no-hit i (inr k) = true≢false (sym k ∙ ap (isNode ns (s .cat)) i ∙ laws .fresh-node (s .cat) (s .path))
+
+      lies : (p : Parts) → RootOrNode ns (s .cat) p → (r : Parts) → p ++ r ≡ s .path ++ [] ∷ [] → Above p (s .path)
+      lies p (inl n) r j = rw n (above-root (s .path))
+      lies p (inr n) [] j = absurd (true≢false (sym n ∙ ap (isNode ns (s .cat)) (sym (append-nil p) ∙ j) ∙ laws .fresh-node (s .cat) (s .path)))
+      lies p (inr n) (x ∷ r) j = by (snoc-split p (s .path) x [] r j)
+        where
+          by : (p ≡ s .path) ⊎ ((y : Name) × (f : Parts) × (p ++ y ∷ f ≡ s .path)) → Above p (s .path)
+          by (inl e) = rw (← e) (above-self p)
+          by (inr k) = record { rest = k .0 ∷ k .1; joined = k .2 }
+
+      go : (o : Bool) → step env st (urn (s .cat) (stepsAsPath o (s .path))) ≡ nodeStep env st (s .cat) (s .path) (not o)
+      go false =
+          ap (λ z. step env st (urn (s .cat) z)) (sym (append-nil (s .path)))
+          ∙ step-at-node st g (s .cat) known (s .path) [] (λ p m. absurd (List·Memᴰ·not-nil m)) (λ p n b. rw append-nil at b)
+      go true = step-at-node st g (s .cat) known (s .path) ([] ∷ []) quiet-fresh (λ p n b. lies p n (b .rest) (b .joined))

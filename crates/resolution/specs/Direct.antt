@@ -1,0 +1,127 @@
+-- Direct resolution: the state, one step, and the fold over a list of URIs, used and skipped.
+use Prim.Native.Nat.{ℕ, suc, _+_, _<_}
+use mathlib.Core.Path.{_≡_}
+use mathlib.Core.Logic.{_≢_}
+use mathlib.Core.Bool.{Bool, true, false, _&&_}
+use mathlib.Core.Option.{Option, none, some}
+use mathlib.Core.List.{List, [], _∷_, foldl, List·Memᴰ}
+use lib.Dec.{eqb}
+use lib.ListN.{getD, set, length, replicate}
+use Rattle.resolution.specs.Lists.{sameList}
+use Rattle.resolution.specs.Names.{Parts, sameParts, below, properAncestor, candidates}
+use Rattle.resolution.specs.Table.{Urn, Table, Row, rowOf, find}
+
+-- a category is open, or shut for good
+pub data Status : Type 0 where
+  Open Shut : Status
+
+-- the current signal, and a status for each category
+pub record State : Type 0 where
+  pub signal : ℕ
+  pub status : List Status
+
+-- signal 0 and every category open
+abbrev pub start : ℕ → State
+start n = record { signal = 0; status = replicate n Open }
+
+-- what a step needs of a table: each signal's places, and the search for a signal by its places
+pub record Env : Type 0 where
+  pub rows : ℕ → Row
+  pub finder : Row → Option ℕ
+
+abbrev pub envOf : Table → Env
+envOf t = record { rows = rowOf t; finder = find t }
+
+-- a signal that was found, with the path at which it was
+pub record Hit : Type 0 where
+  pub at : Parts
+  pub signal : ℕ
+
+abbrev pub found : Parts → Option ℕ → Option Hit → Option Hit
+found p none rest = rest
+found p (some s) rest = some (record { at = p; signal = s })
+
+-- the first of the paths for which there is a signal with that place in c and the row's places in every other category
+abbrev pub firstHit : Env → Row → ℕ → List Parts → Option Hit
+firstHit env row c [] = none
+firstHit env row c (p ∷ ps) = found p (env .finder (set row c p)) (firstHit env row c ps)
+
+-- a category with this status and place takes the URN u: it is open, and its place is a proper ancestor of u
+abbrev pub takesUrn : Status → Parts → Parts → Bool
+takesUrn Open p u = properAncestor p u
+takesUrn Shut p u = false
+
+abbrev pub openIf : Bool → Status
+openIf true = Open
+openIf false = Shut
+
+-- a category's status after u was taken and the signal found at h: open if that is u itself, else shut
+abbrev pub statusAfter : Env → ℕ → Parts → Hit → Status
+statusAfter env c u h = openIf (sameParts (h .at) u)
+
+abbrev pub move : Env → State → ℕ → Parts → Option Hit → State
+move env st c u none = st
+move env st c u (some h) = record { signal = h .signal; status = set (st .status) c (statusAfter env c u h) }
+
+-- if u is taken: the longest candidate between the present place and u, by what is left of u after that place
+abbrev pub ifTaken : Env → State → ℕ → Parts → Bool → Option Parts → State
+ifTaken env st c u false rest = st
+ifTaken env st c u true none = st
+ifTaken env st c u true (some r) = move env st c u (firstHit env (env .rows (st .signal)) c (candidates (getD (env .rows (st .signal)) c []) r))
+
+-- the state after one used URN
+unfoldable pub step : Env → State → Urn → State
+step env st u =
+    ifTaken env st (u .cat) (u .path)
+    (takesUrn (getD (st .status) (u .cat) Open) (getD (env .rows (st .signal)) (u .cat) []) (u .path))
+    (below (getD (env .rows (st .signal)) (u .cat) []) (u .path))
+
+-- the state after a list of used URNs, from left to right
+abbrev pub direct : Table → List Urn → State
+direct t us = foldl (step (envOf t)) (start (t .cats)) us
+
+-- a used URN of a table: its category is in the table, and its path has at least one part
+pub record Used (t : Table) (u : Urn) : Type 0 where
+  pub known : u .cat < t .cats
+  pub some-part : u .path ≢ []
+
+-- a list of URIs: some u for a used one with its URN, none for a skipped one
+abbrev pub usedOf : List (Option Urn) → List Urn
+usedOf [] = []
+usedOf (none ∷ l) = usedOf l
+usedOf (some u ∷ l) = u ∷ usedOf l
+
+abbrev pub usedCount : List (Option Urn) → ℕ
+usedCount l = length (usedOf l)
+
+abbrev pub skippedCount : List (Option Urn) → ℕ
+skippedCount [] = 0
+skippedCount (none ∷ l) = suc (skippedCount l)
+skippedCount (some u ∷ l) = skippedCount l
+
+-- every URI of the list is a used one of the table, or skipped
+abbrev pub AllUsed : Table → List (Option Urn) → Type 0
+AllUsed t l = (u : Urn) → List·Memᴰ u (usedOf l) → Used t u
+
+-- a step by a URI: a skipped one changes nothing
+abbrev pub stepUri : {S : Type 0} → (S → Urn → S) → S → Option Urn → S
+stepUri next s none = s
+stepUri next s (some u) = next s u
+
+abbrev pub changed : Bool → ℕ
+changed true = 0
+changed false = 1
+
+-- how often the signal changes over a list: at an element if its number after it is another than before
+abbrev pub changes : {S A : Type 0} → (S → ℕ) → (S → A → S) → S → List A → ℕ
+changes signalOf next s [] = 0
+changes signalOf next s (a ∷ l) = changed (eqb (signalOf (next s a)) (signalOf s)) + changes signalOf next (next s a) l
+
+abbrev pub sameStatus : Status → Status → Bool
+sameStatus Open Open = true
+sameStatus Open Shut = false
+sameStatus Shut Open = false
+sameStatus Shut Shut = true
+
+abbrev pub sameState : State → State → Bool
+sameState a b = eqb (a .signal) (b .signal) && sameList sameStatus (a .status) (b .status)
