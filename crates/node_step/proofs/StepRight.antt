@@ -1,0 +1,384 @@
+-- The step at a node's number is the theory's step at the node.
+use Prim.Native.Nat.{ℕ, zero, suc, _+_, _-_, _*_, _^_, _≤_, _<_}
+use mathlib.Core.Path.{_≡_, refl, sym, ap, ap₂, _∙_}
+use mathlib.Core.Logic.{_⊎_, inl, inr, _≢_}
+use mathlib.Core.Bool.{Bool, true, false, cond, not, _&&_, and-false, true≢false, false≢true}
+use mathlib.Core.Option.{Option, none, some}
+use mathlib.Core.List.{List, [], _∷_, _++_, append-assoc, append-nil}
+use lib.Dec.{eqb, ltb, leb}
+use borrow.Author.Tests.{eqb-true, eq-eqb, ne-eqb, lt-ltb, le-leb, lt-leb}
+use lib.ListN.{length, getD, set, take, drop, length-append, length-set, take-append-drop}
+use lib.Seq.{set-getD, getD-set-same, getD-set-other}
+use native.Mathlib.Omega.{arith}
+use native.Mathlib.Nat.{add-zero, zero-add}
+use Rattle.resolution.specs.Names.{Name, Parts, sameParts, below, longer, candidates}
+use Rattle.resolution.proofs.Names.{parts-exact, row-exact, below-to, below-self, longer-append, snoc-split}
+use Rattle.resolution.specs.Table.{Urn, urn, Table, Row, rowFrom, rowOf, sameRow, findFrom, find, WellFormed}
+use Rattle.resolution.proofs.Table.{row-length}
+use Rattle.resolution.specs.Nodes.{sameUrn, member, nodes, isNode, RootOrNode}
+use Rattle.alert_urn.specs.Text.{someBelow}
+use Rattle.resolution.proofs.Nodes.{urn-exact}
+use Rattle.resolution.proofs.TableStep.{table-laws}
+use Rattle.resolution.specs.Nodes.{number, nodeAt}
+use Rattle.resolution.proofs.Numbers.{ParentIn, Parents, nodes-ordered, number-node}
+use Rattle.resolution.proofs.Lists.{member-more}
+use Rattle.resolution.specs.Direct.{Status, Open, Shut, Env, envOf, found, firstHit, openIf}
+use Rattle.resolution.specs.Direct as direct
+use Rattle.resolution.proofs.Direct.{search-hit}
+use Rattle.resolution.proofs.Lists.{getD-set-cases}
+use Rattle.resolution.proofs.Step.{Valid, hit-node}
+use Rattle.resolution.specs.NodeStep.{nodeUnder, nodeTakes, nodeMove, nodeIfTaken, nodeStep}
+use Rattle.node_step.specs.declared.State.{State}
+use Rattle.node_step.specs.declared.Hit.{Hit}
+use Rattle.node_step.specs.Step.{bits, coded, few, isShut, withShut, digit, put, rowAt, parentOf, reaches, findRow, noHit, hitAt, seek, takes, moved, stepNumbers}
+use Rattle.node_step.specs.Arrays.{pack, numbersFrom, Numbers}
+use Rattle.node_step.proofs.PackedLaws.{Bytes, pack-digit, pack-set, pack-same, shutTest, bit-at, bit-set}
+use Rattle.node_step.proofs.NumberLaws.{same-test, root-number, number-same, number-test, numbers-length, numbers-at, numbers-set, numbers-bytes, Anchored, numbers-same, row-anchored, find-below, foundRow, finds}
+
+-- a path is the root, or a path with one more part
+pub snoc-view : (r : Parts) → (r ≡ []) ⊎ ((e : Parts) × (x : Name) × (r ≡ e ++ x ∷ []))
+snoc-view [] = inl refl
+snoc-view (y ∷ r) = go (snoc-view r)
+  where
+    go : (r ≡ []) ⊎ ((e : Parts) × (x : Name) × (r ≡ e ++ x ∷ [])) → (y ∷ r ≡ []) ⊎ ((e : Parts) × (x : Name) × (y ∷ r ≡ e ++ x ∷ []))
+    go (inl e) = inr ([], y, ap (λ l. y ∷ l) e)
+    go (inr k) = inr (y ∷ k .0, k .1, ap (λ l. y ∷ l) (k .2))
+
+parents-at : (a l : List Urn) → Parents a l → (k : ℕ) → k < length l → ParentIn (a ++ take k l) (nodeAt l k)
+parents-at a [] ps k h = absurd (omega arith)
+parents-at a (u ∷ l) ps zero h = rw (append-nil a) (ps .0)
+parents-at a (u ∷ l) ps (suc k) h = rw (append-assoc a (u ∷ []) (take k l)) at (parents-at (a ++ u ∷ []) l (ps .1) k (omega arith))
+
+-- a node's parent is the root or a node
+pub parent-anchor : (t : Table) (c : ℕ) (p : Parts) (x : Name) → isNode (nodes t) c (p ++ x ∷ []) ≡ true → RootOrNode (nodes t) c p
+parent-anchor t c p x h =
+    let w = number-node (nodes t) c (p ++ x ∷ []) h in
+    go (w .0) ((rw (w .3) at (parents-at [] (nodes t) (nodes-ordered t .parents) (w .0) (w .1))) p x refl)
+  where
+    go : (k : ℕ) → (p ≡ []) ⊎ (member (urn c p) (take k (nodes t)) ≡ true) → RootOrNode (nodes t) c p
+    go k (inl i) = inl i
+    go k (inr i) = inr (rw (take-append-drop k (nodes t)) at (member-more sameUrn urn-exact (urn c p) (take k (nodes t)) (drop k (nodes t)) i))
+
+-- q is above d with one more part, if it is not that: it is above d
+below-snoc : (q d : Parts) (x : Name) → (d ++ x ∷ [] ≡ q → ⊥) → someBelow (below q (d ++ x ∷ [])) ≡ someBelow (below q d)
+below-snoc q d x n =
+    same-test (someBelow (below q (d ++ x ∷ []))) (someBelow (below q d)) (λ e. down (below q (d ++ x ∷ [])) refl e) (λ e. up (below q d) refl e)
+  where
+    is : (r u : Parts) → q ++ r ≡ u → someBelow (below q u) ≡ true
+    is r u j = rw (← j, below-self q r)
+
+    down : (o : Option Parts) → below q (d ++ x ∷ []) ≡ o → someBelow o ≡ true → someBelow (below q d) ≡ true
+    down none b e = absurd (false≢true e)
+    down (some []) b e = absurd (n (sym (below-to q (d ++ x ∷ []) [] b) ∙ append-nil q))
+    down (some (y ∷ r)) b e = by (snoc-split q d y x r (below-to q (d ++ x ∷ []) (y ∷ r) b))
+      where
+        by : (q ≡ d) ⊎ ((z : Name) × (f : Parts) × (q ++ z ∷ f ≡ d)) → someBelow (below q d) ≡ true
+        by (inl i) = is [] d (append-nil q ∙ i)
+        by (inr k) = is (k .0 ∷ k .1) d (k .2)
+
+    up : (o : Option Parts) → below q d ≡ o → someBelow o ≡ true → someBelow (below q (d ++ x ∷ [])) ≡ true
+    up none b e = absurd (false≢true e)
+    up (some r) b e = is (r ++ x ∷ []) (d ++ x ∷ []) (sym (append-assoc q r (x ∷ [])) ∙ ap (λ z. z ++ x ∷ []) (below-to q d r b))
+
+-- the candidates of a path with one more part
+candidates-snoc : (q e : Parts) (x : Name) → candidates q (e ++ x ∷ []) ≡ (q ++ e ++ x ∷ []) ∷ candidates q e
+candidates-snoc q e x = ap (λ l. l ++ q ∷ []) (longer-append q e (x ∷ []))
+
+no-below : (q : Parts) → ([] ≡ q → ⊥) → someBelow (below q []) ≡ false
+no-below [] n = absurd (n refl)
+no-below (x ∷ q) n = refl
+
+module _ (rows ps : List ℕ) (n : ℕ) (t : Table) (wf : WellFormed t) (nu : Numbers rows ps n t) (c : ℕ) (known : c < t .cats) where
+  abbrev num : Parts → ℕ
+  num p = number (nodes t) c p
+
+  -- one step up
+  module _ (p : Parts) (x : Name) (a : RootOrNode (nodes t) c (p ++ x ∷ [])) where
+    is-node : isNode (nodes t) c (p ++ x ∷ []) ≡ true
+    is-node = go a
+      where
+        go : RootOrNode (nodes t) c (p ++ x ∷ []) → isNode (nodes t) c (p ++ x ∷ []) ≡ true
+        go (inl e) = absurd (omega (arith, length-append p (x ∷ []), ap length e))
+        go (inr e) = e
+
+    up-anchor : RootOrNode (nodes t) c p
+    up-anchor = parent-anchor t c p x is-node
+
+    up-number : parentOf ps (num (p ++ x ∷ [])) ≡ num p
+    up-number =
+        let w = number-node (nodes t) c (p ++ x ∷ []) is-node in
+        let f = nu .few-nodes in
+        let e : suc (w .0) - 1 ≡ w .0 = omega arith in
+        let g : getD ps (w .0) 0 ≡ number (nodes t) (nodeAt (nodes t) (w .0) .cat) p = nu .parent-at (w .0) (w .1) p x (ap (λ u. u .path) (w .3)) in
+        rw (w .2, ne-eqb (suc (w .0)) 0 (λ z. omega arith), le-leb (suc (w .0)) 64 (omega (arith, w .1)), e) (g ∙ ap (λ u. number (nodes t) (u .cat) p) (w .3))
+
+    not-root : num (p ++ x ∷ []) ≢ 0
+    not-root z = let w = number-node (nodes t) c (p ++ x ∷ []) is-node in omega (arith, w .2)
+
+  -- the way up
+  module _ (q : Parts) (aq : RootOrNode (nodes t) c q) where
+    reach-root : (k : ℕ) → ([] ≡ q → ⊥) → cond (eqb (num []) 0) false (reaches ps (num q) k (parentOf ps (num []))) ≡ someBelow (below q [])
+    reach-root k ne = ap (λ b. cond b false (reaches ps (num q) k (parentOf ps (num [])))) (eq-eqb (num []) 0 (root-number t c)) ∙ sym (no-below q ne)
+
+    reach-node : (k : ℕ) (e : Parts) (x : Name) → RootOrNode (nodes t) c (e ++ x ∷ []) → (e ++ x ∷ [] ≡ q → ⊥)
+        → (RootOrNode (nodes t) c e → reaches ps (num q) k (num e) ≡ someBelow (below q e))
+        → cond (eqb (num (e ++ x ∷ [])) 0) false (reaches ps (num q) k (parentOf ps (num (e ++ x ∷ [])))) ≡ someBelow (below q (e ++ x ∷ []))
+    reach-node k e x a ne ih =
+        ap (λ b. cond b false (reaches ps (num q) k (parentOf ps (num (e ++ x ∷ []))))) (ne-eqb (num (e ++ x ∷ [])) 0 (not-root e x a))
+        ∙ ap (reaches ps (num q) k) (up-number e x a)
+        ∙ ih (up-anchor e x a)
+        ∙ sym (below-snoc q e x ne)
+
+    reach-right : (k : ℕ) (d : Parts) → length d < k → RootOrNode (nodes t) c d → reaches ps (num q) k (num d) ≡ someBelow (below q d)
+    unfolding reaches
+    reach-right zero d h a = absurd (omega arith)
+    reach-right (suc k) d h a = go (eqb (num d) (num q)) refl (λ e l b. reach-right k e l b)
+      where
+        go : (b : Bool) → eqb (num d) (num q) ≡ b
+            → ((e : Parts) → length e < k → RootOrNode (nodes t) c e → reaches ps (num q) k (num e) ≡ someBelow (below q e))
+            → cond b true (cond (eqb (num d) 0) false (reaches ps (num q) k (parentOf ps (num d)))) ≡ someBelow (below q d)
+        go true e ih = let i = number-same t c d q a aq (eqb-true _ _ e) in sym (ap (λ z. someBelow (below q z)) (i ∙ sym (append-nil q)) ∙ ap someBelow (below-self q []))
+        go false e ih = by (snoc-view d)
+          where
+            ne : d ≡ q → ⊥
+            ne i = true≢false (sym (eq-eqb _ _ (ap num i)) ∙ e)
+
+            by : (d ≡ []) ⊎ ((e : Parts) × (x : Name) × (d ≡ e ++ x ∷ [])) → cond (eqb (num d) 0) false (reaches ps (num q) k (parentOf ps (num d))) ≡ someBelow (below q d)
+            by (inl i) = rw i (reach-root k (rw i at ne))
+            by (inr w) =
+                rw (w .2) (reach-node k (w .0) (w .1) (rw (w .2) at a) (rw (w .2) at ne) (ih (w .0) (omega (arith, length-append (w .0) (w .1 ∷ []), ap length (w .2)))))
+
+  -- a signal's row, and the search for one that differs in c
+  module _ (s : ℕ) (hs : s < n) where
+    abbrev row : Row
+    row = rowOf t s
+
+    abbrev nums : List ℕ
+    nums = numbersFrom (nodes t) 0 row
+
+    abbrev q : Parts
+    q = getD row c []
+
+    inside : s < length (t .signals)
+    inside = rw (nu .all-signals) hs
+
+    wide : c < length row
+    wide = rw (row-length (getD (t .signals) s []) 0 (t .cats)) known
+
+    q-anchor : RootOrNode (nodes t) c q
+    q-anchor = rw (zero-add c) at (row-anchored t wf s inside c)
+
+    row-is : rowAt rows s ≡ pack nums
+    row-is = let l = nu .few-signals in rw (lt-ltb s 32 (omega arith)) (nu .packed s hs)
+
+    digit-is : digit (pack nums) c ≡ num q
+    digit-is = pack-digit nums c (numbers-bytes (nodes t) (nu .few-nodes) 0 row) ∙ numbers-at (nodes t) 0 row c wide ∙ ap (λ z. number (nodes t) z q) (zero-add c)
+
+    row-test : (r u : Row) → Anchored t 0 r → Anchored t 0 u → length r ≡ length u
+        → sameRow r u ≡ eqb (pack (numbersFrom (nodes t) 0 r)) (pack (numbersFrom (nodes t) 0 u))
+    row-test r u a b l =
+        same-test (sameRow r u) (eqb (pack (numbersFrom (nodes t) 0 r)) (pack (numbersFrom (nodes t) 0 u)))
+        (λ e. eq-eqb _ _ (ap (λ z. pack (numbersFrom (nodes t) 0 z)) (row-exact .to r u e)))
+        (λ e. rw (numbers-same t 0 r u a b l
+        (pack-same (numbersFrom (nodes t) 0 r) (numbersFrom (nodes t) 0 u) (numbers-length (nodes t) 0 r ∙ l ∙ sym (numbers-length (nodes t) 0 u))
+        (numbers-bytes (nodes t) (nu .few-nodes) 0 r) (numbers-bytes (nodes t) (nu .few-nodes) 0 u) (eqb-true _ _ e))) (row-exact .self u))
+
+    module _ (p : Parts) (ap′ : RootOrNode (nodes t) c p) where
+      set-anchored : Anchored t 0 (set row c p)
+      set-anchored k = go (getD-set-cases row c k p [])
+        where
+          go : ((k ≡ c) × (getD (set row c p) k [] ≡ p)) ⊎ (getD (set row c p) k [] ≡ getD row k []) → RootOrNode (nodes t) (0 + k) (getD (set row c p) k [])
+          go (inl w) = rw (zero-add k, w .1, w .0) ap′
+          go (inr e) = rw e (row-anchored t wf s inside k)
+
+      key-is : put (pack nums) c (num p) ≡ pack (numbersFrom (nodes t) 0 (set row c p))
+      key-is =
+          pack-set nums c (num p) (numbers-bytes (nodes t) (nu .few-nodes) 0 row) (rw (numbers-length (nodes t) 0 row) wide)
+          ∙ ap pack (ap (λ z. set nums c (number (nodes t) z p)) (sym (zero-add c)) ∙ sym (numbers-set (nodes t) 0 row c p))
+
+      find-right : find t (set row c p) ≡ foundRow (findRow rows (put (pack nums) c (num p)) 0 n)
+      find-right =
+          finds (t .cats) (set row c p) rows (put (pack nums) c (num p)) 0 (t .signals) agree (let l = nu .few-signals in let m = nu .all-signals in omega arith)
+          ∙ ap (λ z. foundRow (findRow rows (put (pack nums) c (num p)) 0 z)) (nu .all-signals)
+        where
+          agree : (k : ℕ) → k < length (t .signals) → sameRow (rowOf t k) (set row c p) ≡ eqb (getD rows (0 + k) 0) (put (pack nums) c (num p))
+          agree k h =
+              row-test (rowOf t k) (set row c p) (row-anchored t wf k h) set-anchored
+              (row-length (getD (t .signals) k []) 0 (t .cats) ∙ sym (length-set row c p ∙ row-length (getD (t .signals) s []) 0 (t .cats)))
+              ∙ ap₂ eqb (sym (nu .packed k (rw (nu .all-signals) at h)) ∙ ap (λ z. getD rows z 0) (sym (zero-add k))) (sym key-is)
+
+    -- the hit, by its number
+    abbrev hitOf : Option direct.Hit → Hit
+    hitOf none = noHit
+    hitOf (some h) = hitAt (num (h .at)) (h .signal)
+
+    found-right : (d : Parts) (f : ℕ) (o : Option ℕ) → o ≡ foundRow f → (rest : Hit) (more : Option direct.Hit) → rest ≡ hitOf more
+        → cond (ltb f 32) (hitAt (num d) f) rest ≡ hitOf (found d o more)
+    found-right d f o e rest more r = go (ltb f 32) refl
+      where
+        go : (b : Bool) → ltb f 32 ≡ b → cond b (hitAt (num d) f) rest ≡ hitOf (found d o more)
+        go true h = let i : o ≡ some f = rw h at e in rw i
+        go false h = let i : o ≡ none = rw h at e in rw i r
+
+    seek-base : (k : ℕ) → seek rows ps n (pack nums) c (num q) (suc k) (num q) ≡ hitOf (firstHit (envOf t) row c (candidates q []))
+    unfolding seek
+    seek-base k =
+        found-right q (findRow rows (put (pack nums) c (num q)) 0 n) (find t (set row c q)) (find-right q q-anchor)
+        (cond (eqb (num q) (num q)) noHit (seek rows ps n (pack nums) c (num q) k (parentOf ps (num q)))) none (rw (eq-eqb (num q) (num q) refl))
+
+    seek-node : (k : ℕ) (e : Parts) (x : Name) → RootOrNode (nodes t) c (q ++ e ++ x ∷ [])
+        → (RootOrNode (nodes t) c (q ++ e) → seek rows ps n (pack nums) c (num q) k (num (q ++ e)) ≡ hitOf (firstHit (envOf t) row c (candidates q e)))
+        → seek rows ps n (pack nums) c (num q) (suc k) (num (q ++ e ++ x ∷ [])) ≡ hitOf (firstHit (envOf t) row c (candidates q (e ++ x ∷ [])))
+    unfolding seek
+    seek-node k e x a ih =
+        found-right (q ++ e ++ x ∷ []) (findRow rows (put (pack nums) c (num (q ++ e ++ x ∷ []))) 0 n) (find t (set row c (q ++ e ++ x ∷ []))) (find-right (q ++ e ++ x ∷ []) a)
+        (cond (eqb (num (q ++ e ++ x ∷ [])) (num q)) noHit (seek rows ps n (pack nums) c (num q) k (parentOf ps (num (q ++ e ++ x ∷ [])))))
+        (firstHit (envOf t) row c (candidates q e))
+        (ap (λ b. cond b noHit (seek rows ps n (pack nums) c (num q) k (parentOf ps (num (q ++ e ++ x ∷ []))))) (ne-eqb _ _ other)
+        ∙ ap (seek rows ps n (pack nums) c (num q) k) (up-number (q ++ e) x a)
+        ∙ ih (up-anchor (q ++ e) x a))
+        ∙ ap (λ l. hitOf (firstHit (envOf t) row c l)) (sym (candidates-snoc q e x))
+      where
+        other : num (q ++ e ++ x ∷ []) ≡ num q → ⊥
+        other i =
+            let j = number-same t c (q ++ e ++ x ∷ []) q a q-anchor i in
+            omega (arith, length-append (q ++ e) (x ∷ []), length-append q e, ap length j)
+
+    seek-right : (k : ℕ) (r : Parts) → length r < k → RootOrNode (nodes t) c (q ++ r) → seek rows ps n (pack nums) c (num q) k (num (q ++ r)) ≡ hitOf (firstHit (envOf t) row c (candidates q r))
+    seek-right zero r h a = absurd (omega arith)
+    seek-right (suc k) r h a = by (snoc-view r) (λ e l b. seek-right k e l b)
+      where
+        by : (r ≡ []) ⊎ ((e : Parts) × (x : Name) × (r ≡ e ++ x ∷ []))
+            → ((e : Parts) → length e < k → RootOrNode (nodes t) c (q ++ e) → seek rows ps n (pack nums) c (num q) k (num (q ++ e)) ≡ hitOf (firstHit (envOf t) row c (candidates q e)))
+            → seek rows ps n (pack nums) c (num q) (suc k) (num (q ++ r)) ≡ hitOf (firstHit (envOf t) row c (candidates q r))
+        by (inl i) ih = rw (i, append-nil q) (seek-base k)
+        by (inr w) ih =
+            rw (w .2, ← append-assoc q (w .0) (w .1 ∷ []))
+            (seek-node k (w .0) (w .1) (rw (w .2, ← append-assoc q (w .0) (w .1 ∷ [])) at a) (ih (w .0) (omega (arith, length-append (w .0) (w .1 ∷ []), ap length (w .2)))))
+
+-- what a category takes, by its status and what is left below its place
+abbrev takesBy : Status → Option Parts → Bool → Bool
+takesBy Open u whole = nodeUnder u whole
+takesBy Shut u whole = false
+
+takes-by : (o : Status) (q d : Parts) (whole : Bool) → nodeTakes o q d whole ≡ takesBy o (below q d) whole
+takes-by Open q d whole = refl
+takes-by Shut q d whole = refl
+
+-- a path no node of the table is longer than
+few-parts-at : {rows ps : List ℕ} {n : ℕ} (t : Table) → Numbers rows ps n t → (c : ℕ) (d : Parts) → RootOrNode (nodes t) c d → length d ≤ 8
+few-parts-at t nu c d (inl e) = omega (arith, ap length e)
+few-parts-at t nu c d (inr e) =
+    let w = number-node (nodes t) c d e in
+    omega (arith, nu .few-parts (w .0) (w .1), ap (λ u. length (u .path)) (w .3))
+
+openIf-bits : (l : List Status) (c : ℕ) → c < length l → getD l c Open ≡ Open → (b : Bool) → cond b (bits l) (withShut (bits l) c) ≡ bits (set l c (openIf b))
+openIf-bits l c h e true = ap bits (sym (set-getD l c Open) ∙ ap (set l c) e)
+openIf-bits l c h e false = sym (bit-set l c h e)
+
+module _ (rows ps : List ℕ) (n : ℕ) (t : Table) (wf : WellFormed t) (nu : Numbers rows ps n t) (st : direct.State) (g : Valid (envOf t) (t .cats) (nodes t) st)
+    (c : ℕ) (known : c < t .cats) (d : Parts) (ad : RootOrNode (nodes t) c d) (whole : Bool) where
+  abbrev env : Env
+  env = envOf t
+
+  abbrev here : Parts
+  here = getD (rowOf t (st .signal)) c []
+
+  abbrev no : Parts → ℕ
+  no p = number (nodes t) c p
+
+  abbrev packs : ℕ
+  packs = pack (numbersFrom (nodes t) 0 (rowOf t (st .signal)))
+
+  low : st .signal < n
+  low = omega (arith, find-below (t .cats) 0 (t .signals) (rowOf t (st .signal)) (st .signal) (g .live), nu .all-signals)
+
+  here-anchor : RootOrNode (nodes t) c here
+  here-anchor = q-anchor rows ps n t wf nu c known (st .signal) low
+
+  -- the test
+  takes-right : takes ps (bits (st .status)) c (no here) (no d) whole
+      ≡ (not (shutTest (getD (st .status) c Open)) && (not (whole && sameParts d here) && someBelow (below here d)))
+  unfolding takes
+  takes-right =
+      ap₂ _&&_ (ap not (bit-at (st .status) c))
+      (ap₂ _&&_ (ap (λ b. not (whole && b)) (number-test t c d here ad here-anchor))
+      (reach-right rows ps n t wf nu c known here here-anchor 9 d (omega (arith, few-parts-at t nu c d ad)) ad))
+
+  -- the move
+  move-right : (r : Parts) → here ++ r ≡ d → getD (st .status) c Open ≡ Open
+      → moved (coded st) c (no d) whole (seek rows ps n packs c (no here) 9 (no d)) ≡ coded (nodeMove env st c d whole (firstHit env (rowOf t (st .signal)) c (candidates here r)))
+  unfolding moved
+  move-right r j o =
+      ap (moved (coded st) c (no d) whole)
+      (ap (λ z. seek rows ps n packs c (no here) 9 (no z)) (sym j)
+      ∙ seek-right rows ps n t wf nu c known (st .signal) low 9 r (omega (arith, few-parts-at t nu c d ad, length-append here r, ap length j)) (rw j ad))
+      ∙ go (firstHit env (rowOf t (st .signal)) c (candidates here r)) refl
+    where
+      go : (h : Option direct.Hit) → firstHit env (rowOf t (st .signal)) c (candidates here r) ≡ h
+          → moved (coded st) c (no d) whole (hitOf rows ps n t wf nu c known (st .signal) low h) ≡ coded (nodeMove env st c d whole h)
+      go none e = refl
+      go (some h) e =
+          let w = search-hit env (rowOf t (st .signal)) c (candidates here r) h e in
+          let a = hit-node env (t .cats) (nodes t) (table-laws t wf) (rowOf t (st .signal)) c (h .at) (h .signal) (wide rows ps n t wf nu c known (st .signal) low) (w .0) in
+          ap (λ b. record { signal = h .signal; shut = cond (whole && b) (bits (st .status)) (withShut (bits (st .status)) c) }) (number-test t c (h .at) d a ad)
+          ∙ ap (λ z. record { signal = h .signal; shut = z }) (openIf-bits (st .status) c (rw (g .sized) known) o (whole && sameParts (h .at) d))
+
+  -- the whole step, from the test's parts
+  by-parts : (o : Status) → getD (st .status) c Open ≡ o → (u : Option Parts) → below here d ≡ u
+      → cond (not (shutTest o) && (not (whole && sameParts d here) && someBelow u)) (moved (coded st) c (no d) whole (seek rows ps n packs c (no here) 9 (no d))) (coded st)
+      ≡ coded (nodeIfTaken env st c d whole (takesBy o u whole) u)
+  by-parts Shut e u f = refl
+  by-parts Open e none f = rw (and-false (not (whole && sameParts d here)))
+  by-parts Open e (some []) f = go whole
+    where
+      same : d ≡ here
+      same = sym (below-to here d [] f) ∙ append-nil here
+
+      test : sameParts d here ≡ true
+      test = ap (sameParts d) (sym same) ∙ parts-exact .self d
+
+      go : (w : Bool)
+          → cond (not (w && sameParts d here) && true) (moved (coded st) c (no d) whole (seek rows ps n packs c (no here) 9 (no d))) (coded st)
+          ≡ coded (nodeIfTaken env st c d whole (not w) (some []))
+      go true = rw test
+      go false = move-right [] (below-to here d [] f) e
+  by-parts Open e (some (x ∷ r)) f = go whole
+    where
+      test : sameParts d here ≡ false
+      test = no-test (sameParts d here) refl
+        where
+          no-test : (b : Bool) → sameParts d here ≡ b → b ≡ false
+          no-test false i = refl
+          no-test true i =
+              let k = parts-exact .to d here i in
+              absurd (omega (arith, length-append here (x ∷ r), ap length (below-to here d (x ∷ r) f), ap length k))
+
+      go : (w : Bool)
+          → cond (not (w && sameParts d here) && true) (moved (coded st) c (no d) whole (seek rows ps n packs c (no here) 9 (no d))) (coded st)
+          ≡ coded (nodeIfTaken env st c d whole true (some (x ∷ r)))
+      go true = rw test (move-right (x ∷ r) (below-to here d (x ∷ r) f) e)
+      go false = move-right (x ∷ r) (below-to here d (x ∷ r) f) e
+
+  -- the step by numbers is the step at the node
+  pub step-right : stepNumbers rows ps n (coded st) c (number (nodes t) c d) whole ≡ coded (nodeStep (envOf t) st c d whole)
+  unfolding stepNumbers nodeStep
+  step-right =
+      ap (λ b. cond b (coded st) body) (lt-leb 8 c (let k = nu .few-cats in omega arith))
+      ∙ ap₂ (λ r m. cond (takes ps (bits (st .status)) c (digit r c) (no d) whole) (moved (coded st) c (no d) whole (seek rows ps m r c (digit r c) 9 (no d))) (coded st))
+      (row-is rows ps n t wf nu c known (st .signal) low)
+      (few-is n (nu .few-signals))
+      ∙ ap (λ z. cond (takes ps (bits (st .status)) c z (no d) whole) (moved (coded st) c (no d) whole (seek rows ps n packs c z 9 (no d))) (coded st))
+      (digit-is rows ps n t wf nu c known (st .signal) low)
+      ∙ ap (λ b. cond b (moved (coded st) c (no d) whole (seek rows ps n packs c (no here) 9 (no d))) (coded st)) takes-right
+      ∙ by-parts (getD (st .status) c Open) refl (below here d) refl
+      ∙ ap (λ b. coded (nodeIfTaken env st c d whole b (below here d))) (sym (takes-by (getD (st .status) c Open) here d whole))
+    where
+      few-is : (n : ℕ) → n ≤ 32 → few n ≡ n
+      few-is n h = rw (le-leb n 32 h)
+
+      body : State
+      body =
+          cond (takes ps (bits (st .status)) c (digit (rowAt rows (st .signal)) c) (no d) whole)
+          (moved (coded st) c (no d) whole (seek rows ps (few n) (rowAt rows (st .signal)) c (digit (rowAt rows (st .signal)) c) 9 (no d)))
+          (coded st)

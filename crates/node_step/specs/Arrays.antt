@@ -1,0 +1,48 @@
+-- What lent arrays must hold to stand for a table: the categories' names, the nodes, and the places of the signals as node numbers.
+-- Node k of the table stands at k - 1 in each array of nodes; 0 is the root.
+use Prim.Native.Nat.{ℕ, suc, _+_, _*_, _≤_, _<_}
+use mathlib.Core.Path.{_≡_}
+use mathlib.Core.List.{List, [], _∷_, _++_}
+use lib.ListN.{getD, length, take, drop}
+use Rattle.resolution.specs.Names.{Name, Parts}
+use Rattle.resolution.specs.Table.{Urn, Table, Row, rowOf}
+use Rattle.resolution.specs.Nodes.{nodes, number, nodeAt}
+use Rattle.alert_urn.specs.Text.{fields}
+
+-- the bytes of t at the i-th of the places in `at`, as many as `len` says
+abbrev pub stretch : List ℕ → List ℕ → List ℕ → ℕ → List ℕ
+stretch t at len i = take (getD len i 0) (drop (getD at i 0) t)
+
+-- the names of the categories, in order
+pub record NamesIn (t nameAt nameLen : List ℕ) (k : ℕ) (names : List Name) : Type 0 where
+  pub all-names : length names ≡ k
+  pub few-names : k ≤ 8
+  pub name-at : (i : ℕ) → i < k → stretch t nameAt nameLen i ≡ getD names i []
+
+-- the nodes in order: each one's category, and its path's bytes with colons between the parts
+pub record NodesIn (t category at len : List ℕ) (n : ℕ) (T : Table) : Type 0 where
+  pub all-nodes : length (nodes T) ≡ n
+  pub few-nodes : n ≤ 64
+  pub cat-at : (i : ℕ) → i < n → getD category i 0 ≡ nodeAt (nodes T) i .cat
+  pub path-at : (i : ℕ) → i < n → fields 58 (stretch t at len i) ≡ nodeAt (nodes T) i .path
+
+-- digits to the base 256, the first lowest
+abbrev pub pack : List ℕ → ℕ
+pack [] = 0
+pack (x ∷ l) = x + 256 * pack l
+
+-- the node numbers of a row's places, from category c on
+abbrev pub numbersFrom : List Urn → ℕ → Row → List ℕ
+numbersFrom ns c [] = []
+numbersFrom ns c (p ∷ r) = number ns c p ∷ numbersFrom ns (suc c) r
+
+-- the places of the n signals, each signal's in one number with a byte for each category, and the parents of the nodes
+pub record Numbers (rows parents : List ℕ) (n : ℕ) (T : Table) : Type 0 where
+  pub few-cats : T .cats ≤ 8
+  pub all-signals : length (T .signals) ≡ n
+  pub few-signals : n ≤ 32
+  pub few-nodes : length (nodes T) ≤ 64
+  pub few-parts : (k : ℕ) → k < length (nodes T) → length (nodeAt (nodes T) k .path) ≤ 8
+  pub packed : (s : ℕ) → s < n → getD rows s 0 ≡ pack (numbersFrom (nodes T) 0 (rowOf T s))
+  pub parent-at : (k : ℕ) → k < length (nodes T) → (p : Parts) (x : Name) → nodeAt (nodes T) k .path ≡ p ++ x ∷ []
+      → getD parents k 0 ≡ number (nodes T) (nodeAt (nodes T) k .cat) p
