@@ -1,0 +1,4 @@
+mod categories;
+mod forms;
+mod read;
+mod signals;
