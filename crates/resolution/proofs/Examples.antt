@@ -2,16 +2,16 @@
 use Prim.Native.Nat.{ℕ}
 use mathlib.Core.Path.{_≡_, refl}
 use mathlib.Core.Bool.{true}
-use mathlib.Core.List.{List, [], _∷_, map}
+use mathlib.Core.List.{[], _∷_, map}
 use lib.ListN.{length}
-use Rattle.resolution.specs.Lists.{tabulate}
+use Rattle.resolution.specs.Lists.{tabulate, all}
 use Rattle.resolution.specs.Direct.{step, direct, usedOf, usedCount, skippedCount}
 use Rattle.resolution.specs.Nodes.{nodes, leaf, deepest}
 use Rattle.resolution.specs.Symbols.{symbols}
 use Rattle.resolution.specs.Machine.{accepts, walk, signalAt}
 use Rattle.resolution.specs.Discovery.{expand, discover}
 use Rattle.resolution.specs.Build.{discovered, machineOf}
-use Rattle.resolution.specs.Examples.{T1, T2, T3, T4, T5, tables, Answer, Case, cases, M1}
+use Rattle.resolution.specs.Examples.{T1, tables, Answer, Case, cases, longestCases, M1}
 
 -- direct resolution's answer
 abbrev resolved : Case → Answer
@@ -26,6 +26,10 @@ pub examples : map resolved cases ≡ map (λ (x : Case). x .answer) cases
 unfolding step
 examples = refl
 
+pub longest-examples : map resolved longestCases ≡ map (λ (x : Case). x .answer) longestCases
+unfolding step
+longest-examples = refl
+
 -- the same by the machines that the tables build
 pub examples-walked : map walked cases ≡ map (λ (x : Case). x .answer .signal) cases
 unfolding step nodes leaf deepest expand discover tabulate
@@ -37,7 +41,7 @@ unfolding step nodes leaf expand discover tabulate
 example-built = refl
 
 pub example-accepted : accepts T1 M1 ≡ true
-unfolding step nodes leaf
+unfolding step nodes leaf all
 example-accepted = refl
 
 pub node-counts : map (λ t. length (nodes t)) tables ≡ 2 ∷ 4 ∷ 4 ∷ 3 ∷ 3 ∷ []

@@ -1,16 +1,15 @@
 -- Laws of paths: the tests, what is left below an ancestor, and the candidates.
-use Prim.Native.Nat.{ℕ, _+_}
+use Prim.Native.Nat.{ℕ}
 use mathlib.Core.Path.{_≡_, refl, sym, ap, _∙_}
-use mathlib.Core.Logic.{_⊎_, inl, inr}
-use mathlib.Core.Bool.{Bool, true, false, cond, _&&_, false≢true, and-eq-true-iff}
+use mathlib.Core.Logic.{_⊎_, inl, inr, _≢_}
+use mathlib.Core.Bool.{Bool, true, false, false≢true}
 use mathlib.Core.Option.{Option, none, some}
 use mathlib.Core.List.{List, [], _∷_, _++_, append-assoc, append-nil, List·Memᴰ, List·Memᴰ·append-cases, List·Memᴰ·eq-of-singleton, List·Memᴰ·not-nil}
-use lib.Dec.{eqb}
 use lib.ListN.{length, length-append}
 use native.Mathlib.Omega.{arith}
 use Rattle.resolution.specs.Lists.{sameList}
 use Rattle.resolution.specs.Names.{Name, Parts, sameName, sameParts, below, somePart, properAncestor, Above, longer, candidates}
-use Rattle.resolution.proofs.Lists.{Exact, eqb-exact, list-exact}
+use Rattle.resolution.proofs.Lists.{Exact, eqb-exact, list-exact, same-test}
 
 pub name-exact : Exact sameName
 name-exact = list-exact eqb-exact
@@ -150,3 +149,51 @@ snoc-injective (v ∷ a) (w ∷ b) y z e =
     let k : a ++ y ∷ [] ≡ b ++ z ∷ [] = cc in
     let i = snoc-injective a b y z k in
     cc
+
+-- a path is the root, or a path with one more part
+pub snoc-view : (r : Parts) → (r ≡ []) ⊎ ((e : Parts) × (x : Name) × (r ≡ e ++ x ∷ []))
+snoc-view [] = inl refl
+snoc-view (y ∷ r) = go (snoc-view r)
+  where
+    go : (r ≡ []) ⊎ ((e : Parts) × (x : Name) × (r ≡ e ++ x ∷ [])) → (y ∷ r ≡ []) ⊎ ((e : Parts) × (x : Name) × (y ∷ r ≡ e ++ x ∷ []))
+    go (inl e) = inr ([], y, ap (λ l. y ∷ l) e)
+    go (inr k) = inr (y ∷ k .0, k .1, ap (λ l. y ∷ l) (k .2))
+
+-- the candidates of a path with one more part
+pub candidates-snoc : (q e : Parts) (x : Name) → candidates q (e ++ x ∷ []) ≡ (q ++ e ++ x ∷ []) ∷ candidates q e
+candidates-snoc q e x = ap (λ l. l ++ q ∷ []) (longer-append q e (x ∷ []))
+
+-- p is u or an ancestor of u, as a test of what is left
+abbrev pub someBelow : Option Parts → Bool
+someBelow none = false
+someBelow (some r) = true
+
+pub some-above : (p u : Parts) → someBelow (below p u) ≡ true → Above p u
+some-above p u = go (below p u) refl
+  where
+    go : (o : Option Parts) → below p u ≡ o → someBelow o ≡ true → Above p u
+    go none b e = absurd (false≢true e)
+    go (some r) b e = record { rest = r; joined = below-to p u r b }
+
+pub above-some : (p u : Parts) → Above p u → someBelow (below p u) ≡ true
+above-some p u a = rw (← a .joined, below-self p (a .rest))
+
+-- nothing but the root is above the root
+pub above-none : (q : Parts) → q ≢ [] → someBelow (below q []) ≡ false
+above-none [] n = absurd (n refl)
+above-none (x ∷ q) n = refl
+
+-- q is above d with one more part, and is not that itself, exactly if it is above d
+pub above-snoc : (q d : Parts) (x : Name) → d ++ x ∷ [] ≢ q → someBelow (below q (d ++ x ∷ [])) ≡ someBelow (below q d)
+above-snoc q d x n =
+    same-test (someBelow (below q (d ++ x ∷ []))) (someBelow (below q d))
+    (λ e. let a = some-above q (d ++ x ∷ []) e in down (a .rest) (a .joined))
+    (λ e. let a = some-above q d e in above-some q (d ++ x ∷ []) (above-trans a (record { rest = x ∷ []; joined = refl })))
+  where
+    by : (q ≡ d) ⊎ ((z : Name) × (f : Parts) × (q ++ z ∷ f ≡ d)) → someBelow (below q d) ≡ true
+    by (inl i) = above-some q d (record { rest = []; joined = append-nil q ∙ i })
+    by (inr k) = above-some q d (record { rest = k .0 ∷ k .1; joined = k .2 })
+
+    down : (r : Parts) → q ++ r ≡ d ++ x ∷ [] → someBelow (below q d) ≡ true
+    down [] j = absurd (n (sym j ∙ append-nil q))
+    down (y ∷ r) j = by (snoc-split q d y x r j)
