@@ -1,3 +1,5 @@
 pub mod Readings
 pub mod Tabulated
 pub mod Indexing
+pub mod Prefixes
+pub mod NodeArrays

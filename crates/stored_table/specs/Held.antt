@@ -2,17 +2,22 @@
 use Prim.Native.Nat.{ℕ, zero, suc, _-_, _≤_, _<_}
 use mathlib.Core.Path.{_≡_}
 use mathlib.Core.Bool.{Bool, true, false, cond, _&&_}
-use mathlib.Core.List.{List, [], _∷_, _++_, map}
+use mathlib.Core.Logic.{_⊎_}
+use mathlib.Core.List.{List, [], _∷_, _++_, map, foldl}
 use lib.ListN.{length, getD, take, drop}
 use lib.Dec.{eqb}
 use Rattle.resolution.specs.Lists.{tabulate, indexBy}
-use Rattle.resolution.specs.Names.{sameName}
+use Rattle.resolution.specs.Names.{Name, Parts, sameName}
+use Rattle.resolution.specs.Table.{Urn, urn}
+use Rattle.resolution.specs.Nodes.{nodeAt, addUrn}
+use Rattle.alert_urn.specs.Text.{fields}
 use Rattle.alert_urn.specs.Urn.{categoryOf, pathOf}
 use Rattle.node_step.specs.Arrays.{stretch}
 use Rattle.stored_table.specs.Stored.{Read, fault, got, storedFrom, stored}
 use Rattle.stored_table.specs.declared.read.Reading.{Reading}
 use Rattle.stored_table.specs.declared.read.Reading.the-variants.{Fault, Got}
 use Rattle.stored_table.specs.declared.read.Counts.{Counts}
+use Rattle.stored_table.specs.declared.nodes.Added.{Added}
 
 -- something of a signal, with the signal's number
 pub record Tagged (A : Type 0) : Type 0 where
@@ -53,6 +58,39 @@ sameKey x y = eqb (x .signal) (y .signal) && eqb (x .what) (y .what)
 unfoldable pub slotIn : (ℕ → Tagged ℕ) → ℕ → ℕ → ℕ → ℕ
 slotIn f s c zero = 0
 slotIn f s c (suc n) = cond (sameKey (tag s c) (f n)) (suc n) (slotIn f s c n)
+
+-- node k + 1, as the arrays hold it
+abbrev pub nodeUrn : List ℕ → List ℕ → List ℕ → List ℕ → ℕ → Urn
+nodeUrn t cats at len k = urn (getD cats k 0) (fields 58 (stretch t at len k))
+
+-- the i-th URN of the theory, as the arrays hold it
+abbrev pub pathUrn : List ℕ → List ℕ → List ℕ → List ℕ → ℕ → Urn
+pathUrn t category at len i = urn (getD category i 0) (fields 58 (stretch t at len i))
+
+-- k is the number of the path p of category c among the nodes ns: 0 for the root
+abbrev pub Numbered : List Urn → ℕ → Parts → ℕ → Type 0
+Numbered ns c p k = ((k ≡ 0) × (p ≡ [])) ⊎ ((j : ℕ) × (k ≡ suc j) × (j < length ns) × (nodeAt ns j ≡ urn c p))
+
+-- the arrays hold the nodes ns, each with the number of its parent
+pub record Nodes (t cats parents at len : List ℕ) (n : ℕ) (ns : List Urn) : Type 0 where
+  pub held : tabulate (nodeUrn t cats at len) n ≡ ns
+  pub few : n ≤ 64
+  pub parent : (k : ℕ) → k < n → (p : Parts) × (x : Name) × (nodeAt ns k .path ≡ p ++ x ∷ []) × Numbered ns (nodeAt ns k .cat) p (getD parents k 0)
+  pub long-cats : length cats ≡ 64
+  pub long-parents : length parents ≡ 64
+  pub long-at : length at ≡ 64
+  pub long-len : length len ≡ 64
+
+-- the nodes have become `new`, and the path p of category c is one of them; or there are too many
+pub record AddedTo (t cats parents at len : List ℕ) (new : List Urn) (c : ℕ) (p : Parts) (r : Added) : Type 0 where
+  pub over : r .node ≡ 0 → 64 < length new
+  pub kept : 0 < r .node → Nodes t cats parents at len (r .count) new × Numbered new c p (r .node)
+
+-- the nodes of m URNs, and the number of each URN's node; or there are too many
+pub record AllAdded (t : List ℕ) (f : ℕ → Urn) (m : ℕ) (node cats parents at len : List ℕ) (r : ℕ) : Type 0 where
+  pub over : 64 < r → 64 < length (foldl addUrn [] (tabulate f m))
+  pub kept : r ≤ 64 → Nodes t cats parents at len r (foldl addUrn [] (tabulate f m))
+  pub numbered : r ≤ 64 → (i : ℕ) → i < m → Numbered (foldl addUrn [] (tabulate f m)) (f i .cat) (f i .path) (getD node i 0)
 
 -- a reading's value, changed
 unfoldable pub mapRead : {A B : Type 0} → (A → B) → Read A → Read B

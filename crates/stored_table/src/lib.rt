@@ -1,4 +1,5 @@
 mod categories;
 mod forms;
+mod nodes;
 mod read;
 mod signals;
