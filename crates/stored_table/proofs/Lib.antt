@@ -3,3 +3,5 @@ pub mod Tabulated
 pub mod Indexing
 pub mod Prefixes
 pub mod NodeArrays
+pub mod RowLaws
+pub mod Flat

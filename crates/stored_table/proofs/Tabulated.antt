@@ -38,7 +38,7 @@ pub tab-same-end : {A : Type 0} (f : ℕ → A) (i n : ℕ) → i ≤ n → n �
 tab-same-end f i n h k = ap (tabulate f) (omega arith)
 
 -- every element
-all-join : {A : Type 0} (p : A → Bool) (l r : List A) → all p (l ++ r) ≡ (all p l && all p r)
+pub all-join : {A : Type 0} (p : A → Bool) (l r : List A) → all p (l ++ r) ≡ (all p l && all p r)
 unfolding all
 all-join p [] r = refl
 all-join p (x ∷ l) r = ap (λ b. p x && b) (all-join p l r) ∙ sym (and-assoc (p x) (all p l) (all p r))
@@ -63,7 +63,7 @@ unfolding all tabulate
 all-start p f = refl
 
 -- some element
-any-join : {A : Type 0} (p : A → Bool) (l r : List A) → any p (l ++ r) ≡ cond (any p l) true (any p r)
+pub any-join : {A : Type 0} (p : A → Bool) (l r : List A) → any p (l ++ r) ≡ cond (any p l) true (any p r)
 unfolding any
 any-join p [] r = refl
 any-join p (x ∷ l) r = byTest (p x) (λ e. simp e) (λ e. simp e (any-join p l r))

@@ -1,5 +1,5 @@
 -- How the arrays that are lent from function to function hold what was read.
-use Prim.Native.Nat.{ℕ, zero, suc, _-_, _≤_, _<_}
+use Prim.Native.Nat.{ℕ, zero, suc, _+_, _*_, _-_, _≤_, _<_}
 use mathlib.Core.Path.{_≡_}
 use mathlib.Core.Bool.{Bool, true, false, cond, _&&_}
 use mathlib.Core.Logic.{_⊎_}
@@ -10,7 +10,7 @@ use Rattle.resolution.specs.Lists.{tabulate, indexBy}
 use Rattle.resolution.specs.Names.{Name, Parts, sameName}
 use Rattle.resolution.specs.Table.{Urn, urn}
 use Rattle.resolution.specs.Nodes.{nodeAt, addUrn}
-use Rattle.alert_urn.specs.Text.{fields}
+use Rattle.alert_urn.specs.Text.{all, fields}
 use Rattle.alert_urn.specs.Urn.{categoryOf, pathOf}
 use Rattle.node_step.specs.Arrays.{stretch}
 use Rattle.stored_table.specs.Stored.{Read, fault, got, storedFrom, stored}
@@ -91,6 +91,23 @@ pub record AllAdded (t : List ℕ) (f : ℕ → Urn) (m : ℕ) (node cats parent
   pub over : 64 < r → 64 < length (foldl addUrn [] (tabulate f m))
   pub kept : r ≤ 64 → Nodes t cats parents at len r (foldl addUrn [] (tabulate f m))
   pub numbered : r ≤ 64 → (i : ℕ) → i < m → Numbered (foldl addUrn [] (tabulate f m)) (f i .cat) (f i .path) (getD node i 0)
+
+-- the number of the node of a slot's URN, or 0
+unfoldable pub placeNumber : List ℕ → List ℕ → ℕ → ℕ
+placeNumber slots node k = cond (eqb (getD slots k 0) 0) 0 (getD node (getD slots k 0 - 1) 0)
+
+-- n digits from k on, to the base 256, the first lowest
+abbrev pub packedFrom : (ℕ → ℕ) → ℕ → ℕ → ℕ
+packedFrom f k zero = 0
+packedFrom f k (suc n) = f k + 256 * packedFrom f (k + 1) n
+
+-- the paths of two slots are the same, or both are empty
+unfoldable pub sameSlots : List ℕ → List ℕ → List ℕ → ℕ → ℕ → Bool
+sameSlots t at len x y = cond (eqb x 0) (eqb y 0) (cond (eqb y 0) false (sameName (stretch t at len (x - 1)) (stretch t at len (y - 1))))
+
+-- signals a and b have the same paths in n slots
+abbrev pub samePlacesAt : List ℕ → List ℕ → List ℕ → List ℕ → ℕ → ℕ → ℕ → Bool
+samePlacesAt t slots at len n a b = all (λ c. sameSlots t at len (getD slots (8 * a + c) 0) (getD slots (8 * b + c) 0)) (tabulate (λ c. c) n)
 
 -- a reading's value, changed
 unfoldable pub mapRead : {A B : Type 0} → (A → B) → Read A → Read B

@@ -12,7 +12,7 @@ ghost use Rattle.node_step.specs.Arrays.{stretch};
 ghost use Rattle.stored_table.specs.Held.{nodeUrn, pathUrn, Nodes, Numbered, AddedTo, AllAdded};
 
 // The path of node i + 1.
-fn node_text<'a, 'b>(t: &'a [u8], at: &'b [u16; 64], len: &'b [u8; 64], i: usize) -> &'a [u8]
+fn node_text<'a>(t: &'a [u8], at: &[u16; 64], len: &[u8; 64], i: usize) -> &'a [u8]
     requires { ⌜ i < 64 ⌝ }
     ensures { λ r. ⌜ now r ≡ stretch (now (t .entry)) (now (at .entry)) (now (len .entry)) i ⌝ }
 {
@@ -22,7 +22,7 @@ fn node_text<'a, 'b>(t: &'a [u8], at: &'b [u16; 64], len: &'b [u8; 64], i: usize
 }
 
 // Node i + 1 has the category c and the path s.
-fn node_is<'a>(t: &[u8], c: u8, s: &[u8], i: usize, cats: &'a [u8; 64], at: &'a [u16; 64], len: &'a [u8; 64]) -> bool
+fn node_is(t: &[u8], c: u8, s: &[u8], i: usize, cats: &[u8; 64], at: &[u16; 64], len: &[u8; 64]) -> bool
     requires { ⌜ i < 64 ⌝ }
     ensures { λ r. ⌜ r ≡ sameUrn (urn c (fields 58 (now (s .entry)))) (nodeUrn (now (t .entry)) (now (cats .entry)) (now (at .entry)) (now (len .entry)) i) ⌝ }
 {
@@ -34,7 +34,7 @@ fn node_is<'a>(t: &[u8], c: u8, s: &[u8], i: usize, cats: &'a [u8; 64], at: &'a 
 }
 
 // The number of the node of category c with the path s, from 1, or 0.
-fn find_node<'a>(t: &[u8], c: u8, s: &[u8], n: usize, cats: &'a [u8; 64], at: &'a [u16; 64], len: &'a [u8; 64]) -> usize
+fn find_node(t: &[u8], c: u8, s: &[u8], n: usize, cats: &[u8; 64], at: &[u16; 64], len: &[u8; 64]) -> usize
     requires { ⌜ n ≤ 64 ⌝ }
     ensures { λ r. ⌜ (r ≡ number (tabulate (nodeUrn (now (t .entry)) (now (cats .entry)) (now (at .entry)) (now (len .entry))) n) c (fields 58 (now (s .entry)))) × (r ≤ n) ⌝ }
 {
@@ -110,7 +110,7 @@ fn add_urn(t: &[u8], c: u8, from: usize, k: usize, n: usize, cats: &mut [u8; 64]
 }
 
 // The nodes of all URNs, and each URN's node; 65 if there are more than 64.
-pub fn add_all<'a>(t: &[u8], m: usize, category: &'a [u8; 256], path_at: &'a [u16; 256], path_len: &'a [u8; 256], node: &mut [u8; 256], cats: &mut [u8; 64], parents: &mut [u8; 64], at: &mut [u16; 64], len: &mut [u8; 64]) -> usize
+pub fn add_all(t: &[u8], m: usize, category: &[u8; 256], path_at: &[u16; 256], path_len: &[u8; 256], node: &mut [u8; 256], cats: &mut [u8; 64], parents: &mut [u8; 64], at: &mut [u16; 64], len: &mut [u8; 64]) -> usize
     requires { ⌜ (m ≤ 256) × (length (now node) ≡ 256) × (length (now cats) ≡ 64) × (length (now parents) ≡ 64) × (length (now at) ≡ 64) × (length (now len) ≡ 64) ⌝ }
     ensures { λ r. ⌜ AllAdded (now (t .entry)) (pathUrn (now (t .entry)) (now (category .entry)) (now («path_at» .entry)) (now («path_len» .entry))) m (now (node .exit)) (now (cats .exit)) (now (parents .exit)) (now (at .exit)) (now (len .exit)) r ⌝ }
 {
