@@ -115,7 +115,7 @@ two-alike p q f g (suc n) h =
     ∙ sym (two-snoc q (tabulate g n) (g n))
 
 -- a list is what it has at each place
-tab-shift : {A : Type 0} (f : ℕ → A) (n : ℕ) → tabulate f (suc n) ≡ f 0 ∷ tabulate (λ i. f (suc i)) n
+pub tab-shift : {A : Type 0} (f : ℕ → A) (n : ℕ) → tabulate f (suc n) ≡ f 0 ∷ tabulate (λ i. f (suc i)) n
 unfolding tabulate
 tab-shift f zero = refl
 tab-shift f (suc n) = ap (λ l. l ++ f (suc n) ∷ []) (tab-shift f n)

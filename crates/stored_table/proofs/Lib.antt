@@ -5,3 +5,6 @@ pub mod Prefixes
 pub mod NodeArrays
 pub mod RowLaws
 pub mod Flat
+pub mod Judging
+pub mod Placing
+pub mod Accepting
