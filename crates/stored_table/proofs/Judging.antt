@@ -5,7 +5,7 @@ use mathlib.Core.Logic.{_≢_}
 use mathlib.Core.Bool.{Bool, true, false, cond, not, _&&_, _||_, and-false, and-true, and-eq-true-iff, true≢false, false≢true}
 use mathlib.Core.List.{List, [], _∷_, _++_, map}
 use native.Mathlib.Omega.{arith}
-use lib.ListN.{length, getD, length-map}
+use lib.ListN.{length, getD, replicate}
 use lib.Dec.{eqb, leb, ltb}
 use borrow.Author.Tests.{eq-eqb, ne-eqb, eqb-true, eqb-false, lt-ltb, le-ltb}
 use Rattle.alert_urn.specs.Text.{all, within, fields, nameOk}
@@ -284,3 +284,8 @@ slots-few t nameAt nameLen signal category pathAt pathLen slots l S j =
     let e : 8 * (j / 8) + j % 8 ≡ j = omega arith in
     let h : j % 8 < 8 = omega arith in
     omega (arith, ap (λ k. getD slots k 0) e, S .slot (j / 8) (j % 8) h, slot-le (keyAt signal category) (j / 8) (j % 8) (l .urns), S .listed .few-urns)
+
+pub zeros : (n k : ℕ) → _≡_ {A = ℕ} (getD (replicate n 0) k 0) 0
+zeros zero k = refl
+zeros (suc n) zero = refl
+zeros (suc n) (suc k) = zeros n k

@@ -27,6 +27,8 @@ use Rattle.stored_table.specs.Tables.{any, noTwo, samePlaces, single, di
 use Rattle.stored_table.specs.Held.{Tagged, tag, taggedFrom, joined, nodeUrn, pathUrn, keyAt, sameKey, slotIn, Nodes, Numbered, AllAdded, placeNumber, packedFrom, sameSlots, samePlacesAt}
 use Rattle.stored_table.specs.Stages.{ListedAs, SlotsAs}
 use Rattle.stored_table.specs.declared.read.Counts.{Counts}
+use Rattle.stored_table.specs.Decoded.{Means}
+use Rattle.stored_table.proofs.Accepting.{accepted, node-parts}
 use Rattle.stored_table.proofs.Tabulated.{same-test, all-join}
 use Rattle.stored_table.proofs.Flat.{map-tab, whatOf, tagged-what, nodes-joined, all-alike, two-alike, tab-list, tab-shift, sameTag, single-tags, firstPlace, first-place, pathIn, keyOf, slot-place, slot-le}
 
@@ -258,3 +260,23 @@ module _ (t nameAt nameLen signal category pathAt pathLen slots : List ℕ) (l :
                   let s : w .0 ≡ p = snoc-same (w .0) p (w .1) x (sym (w .2) ∙ e) in
                   number-as (nodeAt (nodes T) k .cat) (w .0) (getD parents k 0) (w .3) ∙ ap (number (nodes T) (nodeAt (nodes T) k .cat)) s
             }
+
+-- the answer to an accepted table
+pub means-accepted : (t nameAt nameLen signal category pathAt pathLen slots : List ℕ) (l : Counts) (S : SlotsAs t nameAt nameLen signal category pathAt pathLen slots l)
+    {node cats parents at len : List ℕ} {n : ℕ} → AllAdded t (pathUrn t category pathAt pathLen) (l .urns) node cats parents at len n → n ≤ 64 → (rows : List ℕ)
+    → ((s : ℕ) → s < l .signals → getD rows s 0 ≡ packedFrom (placeNumber slots node) (8 * s) 8) → {b : Bool} → b ≡ noTwo eqb (tabulate (λ s. getD rows s 0) (l .signals)) → b ≡ true
+    → Means t (record { refusal = 0; categories = l .categories; signals = l .signals; nodes = n; «name_at» = nameAt; «name_len» = nameLen; category = cats; parent = parents; at = at; len = len; rows = rows })
+means-accepted t nameAt nameLen signal category pathAt pathLen slots l S {node} {cats} {parents} {at} {len} {n} A h rows v e z =
+    let zero-is : tableRefusal t ≡ 0 = accepted-zero t nameAt nameLen signal category pathAt pathLen slots l S A h rows v e z in
+    let acc = accepted t zero-is in
+    record {
+      refusal = sym zero-is;
+      refused = λ x. absurd (x zero-is);
+      holds = λ _. record {
+        categories = sym (S .listed .cats);
+        names = names-in t nameAt nameLen signal category pathAt pathLen slots l S A h rows v;
+        nodes = nodes-in t nameAt nameLen signal category pathAt pathLen slots l S A h rows v;
+        numbers = numbers-hold t nameAt nameLen signal category pathAt pathLen slots l S A h rows v (node-parts (tableOf t) acc);
+        well-formed = acc .well
+      }
+    }

@@ -1,3 +1,5 @@
+use native.Mathlib.Omega.{arith}
+use Rattle.stored_table.proofs.Judging.{means-refused, refusal-long, refusal-fault, fault-stored}
 use borrow.Author.Needs.{needs}
 use Rattle.stored_table.proofs.decode.Statement.{statement}
 use Rattle.stored_table.proofs.decode.Tie as tie
@@ -13,7 +15,7 @@ refused-requires c κs = search needs
 
 -- src/lib.rt:120:9
 returns : tie.Need-returns
-returns c = ?
+returns c = means-refused _ 4 (c .refused .ensures) (refusal-long _ (c .before .if1 .taken)) (λ z. omega arith)
 
 -- src/lib.rt:127:9
 read-table-requires : tie.Need-read-table-requires
@@ -21,7 +23,7 @@ read-table-requires c κs = search needs
 
 -- src/lib.rt:129:9
 formed-requires : tie.Need-formed-requires
-formed-requires c κs = ?
+formed-requires c κs = (c .before .before .before .before .before .before .before .before .before .before .before .before .if1 .left, c .before .before .before .before .before .before .read-table .ensures .holds (c .before .before .before .before .before .if2 .taken))
 
 -- src/lib.rt:129:9
 returns-2 : tie.Need-returns-2
@@ -33,7 +35,7 @@ refused-requires-2 c κs = search needs
 
 -- src/lib.rt:116:1
 returns-3 : tie.Need-returns-3
-returns-3 c = ?
+returns-3 c = let t = c .before .before .before .before .before .before .before .before .before .before .args .t .now in let f = c .before .before .read-table .ensures .faulty (c .before .if2 .left) in means-refused t _ (c .refused2 .ensures) (refusal-fault t _ (c .before .before .before .before .before .before .before .before .if1 .left) f) (fault-stored t _ f)
 
 pub decode-spec : {M : Type 1} → statement M
 decode-spec =
