@@ -1,0 +1,4 @@
+pub mod Image
+pub mod Refusals
+pub mod Listed
+pub mod States

@@ -1,0 +1,4 @@
+pub mod image;
+mod states;
+pub mod symbols;
+pub mod write;
