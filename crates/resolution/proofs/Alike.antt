@@ -2,13 +2,13 @@
 use Prim.Native.Nat.{ℕ, _<_}
 use mathlib.Core.Path.{_≡_, refl, sym, ap, subst, _∙_}
 use mathlib.Core.Logic.{_⊎_, inl, inr}
-use mathlib.Core.Bool.{Bool, true, false, not, _&&_, _||_, true≢false}
+use mathlib.Core.Bool.{Bool, true, false, not, _&&_, true≢false}
 use mathlib.Core.Option.{Option, none, some}
-use mathlib.Core.List.{List, [], _∷_, _++_, foldl, append-nil, List·Memᴰ, List·Memᴰ·head, List·Memᴰ·tail}
-use lib.ListN.{length, getD, set}
+use mathlib.Core.List.{List, [], _∷_, foldl, append-nil, List·Memᴰ, List·Memᴰ·head, List·Memᴰ·tail}
+use lib.ListN.{getD, set}
 use lib.Seq.{getD-set-same, getD-set-other}
 use native.Mathlib.Decide.{ℕ-discrete}
-use Rattle.resolution.specs.Names.{Name, Parts, sameParts, below, candidates}
+use Rattle.resolution.specs.Names.{Parts, sameParts, below, candidates}
 use Rattle.resolution.proofs.Names.{parts-exact, below-to}
 use Rattle.resolution.specs.Table.{Urn}
 use Rattle.resolution.specs.Nodes.{leaf, deepest}
@@ -20,10 +20,15 @@ use Rattle.resolution.specs.NodeStep.{nodeUnder, nodeTakes, nodeMove, no
 use Rattle.resolution.proofs.NodeStep.{direct-at-node, symbol-at-node}
 
 -- a URN and its symbol are whole alike, or d is a leaf and only the symbol is
-flags : (same l : Bool) → (same ≡ not (not (same || l))) ⊎ ((same ≡ false) × (not (not (same || l)) ≡ true) × (l ≡ true))
-flags true l = inl refl
-flags false true = inr (refl, refl, refl)
-flags false false = inl refl
+whole-alike : (ns : List Urn) (c : ℕ) (u d : Parts)
+    → (sameParts d u ≡ not (isOther ns c u d)) ⊎ ((sameParts d u ≡ false) × (not (isOther ns c u d) ≡ true) × (leaf ns c d ≡ true))
+whole-alike ns c u d = go (sameParts d u) refl (leaf ns c d) refl
+  where
+    go : (s : Bool) → sameParts d u ≡ s → (l : Bool) → leaf ns c d ≡ l
+        → (sameParts d u ≡ not (isOther ns c u d)) ⊎ ((sameParts d u ≡ false) × (not (isOther ns c u d) ≡ true) × (leaf ns c d ≡ true))
+    go true e l k = inl (rw e)
+    go false e true k = inr (rw (e, k) (refl, refl, refl))
+    go false e false k = rw (e, k) (inl refl)
 
 module _ (env : Env) (cats : ℕ) (ns : List Urn) where
   -- statuses agree, but where the place is a leaf
@@ -132,7 +137,7 @@ module _ (env : Env) (cats : ℕ) (ns : List Urn) where
           go false l (inr m) = absurd (true≢false (sym m ∙ l))
           go false l (inl e) =
               rw (direct-at-node env cats ns laws (at s σ) ga u known, symbol-at-node env cats ns laws (at s τ) gb (symbolOf ns u) known)
-              (node-alike s σ τ (u .cat) known ga gb each d (sameParts d (u .path)) (not (isOther ns (u .cat) (u .path) d)) (flags (sameParts d (u .path)) (leaf ns (u .cat) d)) l e)
+              (node-alike s σ τ (u .cat) known ga gb each d (sameParts d (u .path)) (not (isOther ns (u .cat) (u .path) d)) (whole-alike ns (u .cat) (u .path) d) l e)
 
     -- a step by a URN and a step by its symbol keep states alike
     pub alike-step : (a b : State) (u : Urn) → u .cat < cats → Valid env cats ns a → Valid env cats ns b → Alike a b

@@ -1,15 +1,15 @@
 -- The claim over whole lists of URIs holds of every right machine.
-use Prim.Native.Nat.{ℕ, zero, suc, _+_, _≤_, _<_}
+use Prim.Native.Nat.{ℕ, zero, _+_}
 use mathlib.Core.Path.{_≡_, refl, sym, ap, _∙_}
 use mathlib.Core.Option.{Option, none, some}
-use mathlib.Core.List.{List, [], _∷_, _++_, foldl, List·Memᴰ, Memᴰ·append-left}
+use mathlib.Core.List.{List, [], _∷_, _++_, foldl, Memᴰ·append-left}
 use lib.Dec.{eqb}
 use lib.ListN.{length}
 use borrow.Author.Tests.{eq-eqb}
 use native.Mathlib.Nat.{zero-add}
 use native.Mathlib.Omega.{arith}
 use Rattle.resolution.specs.Table.{Urn, Table, rowOf, find, WellFormed}
-use Rattle.resolution.specs.Direct.{State, start, step, envOf, direct, usedOf, usedCount, skippedCount, AllUsed, stepUri, changed, changes}
+use Rattle.resolution.specs.Direct.{start, step, envOf, direct, usedOf, usedCount, skippedCount, AllUsed, stepUri, changed, changes}
 use Rattle.resolution.specs.Machine.{Machine, Accepted, walkStep, walk, signalAt}
 use Rattle.resolution.specs.Claim.{Claim}
 use Rattle.resolution.proofs.Table.{find-sound, find-start}

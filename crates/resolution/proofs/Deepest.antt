@@ -1,19 +1,15 @@
 -- Laws of the deepest node that is a path or above it, and of leaves.
-use Prim.Native.Nat.{ℕ, _+_}
+use Prim.Native.Nat.{ℕ}
 use mathlib.Core.Path.{_≡_, refl, sym, ap, _∙_}
-use mathlib.Core.Logic.{_⊎_, inl, inr, _≢_}
-use mathlib.Core.Bool.{Bool, true, false, cond, not, _&&_, _||_, true≢false, false≢true, and-eq-true-iff}
-use mathlib.Core.Option.{Option, none, some}
-use mathlib.Core.List.{List, [], _∷_, _++_, append-assoc, append-nil, append-cancel-left, List·Memᴰ, List·Memᴰ·head, List·Memᴰ·tail}
+use mathlib.Core.Logic.{_⊎_, inl, inr}
+use mathlib.Core.Bool.{Bool, true, false, not, _&&_, _||_, false≢true, and-eq-true-iff}
+use mathlib.Core.List.{List, [], _∷_, _++_, List·Memᴰ, List·Memᴰ·head, List·Memᴰ·tail}
 use lib.Dec.{eqb}
-use lib.ListN.{length, length-append}
 use borrow.Author.Tests.{eqb-true, eq-eqb}
-use native.Mathlib.Omega.{arith}
-use Rattle.resolution.specs.Names.{Name, Parts, sameParts, below, properAncestor, somePart, longer, candidates, Above}
-use Rattle.resolution.proofs.Names.{parts-exact, below-to, below-self, longer-append, longer-first, Strict, in-longer}
+use Rattle.resolution.specs.Names.{Name, Parts, sameParts, properAncestor, longer, candidates, Above}
+use Rattle.resolution.proofs.Names.{parts-exact, below-self, longer-append, longer-first, in-longer}
 use Rattle.resolution.specs.Table.{Urn, urn}
 use Rattle.resolution.specs.Nodes.{sameUrn, member, isNode, RootOrNode, hasUnder, isRoot, leaf, firstNode, deepest}
-use Rattle.resolution.specs.Symbols.{Symbol, isOther, symbolOf, stepsAsPath, stepsAs}
 use Rattle.resolution.proofs.Names.{above-root, between}
 
 module _ (ns : List Urn) (c : ℕ) where

@@ -1,18 +1,17 @@
 -- Laws of the step of direct resolution, over any rows and any finder that is sound for them; then over lists.
-use Prim.Native.Nat.{ℕ, zero, suc, _+_, _≤_, _<_}
+use Prim.Native.Nat.{ℕ, _+_, _≤_, _<_}
 use mathlib.Core.Path.{_≡_, refl, sym, ap, _∙_}
-use mathlib.Core.Logic.{_⊎_, inl, inr, _≢_}
-use mathlib.Core.Bool.{Bool, true, false, _&&_, false≢true, and-eq-true-iff}
+use mathlib.Core.Logic.{_⊎_, inl, inr}
+use mathlib.Core.Bool.{Bool, true, false, false≢true, and-eq-true-iff}
 use mathlib.Core.Option.{Option, none, some}
-use mathlib.Core.List.{List, [], _∷_, _++_, foldl, foldl-append, append-assoc, append-nil, List·Memᴰ, List·Memᴰ·head, List·Memᴰ·tail, List·Memᴰ·append-cases, List·Memᴰ·eq-of-singleton, List·Memᴰ·not-nil, Memᴰ·append-left, Memᴰ·append-right}
+use mathlib.Core.List.{List, [], _∷_, _++_, foldl, append-nil, List·Memᴰ, List·Memᴰ·head, List·Memᴰ·tail}
 use lib.Dec.{eqb}
-use borrow.Author.Tests.{eqb-true, eq-eqb, eqb-false}
-use lib.ListN.{length, getD, set, replicate, length-append}
-use lib.Seq.{set-getD, getD-set-same, getD-set-other, set-out}
+use borrow.Author.Tests.{eqb-true, eq-eqb}
+use lib.ListN.{getD, set}
+use lib.Seq.{set-getD}
 use native.Mathlib.Omega.{arith}
-use native.Mathlib.Decide.{ℕ-discrete}
 use Rattle.resolution.specs.Lists.{sameList}
-use Rattle.resolution.specs.Names.{Name, Parts, below, Above, candidates}
+use Rattle.resolution.specs.Names.{Parts, below, Above, candidates}
 use Rattle.resolution.specs.Table.{Urn, Row}
 use Rattle.resolution.specs.Direct.{Status, Open, Shut, State, sameStatus, sameState, Hit, firstHit, takesUrn, move, step, Env, changed, changes}
 use Rattle.resolution.specs.Says.{Given}

@@ -2,7 +2,7 @@
 use Prim.Native.Nat.{ℕ}
 use mathlib.Core.Path.{_≡_, refl}
 use mathlib.Core.Bool.{true}
-use mathlib.Core.List.{List, [], _∷_, map}
+use mathlib.Core.List.{[], _∷_, map}
 use lib.ListN.{length}
 use Rattle.resolution.specs.Lists.{tabulate, all}
 use Rattle.resolution.specs.Direct.{step, direct, usedOf, usedCount, skippedCount}
@@ -11,7 +11,7 @@ use Rattle.resolution.specs.Symbols.{symbols}
 use Rattle.resolution.specs.Machine.{accepts, walk, signalAt}
 use Rattle.resolution.specs.Discovery.{expand, discover}
 use Rattle.resolution.specs.Build.{discovered, machineOf}
-use Rattle.resolution.specs.Examples.{T1, T2, T3, T4, T5, tables, Answer, Case, cases, M1}
+use Rattle.resolution.specs.Examples.{T1, tables, Answer, Case, cases, longestCases, M1}
 
 -- direct resolution's answer
 abbrev resolved : Case → Answer
@@ -25,6 +25,10 @@ walked x = signalAt (machineOf (x .table) (discovered (x .table) 16)) (walk (x .
 pub examples : map resolved cases ≡ map (λ (x : Case). x .answer) cases
 unfolding step
 examples = refl
+
+pub longest-examples : map resolved longestCases ≡ map (λ (x : Case). x .answer) longestCases
+unfolding step
+longest-examples = refl
 
 -- the same by the machines that the tables build
 pub examples-walked : map walked cases ≡ map (λ (x : Case). x .answer .signal) cases

@@ -1,23 +1,23 @@
 -- The step of direct resolution, and the step by symbols, are steps at a node.
-use Prim.Native.Nat.{ℕ, _+_, _<_}
-use mathlib.Core.Path.{_≡_, refl, sym, ap, subst, _∙_}
-use mathlib.Core.Logic.{_⊎_, inl, inr, _≢_}
+use Prim.Native.Nat.{ℕ, _<_}
+use mathlib.Core.Path.{_≡_, refl, sym, ap, _∙_}
+use mathlib.Core.Logic.{_⊎_, inl, inr}
 use mathlib.Core.Bool.{Bool, true, false, not, _&&_, true≢false, false≢true}
 use mathlib.Core.Option.{Option, none, some}
 use mathlib.Core.List.{List, [], _∷_, _++_, append-assoc, append-nil, List·Memᴰ, List·Memᴰ·not-nil, List·Memᴰ·eq-of-singleton}
 use lib.ListN.{length, getD, set, length-append}
-use lib.Seq.{set-getD, getD-set-same}
+use lib.Seq.{set-getD}
 use native.Mathlib.Omega.{arith}
 use Rattle.resolution.specs.Names.{Name, Parts, sameParts, below, properAncestor, longer, candidates, Above}
-use Rattle.resolution.proofs.Names.{parts-exact, below-to, below-self, above-self, above-root, above-trans, between, not-past, snoc-split, proper-to, proper-of, proper-above}
-use Rattle.resolution.specs.Table.{Urn, urn, Row}
+use Rattle.resolution.proofs.Names.{parts-exact, below-to, below-self, above-self, above-root, between, not-past, snoc-split, proper-to, proper-of, proper-above}
+use Rattle.resolution.specs.Table.{Urn, urn}
 use Rattle.resolution.specs.Nodes.{isNode, RootOrNode, isRoot, deepest}
-use Rattle.resolution.specs.Direct.{Status, Open, Shut, State, Env, Hit, firstHit, openIf, statusAfter, takesUrn, move, step}
+use Rattle.resolution.specs.Direct.{Status, Open, Shut, State, Env, Hit, firstHit, openIf, takesUrn, move, step}
 use Rattle.resolution.proofs.Direct.{search-hit, search-last}
 use Rattle.resolution.specs.Symbols.{Symbol, stepsAsPath, stepsAs}
 use Rattle.resolution.proofs.Deepest.{deep-above, above-deep}
 use Rattle.resolution.proofs.Step.{EnvLaws, Valid, step-still, step-takes, seek, hit-node, beyond}
-use Rattle.resolution.specs.NodeStep.{nodeUnder, nodeTakes, nodeMove, nodeIfTaken, nodeStep}
+use Rattle.resolution.specs.NodeStep.{nodeUnder, nodeTakes, nodeIfTaken, nodeStep}
 
 module _ (env : Env) (cats : ℕ) (ns : List Urn) (laws : EnvLaws env cats ns) where
   -- a path d ++ f past d, where nothing is found past d and nodes above the path are above d

@@ -1,17 +1,17 @@
 -- Laws of node numbers: no node stands twice, number and path determine each other, ancestors have smaller numbers.
-use Prim.Native.Nat.{ℕ, zero, suc, _+_, _≤_, _<_}
+use Prim.Native.Nat.{ℕ, zero, suc, _≤_, _<_}
 use mathlib.Core.Path.{_≡_, refl, sym, ap, _∙_}
-use mathlib.Core.Logic.{_⊎_, inl, inr, _≢_}
-use mathlib.Core.Bool.{Bool, true, false, cond, _&&_, _||_, true≢false, false≢true, and-eq-true-iff}
-use mathlib.Core.List.{List, [], _∷_, _++_, foldl, append-assoc, append-nil, append-cancel-right}
+use mathlib.Core.Logic.{_⊎_, inl, inr}
+use mathlib.Core.Bool.{Bool, true, false}
+use mathlib.Core.List.{List, [], _∷_, _++_, foldl, append-assoc, append-nil}
 use lib.Dec.{eqb}
 use borrow.Author.Tests.{eqb-true, eq-eqb}
-use lib.ListN.{length, getD, take, drop, take-append-drop, length-append}
+use lib.ListN.{length, take, drop, take-append-drop, length-append}
 use native.Mathlib.Omega.{arith}
 use Rattle.resolution.specs.Names.{Name, Parts, sameParts, Above}
 use Rattle.resolution.proofs.Names.{parts-exact, snoc-injective, snoc-view}
 use Rattle.resolution.specs.Table.{Urn, urn, Table}
-use Rattle.resolution.specs.Nodes.{sameUrn, member, past, prefixes, addUrn, addSignal, nodes, isNode, RootOrNode, number, nodeAt}
+use Rattle.resolution.specs.Nodes.{sameUrn, member, past, addUrn, addSignal, nodes, isNode, RootOrNode, number, nodeAt}
 use Rattle.resolution.proofs.Nodes.{urn-exact, root-free}
 use Rattle.resolution.specs.Lists.{addBy, indexBy, Distinct}
 use Rattle.resolution.proofs.Lists.{same-test, add-has, distinct-add, member-of, member-more, mem-at, index-member, index-at, index-take}

@@ -1,18 +1,18 @@
 -- What direct resolution says: only what was given, for good, and with few changes. Over lists of any length.
-use Prim.Native.Nat.{ℕ, _+_, _≤_, _<_}
-use mathlib.Core.Path.{_≡_, refl, sym, ap, _∙_}
+use Prim.Native.Nat.{ℕ, _≤_}
+use mathlib.Core.Path.{_≡_, refl}
 use mathlib.Core.Logic.{_⊎_, inl, inr, _≢_}
 use mathlib.Core.Option.{Option, some}
 use mathlib.Core.List.{List, [], _∷_, _++_, foldl, foldl-append}
-use lib.ListN.{length, getD}
+use lib.ListN.{getD}
 use native.Mathlib.Omega.{arith}
 use Rattle.resolution.specs.Names.{Parts, Above}
-use Rattle.resolution.specs.Table.{Urn, Table, Row, place, rowOf, find, mostParts, WellFormed}
+use Rattle.resolution.specs.Table.{Urn, Table, Row, place, rowOf, mostParts, WellFormed}
 use Rattle.resolution.specs.Direct.{State, start, step, Env, changes}
 use Rattle.resolution.specs.Says.{Says, Given}
 use Rattle.resolution.proofs.Names.{above-trans}
 use Rattle.resolution.proofs.Direct.{grows, only-given, changes-bound}
-use Rattle.resolution.proofs.Table.{find-sound, find-start, row-place, total-most}
+use Rattle.resolution.proofs.Table.{row-place, total-most}
 
 module _ (t : Table) (wf : WellFormed t) (finder : Row → Option ℕ) (sound : (r : Row) (s : ℕ) → finder r ≡ some s → rowOf t s ≡ r) (live : finder (rowOf t 0) ≡ some 0) where
   abbrev pub env : Env

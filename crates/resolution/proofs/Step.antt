@@ -1,23 +1,21 @@
--- Laws of the step over a table's nodes: when it stays, what it takes, what it keeps, and that nothing is found past the deepest node.
-use Prim.Native.Nat.{ℕ, _+_, _<_}
-use mathlib.Core.Path.{_≡_, refl, sym, ap, subst, _∙_}
+-- Laws of the step over a table's nodes: when it stays, what it takes, what it keeps, and that nothing is found past
+-- the deepest node.
+use Prim.Native.Nat.{ℕ, _<_}
+use mathlib.Core.Path.{_≡_, refl, sym, ap, _∙_}
 use mathlib.Core.Logic.{_⊎_, inl, inr, _≢_}
-use mathlib.Core.Bool.{Bool, true, false, not, true≢false, false≢true}
+use mathlib.Core.Bool.{true, false}
 use mathlib.Core.Option.{Option, none, some}
-use mathlib.Core.List.{List, [], _∷_, _++_, foldl, append-assoc, append-nil, append-cancel-left, List·Memᴰ, List·Memᴰ·head, List·Memᴰ·tail, List·Memᴰ·not-nil, List·Memᴰ·eq-of-singleton}
-use lib.Dec.{eqb}
+use mathlib.Core.List.{List, [], _∷_, _++_, append-assoc, append-nil, List·Memᴰ}
 use lib.ListN.{length, getD, set, length-append, length-set}
 use lib.Seq.{set-getD, getD-set-same, getD-set-other}
 use native.Mathlib.Omega.{arith}
-use native.Mathlib.Decide.{ℕ-discrete}
-use Rattle.resolution.specs.Names.{Name, Parts, sameParts, below, properAncestor, somePart, longer, candidates, Above}
-use Rattle.resolution.proofs.Names.{parts-exact, below-to, below-self, longer-append, Strict, in-longer}
-use Rattle.resolution.specs.Table.{Urn, urn, Row}
-use Rattle.resolution.specs.Direct.{Status, Open, Shut, State, Hit, firstHit, openIf, statusAfter, takesUrn, move, ifTaken, step, Env}
-use Rattle.resolution.proofs.Direct.{search-hit, search-skip, search-last, Moved, step-view, live-step, same-signal, moved-row}
+use Rattle.resolution.specs.Names.{Parts, below, longer, candidates, Above}
+use Rattle.resolution.proofs.Names.{below-self, longer-append, Strict, in-longer}
+use Rattle.resolution.specs.Table.{Urn, Row}
+use Rattle.resolution.specs.Direct.{Status, Open, State, firstHit, statusAfter, takesUrn, move, step, Env}
+use Rattle.resolution.proofs.Direct.{search-skip, Moved, step-view, live-step, same-signal, moved-row}
 use Rattle.resolution.specs.Nodes.{isNode, RootOrNode, leaf, deepest}
-use Rattle.resolution.specs.Symbols.{Symbol, symbolOf, stepsAs}
-use Rattle.resolution.proofs.Deepest.{deep-above, deep-most, leaf-ends}
+use Rattle.resolution.proofs.Deepest.{deep-most, leaf-ends}
 
 module _ (env : Env) where
   abbrev next : State → Urn → State

@@ -1,24 +1,40 @@
 -- A table's rows, search and nodes have the laws that the steps ask for.
 use Prim.Native.Nat.{ℕ, _<_}
-use mathlib.Core.Path.{_≡_, refl}
-use mathlib.Core.List.{List, []}
+use mathlib.Core.Path.{_≡_}
+use mathlib.Core.List.{[]}
 use lib.ListN.{length, getD, length-replicate}
-use Rattle.resolution.specs.Table.{Table, rowOf, WellFormed}
-use Rattle.resolution.specs.Direct.{Open, State, start, envOf}
+use native.Mathlib.Omega.{arith}
+use Rattle.resolution.specs.Table.{Urn, Table, rowOf, WellFormed}
+use Rattle.resolution.specs.Direct.{Open, State, start, step, envOf, StateOf}
 use Rattle.resolution.specs.Nodes.{nodes}
-use Rattle.resolution.proofs.Table.{find-sound, find-start, find-self, row-length}
+use Rattle.resolution.proofs.Table.{find-sound, find-start, find-below, find-self, row-length}
 use Rattle.resolution.proofs.Nodes.{noded, fresh-node}
-use Rattle.resolution.proofs.Step.{EnvLaws, Valid}
+use Rattle.resolution.proofs.Step.{EnvLaws, Valid, valid-step}
 
 module _ (t : Table) (wf : WellFormed t) where
   pub table-laws : EnvLaws (envOf t) (t .cats) (nodes t)
-  table-laws = record { sound = find-sound t; noded = noded t wf; fresh-node = fresh-node t wf }
+  table-laws = record { sound = find-sound t; noded = noded t; fresh-node = fresh-node t wf }
 
   pub valid-start : Valid (envOf t) (t .cats) (nodes t) (start (t .cats))
   valid-start = record { live = find-start t (wf .some-signal); wide = row-length (getD (t .signals) 0 []) 0 (t .cats); sized = length-replicate (t .cats) Open }
 
--- where no two signals have the same places, every signal of the table with a status for each category is a state
-pub valid-state : (t : Table) → ((i j : ℕ) → i < length (t .signals) → j < length (t .signals) → rowOf t i ≡ rowOf t j → i ≡ j)
-    → (st : State) → st .signal < length (t .signals) → length (st .status) ≡ t .cats → Valid (envOf t) (t .cats) (nodes t) st
-valid-state t rows st h e =
-    record { live = find-self t rows (st .signal) h; wide = row-length (getD (t .signals) (st .signal) []) 0 (t .cats); sized = e }
+module _ (t : Table) where
+  pub state-valid : (st : State) → StateOf t st → Valid (envOf t) (t .cats) (nodes t) st
+  state-valid st g = record { live = g .live; wide = row-length (getD (t .signals) (st .signal) []) 0 (t .cats); sized = g .sized }
+
+  pub valid-state : (st : State) → Valid (envOf t) (t .cats) (nodes t) st → StateOf t st
+  valid-state st g = record { live = g .live; sized = g .sized }
+
+  pub state-start : WellFormed t → StateOf t (start (t .cats))
+  state-start wf = valid-state (start (t .cats)) (valid-start t wf)
+
+  pub state-step : WellFormed t → (st : State) (u : Urn) → StateOf t st → StateOf t (step (envOf t) st u)
+  state-step wf st u g = valid-state (step (envOf t) st u) (valid-step (envOf t) (t .cats) (nodes t) (table-laws t wf) st u (state-valid st g))
+
+  -- where no two signals have the same places, every signal with a status for each category is a state of the table
+  pub state-of : ((i j : ℕ) → i < length (t .signals) → j < length (t .signals) → rowOf t i ≡ rowOf t j → i ≡ j)
+      → (st : State) → st .signal < length (t .signals) → length (st .status) ≡ t .cats → StateOf t st
+  state-of rows st h e = record { live = find-self t rows (st .signal) h; sized = e }
+
+  pub state-signal : (st : State) → StateOf t st → st .signal < length (t .signals)
+  state-signal st g = omega (arith, find-below (t .cats) 0 (t .signals) (rowOf t (st .signal)) (st .signal) (g .live))

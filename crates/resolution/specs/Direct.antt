@@ -29,6 +29,7 @@ pub record Env : Type 0 where
   pub rows : ℕ → Row
   pub finder : Row → Option ℕ
 
+-- the search among all of the table's signals
 abbrev pub envOf : Table → Env
 envOf t = record { rows = rowOf t; finder = find t }
 
@@ -37,6 +38,7 @@ pub record Hit : Type 0 where
   pub at : Parts
   pub signal : ℕ
 
+-- the signal at p, if there is one, else the rest
 abbrev pub found : Parts → Option ℕ → Option Hit → Option Hit
 found p none rest = rest
 found p (some s) rest = some (record { at = p; signal = s })
@@ -51,6 +53,7 @@ abbrev pub takesUrn : Status → Parts → Parts → Bool
 takesUrn Open p u = properAncestor p u
 takesUrn Shut p u = false
 
+-- open if the URN was said whole, else shut
 abbrev pub openIf : Bool → Status
 openIf true = Open
 openIf false = Shut
@@ -59,6 +62,7 @@ openIf false = Shut
 abbrev pub statusAfter : Env → ℕ → Parts → Hit → Status
 statusAfter env c u h = openIf (sameParts (h .at) u)
 
+-- the signal found becomes current; with none found, nothing changes
 abbrev pub move : Env → State → ℕ → Parts → Option Hit → State
 move env st c u none = st
 move env st c u (some h) = record { signal = h .signal; status = set (st .status) c (statusAfter env c u h) }
@@ -80,6 +84,11 @@ step env st u =
 abbrev pub direct : Table → List Urn → State
 direct t us = foldl (step (envOf t)) (start (t .cats)) us
 
+-- a state of a table: the search finds its signal at the signal's own places, and there is a status for each category
+pub record StateOf (t : Table) (st : State) : Type 0 where
+  pub live : find t (rowOf t (st .signal)) ≡ some (st .signal)
+  pub sized : length (st .status) ≡ t .cats
+
 -- a used URN of a table: its category is in the table, and its path has at least one part
 pub record Used (t : Table) (u : Urn) : Type 0 where
   pub known : u .cat < t .cats
@@ -91,9 +100,11 @@ usedOf [] = []
 usedOf (none ∷ l) = usedOf l
 usedOf (some u ∷ l) = u ∷ usedOf l
 
+-- how many are used
 abbrev pub usedCount : List (Option Urn) → ℕ
 usedCount l = length (usedOf l)
 
+-- and how many skipped
 abbrev pub skippedCount : List (Option Urn) → ℕ
 skippedCount [] = 0
 skippedCount (none ∷ l) = suc (skippedCount l)
@@ -108,6 +119,7 @@ abbrev pub stepUri : {S : Type 0} → (S → Urn → S) → S → Option Urn →
 stepUri next s none = s
 stepUri next s (some u) = next s u
 
+-- 1 for a change, by the test whether the signal is the same
 abbrev pub changed : Bool → ℕ
 changed true = 0
 changed false = 1
@@ -123,5 +135,6 @@ sameStatus Open Shut = false
 sameStatus Shut Open = false
 sameStatus Shut Shut = true
 
+-- the same signal and the same statuses
 abbrev pub sameState : State → State → Bool
 sameState a b = eqb (a .signal) (b .signal) && sameList sameStatus (a .status) (b .status)

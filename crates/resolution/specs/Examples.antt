@@ -6,7 +6,7 @@ use mathlib.Core.Bool.{cond}
 use mathlib.Core.Option.{Option, none, some}
 use mathlib.Core.List.{List, [], _∷_}
 use lib.Dec.{eqb}
-use Rattle.resolution.specs.Names.{Name, Parts}
+use Rattle.resolution.specs.Names.{Parts}
 use Rattle.resolution.specs.Table.{Urn, urn, Table}
 use Rattle.resolution.specs.Direct.{Status, Open, Shut}
 use Rattle.resolution.specs.Machine.{MachineState, Machine}
@@ -95,6 +95,7 @@ pub record Answer : Type 0 where
   pub used : ℕ
   pub skipped : ℕ
 
+-- a table, a list of URIs, and the answer
 pub record Case : Type 0 where
   pub table : Table
   pub uris : List (Option Urn)
@@ -121,6 +122,11 @@ cases =
     ∷ case T5 (some (service "recall") ∷ some (service "recall:callback") ∷ []) 0 2 0
     ∷ []
 
+-- the longest candidate that the table can say, and no longer one than was given
+abbrev pub longestCases : List Case
+longestCases = case T4 (some (source "internal:vip@example") ∷ []) 2 1 0 ∷ case T4 (some (source "internal") ∷ []) 1 1 0 ∷ []
+
+-- a state of a machine for one category
 abbrev pub state : ℕ → Status → List ℕ → MachineState
 state s x r = record { pair = record { signal = s; status = x ∷ [] }; row = r }
 

@@ -12,4 +12,5 @@ pub mod Machine
 pub mod Discovery
 pub mod Build
 pub mod Claim
+pub mod Laws
 pub mod Examples

@@ -3,7 +3,7 @@
 use Prim.Native.Nat.{ℕ}
 use mathlib.Core.Bool.{Bool, true, false, not, _&&_}
 use mathlib.Core.Option.{Option, none, some}
-use mathlib.Core.List.{List, [], _∷_}
+use mathlib.Core.List.{[], _∷_}
 use lib.ListN.{getD, set}
 use Rattle.resolution.specs.Names.{Parts, sameParts, below, candidates}
 use Rattle.resolution.specs.Direct.{Status, Open, Shut, State, Env, Hit, firstHit, openIf}
@@ -19,15 +19,18 @@ abbrev pub nodeTakes : Status → Parts → Parts → Bool → Bool
 nodeTakes Open q d whole = nodeUnder (below q d) whole
 nodeTakes Shut q d whole = false
 
+-- the signal found becomes current; its category stays open if the URN is d whole and was found at d
 abbrev pub nodeMove : Env → State → ℕ → Parts → Bool → Option Hit → State
 nodeMove env st c d whole none = st
 nodeMove env st c d whole (some h) = record { signal = h .signal; status = set (st .status) c (openIf (whole && sameParts (h .at) d)) }
 
+-- if the URN is taken: the longest candidate between the place and d
 abbrev pub nodeIfTaken : Env → State → ℕ → Parts → Bool → Bool → Option Parts → State
 nodeIfTaken env st c d whole false rest = st
 nodeIfTaken env st c d whole true none = st
 nodeIfTaken env st c d whole true (some r) = nodeMove env st c d whole (firstHit env (env .rows (st .signal)) c (candidates (getD (env .rows (st .signal)) c []) r))
 
+-- the state after a URN of category c whose deepest node or root is d, and which is d whole or not
 unfoldable pub nodeStep : Env → State → ℕ → Parts → Bool → State
 nodeStep env st c d whole =
     nodeIfTaken env st c d whole

@@ -1,13 +1,13 @@
 -- The nodes of a table and their numbers, its leaves, and the deepest node that is a path or above it.
 use Prim.Native.Nat.{ℕ, suc}
 use mathlib.Core.Path.{_≡_}
-use mathlib.Core.Logic.{_⊎_}
+use mathlib.Core.Logic.{_⊎_, _≢_}
 use mathlib.Core.Bool.{Bool, true, false, cond, not, _&&_, _||_}
-use mathlib.Core.List.{List, [], _∷_, _++_, foldl}
+use mathlib.Core.List.{List, [], _∷_, _++_, foldl, List·Memᴰ}
 use lib.Dec.{eqb}
 use lib.ListN.{getD}
 use Rattle.resolution.specs.Lists.{memberBy, addBy, indexBy}
-use Rattle.resolution.specs.Names.{Parts, sameParts, properAncestor, longer}
+use Rattle.resolution.specs.Names.{Parts, sameParts, properAncestor, Above, longer}
 use Rattle.resolution.specs.Table.{Urn, urn, Table}
 
 abbrev pub sameUrn : Urn → Urn → Bool
@@ -29,6 +29,7 @@ prefixes p = past [] p
 abbrev pub addUrn : List Urn → Urn → List Urn
 addUrn seen u = foldl (λ s p. addBy sameUrn s (urn (u .cat) p)) seen (prefixes (u .path))
 
+-- with those of all URNs of a signal
 abbrev pub addSignal : List Urn → List Urn → List Urn
 addSignal seen sig = foldl addUrn seen sig
 
@@ -37,6 +38,7 @@ addSignal seen sig = foldl addUrn seen sig
 unfoldable pub nodes : Table → List Urn
 nodes t = foldl addSignal [] (t .signals)
 
+-- p is a node of category c
 abbrev pub isNode : List Urn → ℕ → Parts → Bool
 isNode ns c p = member (urn c p) ns
 
@@ -52,16 +54,27 @@ nodeAt ns k = getD ns k (urn 0 [])
 abbrev pub RootOrNode : List Urn → ℕ → Parts → Type 0
 RootOrNode ns c p = (p ≡ []) ⊎ (isNode ns c p ≡ true)
 
+-- what makes a path a node, without the list: it has a part, and some signal's URN is it or below it
+pub record NodeOf (t : Table) (c : ℕ) (p : Parts) : Type 0 where
+  pub some-part : p ≢ []
+  pub signal : List Urn
+  pub by : Urn
+  pub listed : List·Memᴰ signal (t .signals)
+  pub named : List·Memᴰ by signal
+  pub cat : by .cat ≡ c
+  pub above : Above p (by .path)
+
 -- some node of category c lies under p
 abbrev pub hasUnder : List Urn → ℕ → Parts → Bool
 hasUnder [] c p = false
 hasUnder (n ∷ ns) c p = (eqb (n .cat) c && properAncestor p (n .path)) || hasUnder ns c p
 
+-- p is the root
 abbrev pub isRoot : Parts → Bool
 isRoot [] = true
 isRoot (x ∷ p) = false
 
--- a leaf: no other node lies under it, and it is not the root
+-- a leaf, asked of a node or the root: no node lies under it, and it is not the root
 unfoldable pub leaf : List Urn → ℕ → Parts → Bool
 leaf ns c p = not (isRoot p) && not (hasUnder ns c p)
 
