@@ -12,8 +12,8 @@ use native.Mathlib.Numerals.{add-one}
 use Rattle.resolution.specs.Lists.{all}
 use Rattle.resolution.specs.Names.{sameName}
 use Rattle.resolution.proofs.Lists.{all-stop}
-use Rattle.signal_table.specs.Image.{symbolCount, stateCount, placeOf, signalIn, shutIn, targetIn}
-use Rattle.signal_table.specs.Refusals.{targetBelow}
+use Rattle.machine_image.specs.Image.{symbolCount, stateCount, placeOf, signalIn, shutIn, targetIn}
+use Rattle.machine_image.specs.Refusals.{targetBelow}
 use Rattle.signal_table.specs.States.{pairIn, stateFormedBy, formBy, targetRightBy, rowRightBy, checkBy}
 
 -- one number more of a test of all
@@ -179,9 +179,17 @@ module _ (next : ℕ → ℕ → ℕ) (sy : List ℕ) (count signals cats : ℕ)
         let c : eqb (pairIn im 0) 0 ≡ false = ap (λ z. eqb z 0) (sym f) ∙ ne-eqb p 0 n in
         sym (rw (a, c))
 
-    pub check-rows : {n : ℕ} {r : Bool} → p ≡ 0 → n ≡ stateCount im → r ≡ all n (rowRightBy next count im) → cond r 0 17 ≡ checkBy next sy count signals cats im
-    unfolding checkBy
-    check-rows z g k =
-        let a = sym e ∙ h in
-        let c : eqb (pairIn im 0) 0 ≡ true = ap (λ z. eqb z 0) (sym f) ∙ eq-eqb p 0 z in
-        ap (λ r. cond r 0 17) (k ∙ ap (λ z. all z (rowRightBy next count im)) g) ∙ sym (rw (a, c))
+    module _ (z : p ≡ 0) {n : ℕ} {r : Bool} (g : n ≡ stateCount im) (k : r ≡ all n (rowRightBy next count im)) where
+      rows : r ≡ all (stateCount im) (rowRightBy next count im)
+      rows = k ∙ ap (λ z. all z (rowRightBy next count im)) g
+
+      starts : eqb (pairIn im 0) 0 ≡ true
+      starts = ap (λ z. eqb z 0) (sym f) ∙ eq-eqb p 0 z
+
+      pub check-wrong : r ≡ false → 17 ≡ checkBy next sy count signals cats im
+      unfolding checkBy
+      check-wrong l = let a = sym e ∙ h in let b = sym rows ∙ l in sym (rw (a, starts, b))
+
+      pub check-right : r ≡ true → 0 ≡ checkBy next sy count signals cats im
+      unfolding checkBy
+      check-right l = let a = sym e ∙ h in let b = sym rows ∙ l in sym (rw (a, starts, b))

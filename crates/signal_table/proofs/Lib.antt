@@ -6,3 +6,7 @@ pub mod ImageLaws
 pub mod PairLaws
 pub mod SymbolLaws
 pub mod WriteLaws
+pub mod SymbolsRight
+pub mod PairsRight
+pub mod BuildRight
+pub mod CheckRight

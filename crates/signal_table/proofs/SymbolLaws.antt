@@ -1,5 +1,5 @@
 -- Laws of listing the symbols, at a turn of a loop.
-use Prim.Native.Nat.{ℕ, zero, suc, _+_, _*_, _≤_, _<_, min}
+use Prim.Native.Nat.{ℕ, zero, suc, _+_, _-_, _*_, _≤_, _<_, min}
 use mathlib.Core.Path.{_≡_, refl, sym, ap, ap₂, subst, _∙_}
 use mathlib.Core.Bool.{Bool, true, false, cond, not, _&&_, and-false}
 use mathlib.Core.List.{List, [], _∷_, _++_, append-assoc, append-nil}
@@ -10,7 +10,7 @@ use lib.Seq.{take-suc-set, take-all, take-append-le, length-take-le}
 use native.Mathlib.Omega.{arith}
 use native.Mathlib.Numerals.{add-one}
 use native.Mathlib.Decide.{ℕ-discrete}
-use Rattle.signal_table.specs.Listed.{childless, triple, nodeTriples, nodesTriples, categoryTriples, tripleLists, fewer, Listed}
+use Rattle.signal_table.specs.Listed.{childless, triple, nodeTriples, nodesTriples, categoryTriples, tripleLists, fewer, Listed, isTriple, tripleIndex, kindFor, symbolNumber}
 
 pub fewer-le : (n m : ℕ) → n ≤ m → n ≡ fewer n m
 fewer-le n m h = simp (le-leb n m h)
@@ -115,3 +115,58 @@ module _ (ca ps : List ℕ) (n : ℕ) where
 
 pub lists-same : (ca ps : List ℕ) {n n′ k k′ : ℕ} → n ≡ n′ → k ≡ k′ → (bytes : List ℕ) (m : ℕ) → Listed bytes m (tripleLists ca ps n k) → Listed bytes m (tripleLists ca ps n′ k′)
 lists-same ca ps e f bytes m v = subst (Listed bytes m) (ap₂ (tripleLists ca ps) e f) v
+
+-- one symbol, test by test
+module _ (sy : List ℕ) (c d kind k : ℕ) where
+  pub triple-category : (getD sy (3 * k) 0 ≡ c → ⊥) → false ≡ isTriple sy c d kind k
+  unfolding isTriple
+  triple-category e = sym (rw (ne-eqb (getD sy (3 * k) 0) c e))
+
+  module _ (e : getD sy (3 * k) 0 ≡ c) where
+    pub triple-node : (getD sy (3 * k + 1) 0 ≡ d → ⊥) → false ≡ isTriple sy c d kind k
+    unfolding isTriple
+    triple-node f = sym (rw (eq-eqb (getD sy (3 * k) 0) c e, ne-eqb (getD sy (3 * k + 1) 0) d f))
+
+    pub triple-kind : getD sy (3 * k + 1) 0 ≡ d → eqb (getD sy (3 * k + 2) 0) kind ≡ isTriple sy c d kind k
+    unfolding isTriple
+    triple-kind f = sym (rw (eq-eqb (getD sy (3 * k) 0) c e, eq-eqb (getD sy (3 * k + 1) 0) d f))
+
+-- the search for a symbol
+module _ (sy : List ℕ) (c d kind n k : ℕ) (v : tripleIndex sy c d kind 0 n ≡ tripleIndex sy c d kind k (n - k)) where
+  module _ {b : Bool} (h : k < n) (e : b ≡ isTriple sy c d kind k) where
+    pub index-found : b ≡ true → k ≡ tripleIndex sy c d kind 0 n
+    unfolding tripleIndex
+    index-found q = let m : n - k ≡ suc (n - (k + 1)) = omega arith in let z = sym e ∙ q in sym (v ∙ rw (m, z))
+
+    pub index-more : b ≡ false → tripleIndex sy c d kind 0 n ≡ tripleIndex sy c d kind (k + 1) (n - (k + 1))
+    unfolding tripleIndex
+    index-more q = let m : n - k ≡ suc (n - (k + 1)) = omega arith in let z = sym e ∙ q in v ∙ rw (m, z)
+
+  pub index-end : k ≤ n → n ≤ k → n ≡ tripleIndex sy c d kind 0 n
+  unfolding tripleIndex
+  index-end a b = let m : n - k ≡ 0 = omega arith in sym (v ∙ rw m (omega arith))
+
+-- the kind
+module _ (ps : List ℕ) (n d : ℕ) (whole : Bool) where
+  pub kind-whole : whole ≡ true → 0 ≡ kindFor ps n d whole
+  unfolding kindFor
+  kind-whole e = sym (rw e)
+
+  module _ (e : whole ≡ false) where
+    pub kind-root : d ≡ 0 → 1 ≡ kindFor ps n d whole
+    unfolding kindFor
+    kind-root f = sym (rw (e, eq-eqb d 0 f))
+
+    module _ (f : d ≡ 0 → ⊥) {b : Bool} (g : b ≡ childless ps d n) where
+      pub kind-leaf : b ≡ true → 0 ≡ kindFor ps n d whole
+      unfolding kindFor
+      kind-leaf h = let z = sym g ∙ h in sym (rw (e, ne-eqb d 0 f, z))
+
+      pub kind-inner : b ≡ false → 1 ≡ kindFor ps n d whole
+      unfolding kindFor
+      kind-inner h = let z = sym g ∙ h in sym (rw (e, ne-eqb d 0 f, z))
+
+pub number-is : (sy : List ℕ) (count : ℕ) (ps : List ℕ) (n c d : ℕ) (whole : Bool) {n′ m kind r : ℕ} → n′ ≡ fewer n 64 → m ≡ fewer count 128
+    → kind ≡ kindFor ps n′ d whole → r ≡ tripleIndex sy c d kind 0 m → r ≡ symbolNumber sy count ps n c d whole
+unfolding symbolNumber
+number-is sy count ps n c d whole e f g h = h ∙ ap₂ (λ x y. tripleIndex sy c d x 0 y) (g ∙ ap (λ z. kindFor ps z d whole) e) f

@@ -10,7 +10,7 @@ use lib.Seq.{length-take-le, drop-at, take-append-add}
 use native.Mathlib.Omega.{arith}
 use native.Mathlib.Nat.{sub-zero, mul-le-mul-right}
 use borrow.Rule.Slice.PartMut.{putMid}
-use Rattle.signal_table.specs.Refusals.{refused, accepted}
+use Rattle.signal_table.specs.Built.{refused, accepted}
 use Rattle.signal_table.specs.States.{found, rowsBytes, imageBy, sizeBy, builtBy, bufferBy, Discovered}
 
 -- a part lent up to the end

@@ -1,4 +1,3 @@
-pub mod Image
-pub mod Refusals
+pub mod Built
 pub mod Listed
 pub mod States

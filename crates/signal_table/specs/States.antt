@@ -9,8 +9,9 @@ use Rattle.resolution.specs.Lists.{all}
 use Rattle.resolution.specs.Discovery.{expand, discover, targets}
 use Rattle.node_step.specs.Step.{stepNumbers}
 use Rattle.node_step.specs.declared.State.{State}
-use Rattle.signal_table.specs.Image.{symbolCount, stateCount, placeOf, signalIn, shutIn, targetIn}
-use Rattle.signal_table.specs.Refusals.{refused, accepted, targetBelow}
+use Rattle.machine_image.specs.Image.{symbolCount, stateCount, placeOf, signalIn, shutIn, targetIn}
+use Rattle.machine_image.specs.Refusals.{targetBelow}
+use Rattle.signal_table.specs.Built.{refused, accepted}
 use Rattle.signal_table.specs.declared.write.Built.{Built}
 use Rattle.resolution.specs.Names.{sameName}
 use lib.Dec.{leb}

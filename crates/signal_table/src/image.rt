@@ -3,8 +3,8 @@ ghost use mathlib.Core.Path.{_≡_};
 ghost use Prim.Native.Nat.{_+_, _*_, _≤_, _<_};
 ghost use lib.ListN.{getD};
 ghost use Rattle.resolution.specs.Lists.{all};
-ghost use Rattle.signal_table.specs.Image.{symbolCount, stateCount, placeOf, signalIn};
-ghost use Rattle.signal_table.specs.Refusals.{targetBelow};
+ghost use Rattle.machine_image.specs.Image.{symbolCount, stateCount, placeOf, signalIn, targetIn};
+ghost use Rattle.machine_image.specs.Refusals.{targetBelow};
 ghost use Rattle.signal_table.specs.States.{nextPair, pairIn, stateFormedBy, formBy, rowRightBy, checkBy};
 
 // The byte at i, or 0 past the end.
@@ -213,4 +213,23 @@ pub fn check_by<'a>(
         return 17;
     }
     0
+}
+
+// The target of state j for symbol k.
+pub fn target(im: &[u8], j: u8, k: u8) -> u8
+    ensures { λ r. ⌜ r ≡ targetIn (now (im .entry)) j k ⌝ }
+{
+    let state = crate::states::wide(j);
+    let symbol = crate::states::wide(k);
+    let i = place(im, state) + 2;
+    byte(im, i + symbol)
+}
+
+// The signal of state j.
+pub fn signal(im: &[u8], j: u8) -> u8
+    ensures { λ r. ⌜ r ≡ signalIn (now (im .entry)) j ⌝ }
+{
+    let state = crate::states::wide(j);
+    let i = place(im, state);
+    byte(im, i)
 }

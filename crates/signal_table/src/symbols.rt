@@ -3,7 +3,7 @@ ghost use mathlib.Core.Path.{_≡_};
 ghost use mathlib.Core.List.{List, [], _∷_, _++_};
 ghost use Prim.Native.Nat.{ℕ, _+_, _*_, _≤_, _<_};
 ghost use lib.ListN.{length};
-ghost use Rattle.signal_table.specs.Listed.{Listed, childless, nodeTriples, categoryTriples, tripleLists, fewer};
+ghost use Rattle.signal_table.specs.Listed.{Listed, childless, nodeTriples, categoryTriples, tripleLists, fewer, isTriple, tripleIndex, kindFor, symbolNumber};
 
 // How many symbols there are, and three bytes for each.
 pub struct Symbols {
@@ -143,4 +143,69 @@ pub fn list<'a>(
     let k = at_most(categories, 8);
     let count = push_all(category, parents, n, k, &mut bytes);
     Symbols { count, bytes }
+}
+
+// Symbol k is c, d and kind.
+fn is_symbol(bytes: &[u8; 384], c: u8, d: u8, kind: u8, k: usize) -> bool
+    requires { ⌜ k < 128 ⌝ }
+    ensures { λ r. ⌜ r ≡ isTriple (now (bytes .entry)) c d kind k ⌝ }
+{
+    let at = 3 * k;
+    if bytes[at] != c {
+        return false;
+    }
+    if bytes[at + 1] != d {
+        return false;
+    }
+    bytes[at + 2] == kind
+}
+
+// The number of the first of the n symbols that is c, d and kind, or n.
+fn find(bytes: &[u8; 384], n: usize, c: u8, d: u8, kind: u8) -> u8
+    requires { ⌜ n ≤ 128 ⌝ }
+    ensures { λ r. ⌜ r ≡ tripleIndex (now (bytes .entry)) c d kind 0 n ⌝ }
+{
+    let mut k = 0;
+    while k < n {
+        if is_symbol(bytes, c, d, kind, k) {
+            return k as u8;
+        }
+        k += 1;
+    }
+    n as u8
+}
+
+// The kind of the symbol of a URN under node d: 0 if it is d itself or d is a leaf, else 1.
+fn kind_for(parents: &[u8; 64], n: usize, d: u8, whole: bool) -> u8
+    requires { ⌜ n ≤ 64 ⌝ }
+    ensures { λ r. ⌜ r ≡ kindFor (now (parents .entry)) n d whole ⌝ }
+{
+    if whole {
+        return 0;
+    }
+    if d == 0 {
+        return 1;
+    }
+    if is_leaf(parents, n, d) {
+        return 0;
+    }
+    1
+}
+
+// The number of the symbol of a used URN, by its category, the deepest node above it, and whether it is that node.
+pub fn number(
+    bytes: &[u8; 384],
+    count: usize,
+    parents: &[u8; 64],
+    nodes: usize,
+    c: u8,
+    d: u8,
+    whole: bool,
+) -> u8
+    ensures { λ r. ⌜ r ≡ symbolNumber (now (bytes .entry)) count (now (parents .entry)) nodes c d whole ⌝ }
+{
+    let n = at_most(nodes, 64);
+    let m = at_most(count, 128);
+    let kind = kind_for(parents, n, d, whole);
+    find(bytes, m, c, d, kind)
 }

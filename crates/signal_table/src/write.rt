@@ -3,7 +3,7 @@ ghost use mathlib.Core.Path.{_≡_};
 ghost use mathlib.Core.List.{[], _∷_, _++_};
 ghost use Prim.Native.Nat.{_+_, _*_, _/_, _%_, _≤_};
 ghost use lib.ListN.{length, take, replicate};
-ghost use Rattle.signal_table.specs.Refusals.{refused};
+ghost use Rattle.signal_table.specs.Built.{refused};
 ghost use Rattle.signal_table.specs.States.{nextPair, builtBy, bufferBy};
 
 // What a build answers: its refusal number, and the image's length, 0 if refused.

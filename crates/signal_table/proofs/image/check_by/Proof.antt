@@ -2,7 +2,7 @@ use borrow.Author.Tests.{not-true, not-false}
 use mathlib.Core.Path.{_≡_, sym, ap, _∙_}
 use mathlib.Core.Bool.{cond}
 use Rattle.signal_table.specs.States.{nextPair}
-use Rattle.signal_table.proofs.ImageLaws.{check-form, check-start, check-rows}
+use Rattle.signal_table.proofs.ImageLaws.{check-form, check-start, check-wrong, check-right}
 use borrow.Author.Needs.{needs}
 use Rattle.signal_table.proofs.image.check_by.Statement.{statement}
 use Rattle.signal_table.proofs.image.check_by.Tie as tie
@@ -27,11 +27,11 @@ rows-right-requires c κs = search needs
 
 returns-3 : tie.Need-returns-3
 returns-3 c = let a = c .before .before .before .before .before .before .before .before .args in
-    ap (λ r. cond r 0 17) (sym (not-true _ (c .if3 .taken))) ∙ check-rows (nextPair (a .rows .now) (a .parents .now) (a .signals) (a .symbols .now)) (a .symbols .now) (a .count) (a .signals) (a .categories) (a .im .now) (c .before .before .before .before .before .before .formed .ensures) (not-false _ (c .before .before .before .before .before .if1 .left)) (c .before .before .before .before .pair .ensures .0) (c .before .before .before .if2 .left) (c .before .before .state-count .ensures .0) (c .before .rows-right .ensures)
+    check-wrong (nextPair (a .rows .now) (a .parents .now) (a .signals) (a .symbols .now)) (a .symbols .now) (a .count) (a .signals) (a .categories) (a .im .now) (c .before .before .before .before .before .before .formed .ensures) (not-false _ (c .before .before .before .before .before .if1 .left)) (c .before .before .before .before .pair .ensures .0) (c .before .before .before .if2 .left) (c .before .before .state-count .ensures .0) (c .before .rows-right .ensures) (not-true _ (c .if3 .taken))
 
 returns-4 : tie.Need-returns-4
 returns-4 c = let a = c .before .before .before .before .before .before .before .before .args in
-    ap (λ r. cond r 0 17) (sym (not-false _ (c .if3 .left))) ∙ check-rows (nextPair (a .rows .now) (a .parents .now) (a .signals) (a .symbols .now)) (a .symbols .now) (a .count) (a .signals) (a .categories) (a .im .now) (c .before .before .before .before .before .before .formed .ensures) (not-false _ (c .before .before .before .before .before .if1 .left)) (c .before .before .before .before .pair .ensures .0) (c .before .before .before .if2 .left) (c .before .before .state-count .ensures .0) (c .before .rows-right .ensures)
+    check-right (nextPair (a .rows .now) (a .parents .now) (a .signals) (a .symbols .now)) (a .symbols .now) (a .count) (a .signals) (a .categories) (a .im .now) (c .before .before .before .before .before .before .formed .ensures) (not-false _ (c .before .before .before .before .before .if1 .left)) (c .before .before .before .before .pair .ensures .0) (c .before .before .before .if2 .left) (c .before .before .state-count .ensures .0) (c .before .rows-right .ensures) (not-false _ (c .if3 .left))
 
 pub check-by-spec : {M : Type 1} → statement M
 check-by-spec =

@@ -5,7 +5,7 @@ use mathlib.Core.Path.{_≡_, refl, sym, ap, _∙_}
 use mathlib.Core.Bool.{true}
 use Rattle.resolution.specs.Lists.{all}
 use Rattle.resolution.proofs.Lists.{all-stop}
-use Rattle.signal_table.specs.Image.{stateCount}
+use Rattle.machine_image.specs.Image.{stateCount}
 use Rattle.signal_table.specs.States.{stateFormedBy}
 use Rattle.signal_table.proofs.ImageLaws.{all-more, all-done}
 use borrow.Author.Needs.{needs}

@@ -4,7 +4,7 @@ use mathlib.Core.Path.{_≡_, refl}
 use mathlib.Core.Bool.{true}
 use lib.ListN.{getD}
 use Rattle.resolution.specs.Lists.{all}
-use Rattle.signal_table.specs.Refusals.{targetBelow}
+use Rattle.machine_image.specs.Refusals.{targetBelow}
 use Rattle.signal_table.proofs.ImageLaws.{all-more, all-done, below-no, below-yes}
 use borrow.Author.Needs.{needs}
 use Rattle.signal_table.proofs.image.targets_below.Statement.{statement}
