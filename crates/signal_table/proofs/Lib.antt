@@ -10,3 +10,4 @@ pub mod SymbolsRight
 pub mod PairsRight
 pub mod BuildRight
 pub mod CheckRight
+pub mod NumberRight
