@@ -51,7 +51,7 @@ module _ (t ca pos len : List ℕ) (n : ℕ) (T : Table) (ni : NodesIn t ca pos 
       let w = number-node ns c d e in
       let h : w .0 < n = omega (arith, w .1, ni .all-nodes) in
       let l : leaf ns c d ≡ childless ps (w .0 + 1) n =
-          ap (λ z. leaf ns (z .cat) (z .path)) (sym (w .3)) ∙ leaf-is t ca pos len n T ni rows ps signals nu (w .0) h in
+      ap (λ z. leaf ns (z .cat) (z .path)) (sym (w .3)) ∙ leaf-is t ca pos len n T ni rows ps signals nu (w .0) h in
       let m : number ns c d ≡ w .0 + 1 = w .2 ∙ sym (add-one (w .0)) in
       ap (λ z. cond (sameParts d u) 0 (cond (eqb z 0) 1 (cond (childless ps z n) 0 1))) m
       ∙ ap (λ z. cond (sameParts d u) 0 (cond z 1 (cond (childless ps (w .0 + 1) n) 0 1))) (ne-eqb (w .0 + 1) 0 (λ z. omega arith))
