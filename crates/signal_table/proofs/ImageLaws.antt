@@ -1,10 +1,10 @@
 -- Laws of reading and checking an image at a turn of a loop, over plain variables.
 use Prim.Native.Nat.{ℕ, zero, suc, _+_, _-_, _*_, _/_, _^_, _≤_, _<_}
 use mathlib.Core.Path.{_≡_, refl, sym, ap, ap₂, _∙_}
-use mathlib.Core.Bool.{Bool, true, false, cond, _&&_}
+use mathlib.Core.Bool.{Bool, true, false, cond, _&&_, true≢false}
 use mathlib.Core.List.{List}
 use lib.Dec.{eqb, ltb, leb}
-use borrow.Author.Tests.{eq-eqb, ne-eqb, lt-ltb, le-ltb, le-leb, lt-leb}
+use borrow.Author.Tests.{eq-eqb, ne-eqb, lt-ltb, le-ltb, le-leb, lt-leb, leb-true}
 use lib.ListN.{length, getD, take, drop}
 use native.Mathlib.Omega.{arith}
 use native.Mathlib.Nat.{mul-le-mul-right}
@@ -147,6 +147,16 @@ module _ (sy : List ℕ) (count signals cats : ℕ) (im : List ℕ) where
               form-states h k =
                   let a : leb (stateCount im) 256 ≡ true = le-leb (stateCount im) 256 (omega arith) in
                   k ∙ sym (rw (le-leb cats 8 h₁, le-leb count 128 h₂, long, fits, same, some, a))
+
+-- an image of right form has at most 128 symbols
+pub form-few : (sy : List ℕ) (count signals cats : ℕ) (im : List ℕ) {b : Bool} → b ≡ formBy sy count signals cats im → b ≡ true → count ≤ 128
+unfolding formBy
+form-few sy count signals cats im e h = go (leb cats 8) refl (leb count 128) refl
+  where
+    go : (x : Bool) → leb cats 8 ≡ x → (y : Bool) → leb count 128 ≡ y → count ≤ 128
+    go x f true g = leb-true count 128 g
+    go true f false g = absurd (true≢false (sym h ∙ e ∙ rw (f, g)))
+    go false f false g = absurd (true≢false (sym h ∙ e ∙ rw f))
 
 -- rows
 module _ (next : ℕ → ℕ → ℕ) (im : List ℕ) (j : ℕ) {i p : ℕ} (e : i ≡ placeOf im j) (f : p ≡ pairIn im j) (k : ℕ) {t q x : ℕ}

@@ -199,7 +199,6 @@ pub fn check_by<'a>(
     count: usize,
     im: &[u8],
 ) -> u8
-    requires { ⌜ count ≤ 128 ⌝ }
     ensures { λ r. ⌜ r ≡ checkBy (nextPair (now (rows .entry)) (now (parents .entry)) signals (now (symbols .entry))) (now (symbols .entry)) count signals categories (now (im .entry)) ⌝ }
 {
     if !formed(symbols, count, signals, categories, im) {

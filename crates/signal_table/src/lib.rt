@@ -1,4 +1,6 @@
 pub mod image;
 mod states;
 pub mod symbols;
-pub mod write;
+mod write;
+
+pub use crate::write::Built;

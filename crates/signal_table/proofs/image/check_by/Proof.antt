@@ -1,3 +1,5 @@
+use native.Mathlib.Omega.{arith}
+use Rattle.signal_table.proofs.ImageLaws.{form-few}
 use borrow.Author.Tests.{not-true, not-false}
 use mathlib.Core.Path.{_≡_, sym, ap, _∙_}
 use mathlib.Core.Bool.{cond}
@@ -23,7 +25,7 @@ state-count-requires : tie.Need-state-count-requires
 state-count-requires c κs = search needs
 
 rows-right-requires : tie.Need-rows-right-requires
-rows-right-requires c κs = search needs
+rows-right-requires c κs = let a = c .before .before .before .before .before .before .args in (form-few (a .symbols .now) (a .count) (a .signals) (a .categories) (a .im .now) (c .before .before .before .before .formed .ensures) (not-false _ (c .before .before .before .if1 .left)), c .state-count .ensures .1)
 
 returns-3 : tie.Need-returns-3
 returns-3 c = let a = c .before .before .before .before .before .before .before .before .args in
