@@ -20,7 +20,7 @@ use Rattle.resolution.proofs.NodeStep.{direct-at-node, symbol-at-node}
 use Rattle.node_step.specs.Step.{bits, coded, stepNumbers}
 use Rattle.node_step.specs.Arrays.{Numbers}
 use Rattle.node_step.proofs.StepRight.{step-right}
-use Rattle.node_step.proofs.UseRight.{deep-anchor}
+use Rattle.resolution.proofs.Deepest.{deepest-node}
 use Rattle.node_step.specs.declared.State.{State}
 
 module _ (rows ps : List ℕ) (n : ℕ) (t : Table) (wf : WellFormed t) (nu : Numbers rows ps n t) (st : direct.State) (g : Valid (envOf t) (t .cats) (nodes t) st) where
@@ -28,7 +28,7 @@ module _ (rows ps : List ℕ) (n : ℕ) (t : Table) (wf : WellFormed t) (nu : Nu
       → stepNumbers rows ps n (coded st) (u .cat) (number (nodes t) (u .cat) (deepest (nodes t) (u .cat) (u .path))) (sameParts (deepest (nodes t) (u .cat) (u .path)) (u .path))
       ≡ coded (step (envOf t) st u)
   step-direct u h =
-      step-right rows ps n t wf nu st g (u .cat) h (deepest (nodes t) (u .cat) (u .path)) (deep-anchor t (u .cat) (u .path)) (sameParts (deepest (nodes t) (u .cat) (u .path)) (u .path))
+      step-right rows ps n t wf nu st g (u .cat) h (deepest (nodes t) (u .cat) (u .path)) (deepest-node (nodes t) (u .cat) (u .path)) (sameParts (deepest (nodes t) (u .cat) (u .path)) (u .path))
       ∙ ap coded (sym (direct-at-node (envOf t) (t .cats) (nodes t) (table-laws t wf) st g u h))
 
   pub step-symbol : (s : Symbol) → s .cat < t .cats → RootOrNode (nodes t) (s .cat) (s .path)

@@ -12,20 +12,18 @@ use lib.Seq.{set-getD, getD-set-same, getD-set-other}
 use native.Mathlib.Omega.{arith}
 use native.Mathlib.Nat.{add-zero, zero-add}
 use Rattle.resolution.specs.Names.{Name, Parts, sameParts, below, longer, candidates}
-use Rattle.resolution.proofs.Names.{parts-exact, row-exact, below-to, below-self, longer-append, snoc-split}
+use Rattle.resolution.proofs.Names.{parts-exact, row-exact, below-to, below-self, snoc-view, candidates-snoc, someBelow, above-none, above-snoc}
 use Rattle.resolution.specs.Table.{Urn, urn, Table, Row, rowFrom, rowOf, sameRow, findFrom, find, WellFormed}
-use Rattle.resolution.proofs.Table.{row-length}
+use Rattle.resolution.proofs.Table.{row-length, find-below}
 use Rattle.resolution.specs.Nodes.{sameUrn, member, nodes, isNode, RootOrNode}
-use Rattle.alert_urn.specs.Text.{someBelow}
-use Rattle.resolution.proofs.Nodes.{urn-exact}
+use Rattle.resolution.proofs.Nodes.{row-nodes}
 use Rattle.resolution.proofs.TableStep.{table-laws}
 use Rattle.resolution.specs.Nodes.{number, nodeAt}
-use Rattle.resolution.proofs.Numbers.{ParentIn, Parents, nodes-ordered, number-node}
-use Rattle.resolution.proofs.Lists.{member-more}
+use Rattle.resolution.proofs.Numbers.{number-node, root-number, number-same, number-test, parent-node}
 use Rattle.resolution.specs.Direct.{Status, Open, Shut, Env, envOf, found, firstHit, openIf}
 use Rattle.resolution.specs.Direct as direct
 use Rattle.resolution.proofs.Direct.{search-hit}
-use Rattle.resolution.proofs.Lists.{getD-set-cases}
+use Rattle.resolution.proofs.Lists.{same-test, getD-set-cases}
 use Rattle.resolution.proofs.Step.{Valid, hit-node}
 use Rattle.resolution.specs.NodeStep.{nodeUnder, nodeTakes, nodeMove, nodeIfTaken, nodeStep}
 use Rattle.node_step.specs.declared.State.{State}
@@ -33,60 +31,7 @@ use Rattle.node_step.specs.declared.Hit.{Hit}
 use Rattle.node_step.specs.Step.{bits, coded, few, isShut, withShut, digit, put, rowAt, parentOf, reaches, findRow, noHit, hitAt, seek, takes, moved, stepNumbers}
 use Rattle.node_step.specs.Arrays.{pack, numbersFrom, Numbers}
 use Rattle.node_step.proofs.PackedLaws.{Bytes, pack-digit, pack-set, pack-same, shutTest, bit-at, bit-set}
-use Rattle.node_step.proofs.NumberLaws.{same-test, root-number, number-same, number-test, numbers-length, numbers-at, numbers-set, numbers-bytes, Anchored, numbers-same, row-anchored, find-below, foundRow, finds}
-
--- a path is the root, or a path with one more part
-pub snoc-view : (r : Parts) → (r ≡ []) ⊎ ((e : Parts) × (x : Name) × (r ≡ e ++ x ∷ []))
-snoc-view [] = inl refl
-snoc-view (y ∷ r) = go (snoc-view r)
-  where
-    go : (r ≡ []) ⊎ ((e : Parts) × (x : Name) × (r ≡ e ++ x ∷ [])) → (y ∷ r ≡ []) ⊎ ((e : Parts) × (x : Name) × (y ∷ r ≡ e ++ x ∷ []))
-    go (inl e) = inr ([], y, ap (λ l. y ∷ l) e)
-    go (inr k) = inr (y ∷ k .0, k .1, ap (λ l. y ∷ l) (k .2))
-
-parents-at : (a l : List Urn) → Parents a l → (k : ℕ) → k < length l → ParentIn (a ++ take k l) (nodeAt l k)
-parents-at a [] ps k h = absurd (omega arith)
-parents-at a (u ∷ l) ps zero h = rw (append-nil a) (ps .0)
-parents-at a (u ∷ l) ps (suc k) h = rw (append-assoc a (u ∷ []) (take k l)) at (parents-at (a ++ u ∷ []) l (ps .1) k (omega arith))
-
--- a node's parent is the root or a node
-pub parent-anchor : (t : Table) (c : ℕ) (p : Parts) (x : Name) → isNode (nodes t) c (p ++ x ∷ []) ≡ true → RootOrNode (nodes t) c p
-parent-anchor t c p x h =
-    let w = number-node (nodes t) c (p ++ x ∷ []) h in
-    go (w .0) ((rw (w .3) at (parents-at [] (nodes t) (nodes-ordered t .parents) (w .0) (w .1))) p x refl)
-  where
-    go : (k : ℕ) → (p ≡ []) ⊎ (member (urn c p) (take k (nodes t)) ≡ true) → RootOrNode (nodes t) c p
-    go k (inl i) = inl i
-    go k (inr i) = inr (rw (take-append-drop k (nodes t)) at (member-more sameUrn urn-exact (urn c p) (take k (nodes t)) (drop k (nodes t)) i))
-
--- q is above d with one more part, if it is not that: it is above d
-below-snoc : (q d : Parts) (x : Name) → (d ++ x ∷ [] ≡ q → ⊥) → someBelow (below q (d ++ x ∷ [])) ≡ someBelow (below q d)
-below-snoc q d x n =
-    same-test (someBelow (below q (d ++ x ∷ []))) (someBelow (below q d)) (λ e. down (below q (d ++ x ∷ [])) refl e) (λ e. up (below q d) refl e)
-  where
-    is : (r u : Parts) → q ++ r ≡ u → someBelow (below q u) ≡ true
-    is r u j = rw (← j, below-self q r)
-
-    down : (o : Option Parts) → below q (d ++ x ∷ []) ≡ o → someBelow o ≡ true → someBelow (below q d) ≡ true
-    down none b e = absurd (false≢true e)
-    down (some []) b e = absurd (n (sym (below-to q (d ++ x ∷ []) [] b) ∙ append-nil q))
-    down (some (y ∷ r)) b e = by (snoc-split q d y x r (below-to q (d ++ x ∷ []) (y ∷ r) b))
-      where
-        by : (q ≡ d) ⊎ ((z : Name) × (f : Parts) × (q ++ z ∷ f ≡ d)) → someBelow (below q d) ≡ true
-        by (inl i) = is [] d (append-nil q ∙ i)
-        by (inr k) = is (k .0 ∷ k .1) d (k .2)
-
-    up : (o : Option Parts) → below q d ≡ o → someBelow o ≡ true → someBelow (below q (d ++ x ∷ [])) ≡ true
-    up none b e = absurd (false≢true e)
-    up (some r) b e = is (r ++ x ∷ []) (d ++ x ∷ []) (sym (append-assoc q r (x ∷ [])) ∙ ap (λ z. z ++ x ∷ []) (below-to q d r b))
-
--- the candidates of a path with one more part
-candidates-snoc : (q e : Parts) (x : Name) → candidates q (e ++ x ∷ []) ≡ (q ++ e ++ x ∷ []) ∷ candidates q e
-candidates-snoc q e x = ap (λ l. l ++ q ∷ []) (longer-append q e (x ∷ []))
-
-no-below : (q : Parts) → ([] ≡ q → ⊥) → someBelow (below q []) ≡ false
-no-below [] n = absurd (n refl)
-no-below (x ∷ q) n = refl
+use Rattle.node_step.proofs.NumberLaws.{numbers-length, numbers-at, numbers-set, numbers-bytes, Anchored, numbers-same, foundRow, finds}
 
 module _ (rows ps : List ℕ) (n : ℕ) (t : Table) (wf : WellFormed t) (nu : Numbers rows ps n t) (c : ℕ) (known : c < t .cats) where
   abbrev num : Parts → ℕ
@@ -102,7 +47,7 @@ module _ (rows ps : List ℕ) (n : ℕ) (t : Table) (wf : WellFormed t) (nu : Nu
         go (inr e) = e
 
     up-anchor : RootOrNode (nodes t) c p
-    up-anchor = parent-anchor t c p x is-node
+    up-anchor = parent-node t c p x is-node
 
     up-number : parentOf ps (num (p ++ x ∷ [])) ≡ num p
     up-number =
@@ -118,7 +63,7 @@ module _ (rows ps : List ℕ) (n : ℕ) (t : Table) (wf : WellFormed t) (nu : Nu
   -- the way up
   module _ (q : Parts) (aq : RootOrNode (nodes t) c q) where
     reach-root : (k : ℕ) → ([] ≡ q → ⊥) → cond (eqb (num []) 0) false (reaches ps (num q) k (parentOf ps (num []))) ≡ someBelow (below q [])
-    reach-root k ne = ap (λ b. cond b false (reaches ps (num q) k (parentOf ps (num [])))) (eq-eqb (num []) 0 (root-number t c)) ∙ sym (no-below q ne)
+    reach-root k ne = ap (λ b. cond b false (reaches ps (num q) k (parentOf ps (num [])))) (eq-eqb (num []) 0 (root-number t c)) ∙ sym (above-none q (λ z. ne (sym z)))
 
     reach-node : (k : ℕ) (e : Parts) (x : Name) → RootOrNode (nodes t) c (e ++ x ∷ []) → (e ++ x ∷ [] ≡ q → ⊥)
         → (RootOrNode (nodes t) c e → reaches ps (num q) k (num e) ≡ someBelow (below q e))
@@ -127,7 +72,7 @@ module _ (rows ps : List ℕ) (n : ℕ) (t : Table) (wf : WellFormed t) (nu : Nu
         ap (λ b. cond b false (reaches ps (num q) k (parentOf ps (num (e ++ x ∷ []))))) (ne-eqb (num (e ++ x ∷ [])) 0 (not-root e x a))
         ∙ ap (reaches ps (num q) k) (up-number e x a)
         ∙ ih (up-anchor e x a)
-        ∙ sym (below-snoc q e x ne)
+        ∙ sym (above-snoc q e x ne)
 
     reach-right : (k : ℕ) (d : Parts) → length d < k → RootOrNode (nodes t) c d → reaches ps (num q) k (num d) ≡ someBelow (below q d)
     unfolding reaches
@@ -166,7 +111,7 @@ module _ (rows ps : List ℕ) (n : ℕ) (t : Table) (wf : WellFormed t) (nu : Nu
     wide = rw (row-length (getD (t .signals) s []) 0 (t .cats)) known
 
     q-anchor : RootOrNode (nodes t) c q
-    q-anchor = rw (zero-add c) at (row-anchored t wf s inside c)
+    q-anchor = row-nodes t s inside c
 
     row-is : rowAt rows s ≡ pack nums
     row-is = let l = nu .few-signals in rw (lt-ltb s 32 (omega arith)) (nu .packed s hs)
@@ -189,7 +134,7 @@ module _ (rows ps : List ℕ) (n : ℕ) (t : Table) (wf : WellFormed t) (nu : Nu
         where
           go : ((k ≡ c) × (getD (set row c p) k [] ≡ p)) ⊎ (getD (set row c p) k [] ≡ getD row k []) → RootOrNode (nodes t) (0 + k) (getD (set row c p) k [])
           go (inl w) = rw (zero-add k, w .1, w .0) ap′
-          go (inr e) = rw e (row-anchored t wf s inside k)
+          go (inr e) = rw (zero-add k, e) (row-nodes t s inside k)
 
       key-is : put (pack nums) c (num p) ≡ pack (numbersFrom (nodes t) 0 (set row c p))
       key-is =
@@ -203,7 +148,7 @@ module _ (rows ps : List ℕ) (n : ℕ) (t : Table) (wf : WellFormed t) (nu : Nu
         where
           agree : (k : ℕ) → k < length (t .signals) → sameRow (rowOf t k) (set row c p) ≡ eqb (getD rows (0 + k) 0) (put (pack nums) c (num p))
           agree k h =
-              row-test (rowOf t k) (set row c p) (row-anchored t wf k h) set-anchored
+              row-test (rowOf t k) (set row c p) (λ i. rw (zero-add i) (row-nodes t k h i)) set-anchored
               (row-length (getD (t .signals) k []) 0 (t .cats) ∙ sym (length-set row c p ∙ row-length (getD (t .signals) s []) 0 (t .cats)))
               ∙ ap₂ eqb (sym (nu .packed k (rw (nu .all-signals) at h)) ∙ ap (λ z. getD rows z 0) (sym (zero-add k))) (sym key-is)
 

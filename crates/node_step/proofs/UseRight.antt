@@ -21,13 +21,11 @@ use Rattle.resolution.specs.Table.{Urn, urn, Table}
 use Rattle.resolution.specs.Nodes.{sameUrn, nodes, isNode, RootOrNode, firstNode, deepest}
 use Rattle.resolution.proofs.Nodes.{urn-exact}
 use Rattle.resolution.specs.Nodes.{number, nodeAt}
-use Rattle.resolution.proofs.Numbers.{number-node, number-at, parent-smaller}
-use Rattle.resolution.proofs.Deepest.{deep-above, deep-most}
+use Rattle.resolution.proofs.Numbers.{number-node, number-at, root-number, ancestor-le}
+use Rattle.resolution.proofs.Deepest.{deep-above, deep-most, deepest-node}
 use Rattle.alert_urn.specs.Text.{upTo, past, fields, someBelow, covers}
 use Rattle.alert_urn.specs.Urn.{alertUrn}
 use Rattle.alert_urn.proofs.Fields.{fields-first, same-fields}
-use Rattle.node_step.proofs.NumberLaws.{same-test, root-number, nodes-full}
-use Rattle.node_step.proofs.StepRight.{snoc-view, parent-anchor}
 use Rattle.node_step.specs.declared.uses.Use.{Use}
 use Rattle.node_step.specs.declared.uses.Use.the-variants.{Skipped, Used}
 use Rattle.node_step.specs.Uses.{usedUrn, useOf, findName, nodeCovers, lastNode, wholeAt, fewer, usedBy, usesOf}
@@ -76,52 +74,7 @@ module _ (t ca pos len : List ℕ) (c : ℕ) (w : List ℕ) where
           rw e′ (last-none n (i + 1) (i + 1) (λ k p q. h k (omega arith) (omega arith)) ∙ omega arith)
       go (no j) ih = ih (cond (test i) (i + 1) best) (omega arith)
 
--- an ancestor has no greater number
-ancestor-le : (tb : Table) (c : ℕ) (k : ℕ) (p r : Parts) → length r < k → RootOrNode (nodes tb) c (p ++ r) → number (nodes tb) c p ≤ number (nodes tb) c (p ++ r)
-ancestor-le tb c zero p r h a = absurd (omega arith)
-ancestor-le tb c (suc k) p r h a = by (snoc-view r) (λ e l b. ancestor-le tb c k p e l b)
-  where
-    step : (q : Parts) (x : Name) → isNode (nodes tb) c (q ++ x ∷ []) ≡ true → number (nodes tb) c q ≤ number (nodes tb) c (q ++ x ∷ [])
-    step q x n =
-        let w = number-node (nodes tb) c (q ++ x ∷ []) n in
-        go (w .2) (rw (w .3) at (parent-smaller tb (w .0) (w .1)) q x refl)
-      where
-        go : {m : ℕ} → number (nodes tb) c (q ++ x ∷ []) ≡ suc m → (q ≡ []) ⊎ (number (nodes tb) c q < suc m) → number (nodes tb) c q ≤ number (nodes tb) c (q ++ x ∷ [])
-        go e (inl i) = omega (arith, ap (number (nodes tb) c) i, root-number tb c)
-        go e (inr i) = omega arith
-
-    by : (r ≡ []) ⊎ ((e : Parts) × (x : Name) × (r ≡ e ++ x ∷ []))
-        → ((e : Parts) → length e < k → RootOrNode (nodes tb) c (p ++ e) → number (nodes tb) c p ≤ number (nodes tb) c (p ++ e))
-        → number (nodes tb) c p ≤ number (nodes tb) c (p ++ r)
-    by (inl i) ih = omega (arith, ap (λ z. number (nodes tb) c z) (ap (λ z. p ++ z) i ∙ append-nil p))
-    by (inr w) ih = on (rw j at a)
-      where
-        j : p ++ r ≡ p ++ w .0 ++ w .1 ∷ []
-        j = ap (λ z. p ++ z) (w .2) ∙ sym (append-assoc p (w .0) (w .1 ∷ []))
-
-        on : RootOrNode (nodes tb) c (p ++ w .0 ++ w .1 ∷ []) → number (nodes tb) c p ≤ number (nodes tb) c (p ++ r)
-        on (inl i) = absurd (omega (arith, length-append (p ++ w .0) (w .1 ∷ []), ap length i))
-        on (inr n) =
-            omega (
-              arith,
-              step (p ++ w .0) (w .1) n,
-              ap (number (nodes tb) c) j,
-              ih (w .0) (omega (arith, length-append (w .0) (w .1 ∷ []), ap length (w .2))) (parent-anchor tb c (p ++ w .0) (w .1) n),
-            )
-
-first-node : (ns : List Urn) (c : ℕ) (ps : List Parts) → (firstNode ns c ps ≡ []) ⊎ (isNode ns c (firstNode ns c ps) ≡ true)
-first-node ns c [] = inl refl
-first-node ns c (p ∷ ps) = go (isNode ns c p) refl (first-node ns c ps)
-  where
-    go : (b : Bool) → isNode ns c p ≡ b → (firstNode ns c ps ≡ []) ⊎ (isNode ns c (firstNode ns c ps) ≡ true)
-        → (firstNode ns c (p ∷ ps) ≡ []) ⊎ (isNode ns c (firstNode ns c (p ∷ ps)) ≡ true)
-    go true e ih = rw e (inr e)
-    go false e ih = rw e ih
-
-pub deep-anchor : (tb : Table) (c : ℕ) (u : Parts) → RootOrNode (nodes tb) c (deepest (nodes tb) c u)
-unfolding deepest
-deep-anchor tb c u = first-node (nodes tb) c (longer [] u)
-
+-- p is u or an ancestor of u, as a test and with a witness
 some-above : (p u : Parts) → someBelow (below p u) ≡ true → Above p u
 some-above p u = go (below p u) refl
   where
@@ -166,8 +119,7 @@ module _ (t : List ℕ) (tb : Table) (ca pos len : List ℕ) (n : ℕ) (ni : Nod
   low k h e =
       let p = passes k h e in
       let a = deep-most ns c (nodeAt ns k .path) u (p .0) (p .1) in
-      let g : RootOrNode (nodes tb) c (nodeAt ns k .path ++ a .rest) = rw (a .joined) (deep-anchor tb c u) in
-      omega (arith, ancestor-le tb c (suc (length (a .rest))) (nodeAt ns k .path) (a .rest) (omega arith) g, ap (number ns c) (a .joined), p .2)
+      omega (arith, ancestor-le tb c (nodeAt ns k .path) d a (deepest-node ns c u), p .2)
 
   quiet : (k : ℕ) → k < n → number ns c d ≤ k → nodeCovers t ca pos len c w k ≡ false
   quiet k h l = go (nodeCovers t ca pos len c w k) refl
@@ -177,7 +129,7 @@ module _ (t : List ℕ) (tb : Table) (ca pos len : List ℕ) (n : ℕ) (ni : Nod
       go true e = absurd (omega (arith, low k h e))
 
   pub node-right : lastNode t ca pos len c w 0 0 n ≡ number ns c d
-  node-right = go (deep-anchor tb c u)
+  node-right = go (deepest-node ns c u)
     where
       go : RootOrNode (nodes tb) c d → lastNode t ca pos len c w 0 0 n ≡ number ns c d
       go (inl e) =
@@ -193,7 +145,7 @@ module _ (t : List ℕ) (tb : Table) (ca pos len : List ℕ) (n : ℕ) (ni : Nod
 
   pub whole-right : wholeAt t pos len w (number ns c d) ≡ sameParts d u
   unfolding wholeAt
-  whole-right = go (deep-anchor tb c u)
+  whole-right = go (deepest-node ns c u)
     where
       go : RootOrNode (nodes tb) c d → cond (eqb (number ns c d) 0) false (sameName (stretch t pos len (number ns c d - 1)) w) ≡ sameParts d u
       go (inl e) = rw (eq-eqb (number ns c d) 0 (ap (number ns c) e ∙ root-number tb c)) (sym (ap (λ z. sameParts z u) e ∙ ap (sameParts []) (fields-first 58 w .1)))

@@ -1,0 +1,122 @@
+-- What the builder writes is the image of the table's machine.
+use Prim.Native.Nat.{ℕ, zero, suc, _+_, _-_, _*_, _/_, _%_, _≤_, _<_}
+use mathlib.Core.Path.{_≡_, refl, sym, ap, ap₂, _∙_}
+use mathlib.Core.Bool.{Bool, true, false, cond}
+use mathlib.Core.List.{List, [], _∷_, _++_, map, append-assoc, append-nil, List·Memᴰ}
+use lib.Dec.{eqb, ltb}
+use borrow.Author.Tests.{ltb-false}
+use lib.ListN.{length, getD, take, replicate, length-map, length-append}
+use lib.Seq.{take-suc, take-all}
+use native.Mathlib.Omega.{arith}
+use Rattle.resolution.specs.Table.{Table, WellFormed}
+use Rattle.resolution.specs.Direct.{start, sameState, StateOf}
+use Rattle.resolution.specs.Direct as direct
+use Rattle.resolution.specs.Symbols.{symbols, stepAt}
+use Rattle.resolution.specs.Discovery.{targets}
+use Rattle.resolution.specs.Machine.{MachineState}
+use Rattle.resolution.specs.Build.{discovered, machineOf}
+use Rattle.resolution.proofs.Lists.{mem-at}
+use Rattle.node_step.specs.Arrays.{Numbers}
+use Rattle.node_step.specs.Step.{bits, coded}
+use Rattle.node_step.specs.declared.State.{State}
+use Rattle.machine_image.specs.Image.{joined, stateBytes, imageOf, machineImage}
+use Rattle.machine_image.specs.Refusals.{buildRefusal, buildLength, bufferOf}
+use Rattle.machine_image.proofs.Build.{own-length}
+use Rattle.signal_table.specs.Built.{refused, accepted, builtOf}
+use Rattle.signal_table.specs.Listed.{SymbolsIn}
+use Rattle.signal_table.specs.States.{ofPair, nextPair, found, rowBytes, rowsBytes, imageBy, sizeBy, builtBy, bufferBy}
+use Rattle.signal_table.specs.declared.write.Built.{Built}
+use Rattle.signal_table.proofs.PairsRight.{code, of-code, found-code, all-found, targets-found}
+
+joined-last : {A : Type 0} (f : A → List ℕ) (l : List A) (x : A) → joined f (l ++ x ∷ []) ≡ joined f l ++ f x
+unfolding joined
+joined-last f [] x = append-nil (f x)
+joined-last f (y ∷ l) x = ap (λ z. f y ++ z) (joined-last f l x) ∙ sym (append-assoc (f y) (joined f l) (f x))
+
+map-take : {A B : Type 0} (f : A → B) (l : List A) (k : ℕ) (d : A) → k < length l → map f (take (suc k) l) ≡ map f (take k l) ++ f (getD l k d) ∷ []
+map-take f [] k d h = absurd (omega arith)
+map-take f (x ∷ l) zero d h = refl
+map-take f (x ∷ l) (suc k) d h = ap (λ z. f x ∷ z) (map-take f l k d (omega arith))
+
+map-at : {A : Type 0} (f : A → ℕ) (l : List A) (k : ℕ) (d : A) → k < length l → getD (map f l) k 0 ≡ f (getD l k d)
+map-at f [] k d h = absurd (omega arith)
+map-at f (x ∷ l) zero d h = refl
+map-at f (x ∷ l) (suc k) d h = map-at f l k d (omega arith)
+
+module _ (T : Table) (wf : WellFormed T) (rows ps : List ℕ) (signals : ℕ) (nu : Numbers rows ps signals T) (sy : List ℕ) (count : ℕ) (si : SymbolsIn T sy count) where
+  abbrev next : ℕ → ℕ → ℕ
+  next = nextPair rows ps signals sy
+
+  abbrev begin : direct.State
+  begin = start (T .cats)
+
+  abbrev states : List direct.State
+  states = discovered T 256
+
+  abbrev made : direct.State → MachineState
+  made st = record { pair = st; row = targets sameState (stepAt T) (length (symbols T)) states st }
+
+  row-right : (st : direct.State) → StateOf T st → rowBytes next count (map code states) (code st) ≡ stateBytes (made st)
+  unfolding rowBytes
+  row-right st g =
+      ap₂ (λ x y. x .signal ∷ x .shut ∷ y) (of-code (T .cats) (nu .few-cats) st (g .sized))
+      (targets-found T wf rows ps signals nu sy count si states st g (all-found T wf rows ps signals nu sy count si 256))
+
+  rows-right : (i : ℕ) → i ≤ length states → rowsBytes next count (map code states) i ≡ joined stateBytes (map made (take i states))
+  unfolding rowsBytes joined
+  rows-right zero h = refl
+  rows-right (suc i) h =
+      ap₂ _++_ (rows-right i (omega arith))
+      (ap (rowBytes next count (map code states)) (map-at code states i begin h)
+      ∙ row-right (getD states i begin) (all-found T wf rows ps signals nu sy count si 256 (getD states i begin) (mem-at states i begin h)))
+      ∙ sym (joined-last stateBytes (map made (take i states)) (made (getD states i begin)))
+      ∙ ap (joined stateBytes) (sym (map-take made states i begin h))
+
+  found-length : length (found next count 256) ≡ length states
+  found-length = ap length (found-code T wf rows ps signals nu sy count si 256) ∙ length-map states code
+
+  pub image-right : imageBy next count sy ≡ machineImage T
+  unfolding imageBy imageOf
+  image-right =
+      ap₂ (λ n r. count ∷ take (3 * count) sy ++ n % 256 ∷ n / 256 ∷ [] ++ r) (found-length ∙ sym (length-map states made))
+      (ap₂ (rowsBytes next count) (found-code T wf rows ps signals nu sy count si 256) found-length
+      ∙ rows-right (length states) (omega arith) ∙ ap (λ z. joined stateBytes (map made z)) (take-all (length states) states (omega arith)))
+      ∙ ap₂ (λ c s. c ∷ s ++ length (map made states) % 256 ∷ length (map made states) / 256 ∷ [] ++ joined stateBytes (map made states)) (sym (si .all-symbols)) (si .held)
+
+  size-right : length states ≤ 256 → sizeBy next count ≡ length (machineImage T)
+  size-right h = ap₂ (λ n c. 3 + 3 * c + n * (c + 2)) found-length (sym (si .all-symbols)) ∙ sym (own-length T wf h)
+
+  pub built-right : (room : ℕ) → builtBy next count room ≡ builtOf T room
+  unfolding builtBy buildRefusal buildLength
+  built-right room =
+      ap (λ n. cond (ltb 256 n) (refused 13) (cond (ltb room (sizeBy next count)) (refused 14) (accepted (sizeBy next count)))) found-length
+      ∙ go (ltb 256 (length states)) refl
+    where
+      by : (b : Bool) (n : ℕ)
+          → cond b (refused 14) (accepted n) ≡ record { refusal = cond b 14 0; len = cond (eqb (cond b 14 0) 0) n 0 }
+      by true n = refl
+      by false n = refl
+
+      go : (b : Bool) → ltb 256 (length states) ≡ b
+          → cond b (refused 13) (cond (ltb room (sizeBy next count)) (refused 14) (accepted (sizeBy next count)))
+          ≡ record {
+            refusal = cond b 13 (cond (ltb room (length (machineImage T))) 14 0);
+            len = cond (eqb (cond b 13 (cond (ltb room (length (machineImage T))) 14 0)) 0) (length (machineImage T)) 0;
+          }
+      go true e = refl
+      go false e =
+          ap (λ n. cond (ltb room n) (refused 14) (accepted n)) (size-right (ltb-false 256 (length states) e))
+          ∙ by (ltb room (length (machineImage T))) (length (machineImage T))
+
+  pub buffer-right : (room : ℕ) → bufferBy next count sy room ≡ bufferOf T room
+  unfolding bufferBy bufferOf buildRefusal
+  buffer-right room =
+      ap (λ b. cond (eqb (b .refusal) 0) (imageBy next count sy ++ replicate (room - sizeBy next count) 0) (replicate room 0)) (built-right room)
+      ∙ go (ltb 256 (length states)) refl (ltb room (length (machineImage T)))
+    where
+      go : (b : Bool) → ltb 256 (length states) ≡ b → (c : Bool)
+          → cond (eqb (cond b 13 (cond c 14 0)) 0) (imageBy next count sy ++ replicate (room - sizeBy next count) 0) (replicate room 0)
+          ≡ cond (eqb (cond b 13 (cond c 14 0)) 0) (machineImage T ++ replicate (room - length (machineImage T)) 0) (replicate room 0)
+      go true e c = refl
+      go false e true = refl
+      go false e false = ap₂ (λ x n. x ++ replicate (room - n) 0) image-right (size-right (ltb-false 256 (length states) e))

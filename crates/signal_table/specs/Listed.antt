@@ -1,0 +1,71 @@
+-- The symbols as the code lists them, from the nodes' categories and parents (node k at k - 1), three bytes for each.
+use Prim.Native.Nat.{ℕ, zero, suc, _+_, _*_, _≤_, min}
+use mathlib.Core.Path.{_≡_}
+use mathlib.Core.Bool.{Bool, true, false, cond, not, _&&_}
+use mathlib.Core.List.{List, [], _∷_, _++_}
+use lib.Dec.{eqb, leb}
+use lib.ListN.{length, getD, take}
+use Rattle.resolution.specs.Table.{Table}
+use Rattle.resolution.specs.Symbols.{symbols}
+use Rattle.machine_image.specs.Image.{storedSymbols}
+
+-- none of the first n nodes has the parent d
+unfoldable pub childless : List ℕ → ℕ → ℕ → Bool
+childless ps d zero = true
+childless ps d (suc n) = childless ps d n && not (eqb (getD ps n 0) d)
+
+abbrev pub triple : ℕ → ℕ → ℕ → List ℕ
+triple c k kind = c ∷ k ∷ kind ∷ []
+
+-- the symbols of the node at i, if it is of category c: itself and, unless it is a leaf, its Other
+unfoldable pub nodeTriples : List ℕ → List ℕ → ℕ → ℕ → ℕ → List ℕ
+nodeTriples ca ps n c i =
+    cond (eqb (getD ca i 0) c) (triple c (i + 1) 0 ++ cond (childless ps (i + 1) n) [] (triple c (i + 1) 1)) []
+
+-- those of the first k nodes
+unfoldable pub nodesTriples : List ℕ → List ℕ → ℕ → ℕ → ℕ → List ℕ
+nodesTriples ca ps n c zero = []
+nodesTriples ca ps n c (suc k) = nodesTriples ca ps n c k ++ nodeTriples ca ps n c k
+
+-- those of category c, its own Other last
+abbrev pub categoryTriples : List ℕ → List ℕ → ℕ → ℕ → List ℕ
+categoryTriples ca ps n c = nodesTriples ca ps n c n ++ triple c 0 1
+
+-- those of the first k categories
+unfoldable pub tripleLists : List ℕ → List ℕ → ℕ → ℕ → List ℕ
+tripleLists ca ps n zero = []
+tripleLists ca ps n (suc c) = tripleLists ca ps n c ++ categoryTriples ca ps n c
+
+-- n, or m if that is less
+abbrev pub fewer : ℕ → ℕ → ℕ
+fewer n m = cond (leb n m) n m
+
+-- an array of 384 bytes holds the first n symbols of a list of symbols' bytes: all of them, or 128
+pub record Listed (bytes : List ℕ) (n : ℕ) (l : List ℕ) : Type 0 where
+  pub wide : length bytes ≡ 384
+  pub counted : 3 * n ≡ min 384 (length l)
+  pub held : take (3 * n) bytes ≡ take 384 l
+
+-- what an array must hold to stand for a table's symbols
+pub record SymbolsIn (T : Table) (sy : List ℕ) (count : ℕ) : Type 0 where
+  pub wide : length sy ≡ 384
+  pub all-symbols : length (symbols T) ≡ count
+  pub few-symbols : count ≤ 128
+  pub held : take (3 * count) sy ≡ storedSymbols T
+
+-- symbol k is c, d and kind
+unfoldable pub isTriple : List ℕ → ℕ → ℕ → ℕ → ℕ → Bool
+isTriple sy c d kind k = eqb (getD sy (3 * k) 0) c && (eqb (getD sy (3 * k + 1) 0) d && eqb (getD sy (3 * k + 2) 0) kind)
+
+-- the first of the n symbols from k on that is c, d and kind, or k + n
+unfoldable pub tripleIndex : List ℕ → ℕ → ℕ → ℕ → ℕ → ℕ → ℕ
+tripleIndex sy c d kind k zero = k
+tripleIndex sy c d kind k (suc n) = cond (isTriple sy c d kind k) k (tripleIndex sy c d kind (k + 1) n)
+
+-- the kind of the symbol of a URN under node d: 0 if it is d itself or d is a leaf, else 1; the root is no leaf
+unfoldable pub kindFor : List ℕ → ℕ → ℕ → Bool → ℕ
+kindFor ps n d whole = cond whole 0 (cond (eqb d 0) 1 (cond (childless ps d n) 0 1))
+
+-- the number of that symbol, of category c
+unfoldable pub symbolNumber : List ℕ → ℕ → List ℕ → ℕ → ℕ → ℕ → Bool → ℕ
+symbolNumber sy count ps n c d whole = tripleIndex sy c d (kindFor ps (fewer n 64) d whole) 0 (fewer count 128)

@@ -1,0 +1,132 @@
+-- Discovery as the code does it: a state is one number, and the rows are written as the states are found.
+use Prim.Native.Nat.{ℕ, zero, suc, _+_, _*_, _/_, _%_, _≤_, _<_}
+use mathlib.Core.Path.{_≡_}
+use mathlib.Core.Bool.{Bool, cond, _&&_}
+use mathlib.Core.List.{List, [], _∷_, _++_}
+use lib.Dec.{eqb, ltb}
+use lib.ListN.{length, getD, take, drop, replicate}
+use Rattle.resolution.specs.Lists.{all}
+use Rattle.resolution.specs.Discovery.{expand, discover, targets}
+use Rattle.node_step.specs.Step.{stepNumbers}
+use Rattle.node_step.specs.declared.State.{State}
+use Rattle.machine_image.specs.Image.{symbolCount, stateCount, placeOf, signalIn, shutIn, targetIn}
+use Rattle.machine_image.specs.Refusals.{targetBelow}
+use Rattle.signal_table.specs.Built.{refused, accepted}
+use Rattle.signal_table.specs.declared.write.Built.{Built}
+use Rattle.resolution.specs.Names.{sameName}
+use lib.Dec.{leb}
+use Prim.Native.Nat.{_^_, _-_}
+
+-- a state as one number: 256 times its signal, plus its shut set
+abbrev pub pairOf : State → ℕ
+pairOf st = st .signal * 256 + st .shut
+
+abbrev pub ofPair : ℕ → State
+ofPair p = record { signal = p / 256; shut = p % 256 }
+
+-- the state after symbol k of those in sy
+unfoldable pub nextPair : List ℕ → List ℕ → ℕ → List ℕ → ℕ → ℕ → ℕ
+nextPair rows ps n sy p k =
+    pairOf (stepNumbers rows ps n (ofPair p) (getD sy (3 * k) 0) (getD sy (3 * k + 1) 0) (eqb (getD sy (3 * k + 2) 0) 0))
+
+-- the number of the state p among the n in the array, by the index, or 256
+unfoldable pub numberIn : List ℕ → List ℕ → ℕ → ℕ → ℕ
+numberIn states index n p = cond (ltb (getD index p 0) n) (cond (eqb (getD states (getD index p 0) 0) p) (getD index p 0) 256) 256
+
+-- the n states of a list, and the number of each at its place in the index
+pub record Kept (states index : List ℕ) (n : ℕ) (l : List ℕ) : Type 0 where
+  pub wide : (length states ≡ 256) × (length index ≡ 8192)
+  pub all-kept : length l ≡ n
+  pub few : n ≤ 256
+  pub held : (i : ℕ) → i < n → getD states i 0 ≡ getD l i 0
+  pub small : (i : ℕ) → i < n → getD l i 0 < 8192
+  pub indexed : (i : ℕ) → i < n → getD index (getD l i 0) 0 ≡ i
+
+-- n, or one more if j is n
+abbrev pub longer : ℕ → ℕ → ℕ
+longer n j = cond (eqb j n) (n + 1) n
+
+module _ (next : ℕ → ℕ → ℕ) (count : ℕ) where
+  -- the states found after i turns
+  abbrev pub found : ℕ → List ℕ
+  found i = discover eqb next count 0 i
+
+  -- the bytes of state p, its targets being numbered by the list l
+  unfoldable pub rowBytes : List ℕ → ℕ → List ℕ
+  rowBytes l p = p / 256 ∷ p % 256 ∷ targets eqb next count l p
+
+  -- those of the first i states of l
+  unfoldable pub rowsBytes : List ℕ → ℕ → List ℕ
+  rowsBytes l zero = []
+  rowsBytes l (suc i) = rowsBytes l i ++ rowBytes l (getD l i 0)
+
+  -- a turn of state p over the list l: r states after it, its row in a part with that room; 257 if there are over 256
+  pub record Turned (l : List ℕ) (p room : ℕ) (row′ states′ index′ : List ℕ) (r : ℕ) : Type 0 where
+    pub kept : r ≤ 256 → Kept states′ index′ r (expand eqb next p count l)
+    pub over : 256 < r → 256 < length (expand eqb next p count l)
+    pub written : r ≤ 256 → room ≡ count + 2 → row′ ≡ rowBytes (expand eqb next p count l) p
+
+  -- the same with the row's stretch at a of the part, if that lies in it
+  pub record TurnedAt (l : List ℕ) (p a : ℕ) (part part′ states′ index′ : List ℕ) (r : ℕ) : Type 0 where
+    pub same-length : length part′ ≡ length part
+    pub kept : r ≤ 256 → Kept states′ index′ r (expand eqb next p count l)
+    pub over : 256 < r → 256 < length (expand eqb next p count l)
+    pub written : r ≤ 256 → a + count + 2 ≤ length part → take (a + count + 2) part′ ≡ take a part ++ rowBytes (expand eqb next p count l) p
+
+  -- all turns: r states, their rows at the front of the part, if it has room for them
+  pub record Discovered (part part′ : List ℕ) (r : ℕ) : Type 0 where
+    pub same-length : length part′ ≡ length part
+    pub few : r ≤ 256 → r ≡ length (found 256)
+    pub over : 256 < r → 256 < length (found 256)
+    pub rows : r ≤ 256 → r * (count + 2) ≤ length part → take (r * (count + 2)) part′ ≡ rowsBytes (found 256) r
+
+  -- the image of the states found
+  unfoldable pub imageBy : List ℕ → List ℕ
+  imageBy sy =
+      count ∷ take (3 * count) sy ++ length (found 256) % 256 ∷ length (found 256) / 256 ∷ [] ++ rowsBytes (found 256) (length (found 256))
+
+  abbrev pub sizeBy : ℕ
+  sizeBy = 3 + 3 * count + length (found 256) * (count + 2)
+
+  unfoldable pub builtBy : ℕ → Built
+  builtBy room =
+      cond (ltb 256 (length (found 256))) (refused 13)
+      (cond (ltb room sizeBy) (refused 14)
+      (accepted sizeBy))
+
+  unfoldable pub bufferBy : List ℕ → ℕ → List ℕ
+  bufferBy sy room = cond (eqb (builtBy room .refusal) 0) (imageBy sy ++ replicate (room - sizeBy) 0) (replicate room 0)
+
+-- Checking, over the arrays.
+
+abbrev pub pairIn : List ℕ → ℕ → ℕ
+pairIn im j = signalIn im j * 256 + shutIn im j
+
+unfoldable pub stateFormedBy : ℕ → ℕ → List ℕ → ℕ → Bool
+stateFormedBy signals cats im j =
+    ltb (signalIn im j) signals
+    && (eqb (shutIn im j / 2 ^ cats) 0
+    && all (symbolCount im) (targetBelow im j))
+
+unfoldable pub formBy : List ℕ → ℕ → ℕ → ℕ → List ℕ → Bool
+formBy sy count signals cats im =
+    leb cats 8
+    && (leb count 128
+    && (leb (3 + 3 * symbolCount im) (length im)
+    && (eqb (length im) (placeOf im (stateCount im))
+    && (sameName (take (3 * symbolCount im) (drop 1 im)) (take (3 * count) (drop 0 sy))
+    && (leb 1 (stateCount im)
+    && (leb (stateCount im) 256
+    && all (stateCount im) (stateFormedBy signals cats im)))))))
+
+unfoldable pub targetRightBy : (ℕ → ℕ → ℕ) → List ℕ → ℕ → ℕ → Bool
+targetRightBy next im j k = eqb (pairIn im (targetIn im j k)) (next (pairIn im j) k)
+
+unfoldable pub rowRightBy : (ℕ → ℕ → ℕ) → ℕ → List ℕ → ℕ → Bool
+rowRightBy next count im j = all count (targetRightBy next im j)
+
+unfoldable pub checkBy : (ℕ → ℕ → ℕ) → List ℕ → ℕ → ℕ → ℕ → List ℕ → ℕ
+checkBy next sy count signals cats im =
+    cond (formBy sy count signals cats im)
+    (cond (eqb (pairIn im 0) 0)
+    (cond (all (stateCount im) (rowRightBy next count im)) 0 17) 16) 15

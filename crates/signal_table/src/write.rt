@@ -1,0 +1,91 @@
+// The image of a table's machine, written to a lent buffer.
+ghost use mathlib.Core.Path.{_≡_};
+ghost use mathlib.Core.List.{[], _∷_, _++_};
+ghost use Prim.Native.Nat.{_+_, _*_, _/_, _%_, _≤_};
+ghost use lib.ListN.{length, take, replicate};
+ghost use Rattle.signal_table.specs.Built.{refused};
+ghost use Rattle.signal_table.specs.States.{nextPair, builtBy, bufferBy};
+
+// What a build answers: its refusal number, and the image's length, 0 if refused.
+pub struct Built {
+    pub refusal: u8,
+    pub len: usize,
+}
+
+fn clear(part: &mut [u8])
+    ensures { λ _. ⌜ now (part .exit) ≡ replicate (length (now (part .entry))) 0 ⌝ }
+{
+    let mut i = 0;
+    while i < part.len() {
+        part[i] = 0;
+        i += 1;
+    }
+}
+
+// The buffer all zero, and the number.
+pub fn refuse(buf: &mut [u8], refusal: u8) -> Built
+    ensures { λ r. ⌜ r ≡ refused refusal ⌝ }
+    ensures { λ _. ⌜ now (buf .exit) ≡ replicate (length (now (buf .entry))) 0 ⌝ }
+{
+    clear(buf);
+    Built { refusal, len: 0 }
+}
+
+// The symbol count, the symbols and the state count.
+fn put_head(symbols: &[u8; 384], count: usize, n: usize, head: &mut [u8])
+    requires { ⌜ (count ≤ 128) × (n ≤ 256) × (length (now head) ≡ 3 + 3 * count) × (length (now symbols) ≡ 384) ⌝ }
+    ensures { λ _. ⌜ now (head .exit) ≡ count ∷ take (3 * count) (now (symbols .entry)) ++ n % 256 ∷ n / 256 ∷ [] ⌝ }
+{
+    head[0] = count as u8;
+    let end = 3 * count;
+    let mut j = 0;
+    while j < end {
+        head[1 + j] = symbols[j];
+        j += 1;
+    }
+    head[1 + end] = (n % 256) as u8;
+    head[2 + end] = (n / 256) as u8;
+}
+
+// n, or m if that is less.
+fn at_most(n: usize, m: usize) -> usize
+    ensures { λ r. ⌜ (r ≤ m) × (n ≤ m → r ≡ n) ⌝ }
+{
+    if n <= m {
+        return n;
+    }
+    m
+}
+
+// The machine of a table whose places, parents and symbols these are.
+pub fn build_by<'a>(
+    rows: &'a [u64; 32],
+    parents: &'a [u8; 64],
+    signals: usize,
+    symbols: &[u8; 384],
+    count: usize,
+    buf: &mut [u8],
+) -> Built
+    requires { ⌜ (count ≤ 128) × (length (now symbols) ≡ 384) ⌝ }
+    ensures { λ r. ⌜ r ≡ builtBy (nextPair (now (rows .entry)) (now (parents .entry)) signals (now (symbols .entry))) count (length (now (buf .entry))) ⌝ }
+    ensures { λ _. ⌜ now (buf .exit) ≡ bufferBy (nextPair (now (rows .entry)) (now (parents .entry)) signals (now (symbols .entry))) count (now (symbols .entry)) (length (now (buf .entry))) ⌝ }
+{
+    let head = 3 + 3 * count;
+    let room = buf.len();
+    let from = at_most(head, room);
+    let n = crate::states::discover(rows, parents, signals, symbols, count, &mut buf[from..room]);
+    if 256 < n {
+        return refuse(buf, 13);
+    }
+    let size = head + n * (count + 2);
+    if room < size {
+        return refuse(buf, 14);
+    }
+    let z = 0;
+    put_head(symbols, count, n, &mut buf[z..head]);
+    clear(&mut buf[size..room]);
+    Built {
+        refusal: 0,
+        len: size,
+    }
+}
