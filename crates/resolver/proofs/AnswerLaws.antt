@@ -1,0 +1,142 @@
+-- The answer at the end of a value is the one over the value's list.
+use Prim.Native.Nat.{ℕ, _+_, _≤_, _<_}
+use mathlib.Core.Path.{_≡_, refl, sym, ap, ap₂, _∙_}
+use mathlib.Core.Bool.{Bool, true, false, cond}
+use mathlib.Core.Option.{Option, none, some}
+use mathlib.Core.List.{List, [], _∷_, map, foldl}
+use lib.ListN.{length, length-map}
+use lib.Dec.{eqb, ltb}
+use borrow.Author.Tests.{lt-ltb, le-ltb, eq-eqb, ne-eqb, ltb-true, ltb-false, eqb-true, eqb-false}
+use native.Mathlib.Omega.{arith}
+use Rattle.alert_info.specs.Value.{Reading, unfit, spans, readingFrom, readingOf, partOf, refusalOf, urisOf}
+use Rattle.alert_info.specs.declared.alert_param.Span.{Span}
+use Rattle.alert_info.proofs.ReadingLaws.{reading-start, refusal-unfit, refusal-many, refusal-none, accepted-uris}
+use Rattle.alert_urn.proofs.Fields.{byTest}
+use Rattle.resolution.specs.Table.{Urn, Table}
+use Rattle.resolution.specs.Direct.{usedOf, usedCount, skippedCount}
+use Rattle.stored_table.specs.Tables.{tableRefusal}
+use Rattle.stored_table.specs.Decoded.{Holds}
+use Rattle.stored_table.specs.declared.Decoded.{Decoded}
+use Rattle.resolver.specs.declared.Resolution.{Resolution}
+use Rattle.resolver.specs.declared.run.Current.{Current}
+use Rattle.resolver.specs.declared.run.Progress.{Progress}
+use Rattle.resolver.specs.declared.run.Outcome.{Outcome}
+use Rattle.resolver.specs.Resolve.{takenAs, refused, answered, unlessRefused}
+use Rattle.resolver.specs.Run.{Machine, after, over, runOf, runFrom, signalNow, answerOf, begin, resolvedFrom}
+use Rattle.resolver.proofs.FoldLaws.{Steps, run-fold}
+
+-- a list's used and skipped members are all its members
+pub counts-all : (l : List (Option Urn)) → usedCount l + skippedCount l ≡ length l
+counts-all [] = refl
+counts-all (none ∷ l) = omega (arith, counts-all l)
+counts-all (some u ∷ l) = omega (arith, counts-all l)
+
+-- a refused value is answered with its number
+pub value-refused : (t v : List ℕ) (r : Resolution) {k : ℕ} → refusalOf v ≡ k → 0 < k → refused k ≡ unlessRefused t v r
+value-refused t v r {k} e h =
+    let n : eqb (refusalOf v) 0 ≡ false = ne-eqb (refusalOf v) 0 (λ z. omega arith) in
+    ap refused (sym e) ∙ sym (ap (λ b. cond b (cond (eqb (tableRefusal t) 0) r (refused (tableRefusal t))) (refused (refusalOf v))) n)
+
+-- where neither is refused, the answer is given
+pub none-refused : (t v : List ℕ) (r : Resolution) → refusalOf v ≡ 0 → tableRefusal t ≡ 0 → r ≡ unlessRefused t v r
+none-refused t v r e h = simp (eq-eqb (refusalOf v) 0 e, eq-eqb (tableRefusal t) 0 h)
+
+-- a refused table is answered with its number where the value is accepted
+pub table-refused : (t v : List ℕ) (r : Resolution) → refusalOf v ≡ 0 → (tableRefusal t ≡ 0 → ⊥) → refused (tableRefusal t) ≡ unlessRefused t v r
+table-refused t v r e h = simp (eq-eqb (refusalOf v) 0 e, ne-eqb (tableRefusal t) 0 h)
+
+-- the answer at a value's end, by its tests
+module _ (o : Outcome) (s : ℕ) where
+  pub answer-unfit : o .fits ≡ false → refused 2 ≡ answerOf o s
+  unfolding answerOf
+  answer-unfit e = simp e
+
+  module _ (fits : o .fits ≡ true) where
+    pub answer-many : 64 < o .progress .used + o .progress .skipped → refused 3 ≡ answerOf o s
+    unfolding answerOf
+    answer-many h = simp (fits, lt-ltb 64 (o .progress .used + o .progress .skipped) h)
+
+    pub answer-given : o .progress .used + o .progress .skipped ≤ 64
+        → record { refusal = 0; signal = s; used = o .progress .used; skipped = o .progress .skipped } ≡ answerOf o s
+    unfolding answerOf
+    answer-given h = simp (fits, le-ltb 64 (o .progress .used + o .progress .skipped) h)
+
+-- a refused table's answer: the value's number comes first
+pub refused-first : (t v : List ℕ) (r : Resolution) {k : ℕ} → k ≡ tableRefusal t → (k ≡ 0 → ⊥)
+    → refused (cond (eqb (refusalOf v) 0) k (refusalOf v)) ≡ unlessRefused t v r
+refused-first t v r {k} e n =
+    byTest (eqb (refusalOf v) 0)
+    (λ q. ap (λ b. refused (cond b k (refusalOf v))) q ∙ ap refused e ∙ table-refused t v r (eqb-true (refusalOf v) 0 q) (λ z. n (e ∙ z)))
+    (λ q. ap (λ b. refused (cond b k (refusalOf v))) q ∙ value-refused t v r refl (pos-of-ne (eqb-false (refusalOf v) 0 q)))
+  where
+    pos-of-ne : {n : ℕ} → (n ≡ 0 → ⊥) → 0 < n
+    pos-of-ne {n} h = omega arith
+
+module _ (t : List ℕ) (T : Table) (d : Decoded) (h : Holds t T d) (m : Machine) (v : List ℕ) (short : length v ≤ 4096) (formed : tableRefusal t ≡ 0)
+    {S : Type 0} (valid : S → Type 0) (f : S → Urn → S) (shown : S → Current) (steps : Steps t T d h m valid f shown) (s : S) (ok : valid s)
+    (signalOf : S → ℕ) (tells : (s : S) → signalNow (m .image) (shown s) ≡ signalOf s) where
+  abbrev given : List (List ℕ) → List Urn
+  given uris = usedOf (takenAs t uris)
+
+  abbrev wanted : Resolution
+  wanted = answered t (urisOf v) (signalOf (foldl f s (given (urisOf v))))
+
+  abbrev ended : Outcome → Resolution
+  ended o = answerOf o (signalNow (m .image) (o .progress .current))
+
+  -- the answer over a reading of the value
+  by-reading : (r : Reading) → readingOf v ≡ r → ended (runOf (begin (shown s)) (over v (after t d m) (begin (shown s)) r)) ≡ unlessRefused t v wanted
+  unfolding over answerOf
+  by-reading unfit e = value-refused t v wanted (refusal-unfit v short unfit e refl) (omega arith)
+  by-reading (spans ps) e = ap (λ p. ended (record { fits = true; progress = p })) (run-fold t T d h m valid f shown steps uris s 0 0 ok ∙ from-zero) ∙ counted
+    where
+      uris : List (List ℕ)
+      uris = map (partOf v) ps
+
+      used : ℕ
+      used = usedCount (takenAs t uris)
+
+      skipped : ℕ
+      skipped = skippedCount (takenAs t uris)
+
+      all : used + skipped ≡ length ps
+      all = counts-all (takenAs t uris) ∙ length-map uris _ ∙ length-map ps (partOf v)
+
+      last : Progress
+      last = record { current = shown (foldl f s (given uris)); used = used; skipped = skipped }
+
+      from-zero : record { current = last .current; used = 0 + used; skipped = 0 + skipped } ≡ last
+      from-zero =
+          let a : 0 + used ≡ used = omega arith in
+          let b : 0 + skipped ≡ skipped = omega arith in
+          ap₂ (λ (x y : ℕ). record { current = last .current; used = x; skipped = y }) a b
+
+      many : 64 < length ps → ended (record { fits = true; progress = last }) ≡ unlessRefused t v wanted
+      many k =
+          ap (λ b. cond b (refused 3) (record { refusal = 0; signal = signalNow (m .image) (last .current); used = used; skipped = skipped }))
+          (lt-ltb 64 (used + skipped) (omega (arith, all)))
+          ∙ value-refused t v wanted (refusal-many v short (spans ps) e ps refl k) (omega arith)
+
+      same : urisOf v ≡ uris → length ps ≤ 64 → ended (record { fits = true; progress = last }) ≡ unlessRefused t v wanted
+      same u k =
+          ap (λ b. cond b (refused 3) (record { refusal = 0; signal = signalNow (m .image) (last .current); used = used; skipped = skipped }))
+          (le-ltb 64 (used + skipped) (omega (arith, all)))
+          ∙ ap (λ n. record { refusal = 0; signal = n; used = used; skipped = skipped }) (tells (foldl f s (given uris)))
+          ∙ ap (λ l. answered t l (signalOf (foldl f s (given l)))) (sym u)
+          ∙ none-refused t v wanted (refusal-none v short (spans ps) e ps refl k) formed
+
+      counted : ended (record { fits = true; progress = last }) ≡ unlessRefused t v wanted
+      counted =
+          byTest (ltb 64 (length ps)) (λ q. many (ltb-true 64 (length ps) q))
+          (λ q. let k : length ps ≤ 64 = ltb-false 64 (length ps) q in same (accepted-uris v short (spans ps) e ps refl k) k)
+
+  -- the whole value
+  pub resolved-right : resolvedFrom t d m (shown s) v ≡ unlessRefused t v wanted
+  unfolding resolvedFrom runFrom
+  resolved-right = by-reading (readingFrom v 0) (reading-start v)
+
+-- the answer of a run, its signal and its numbers put together
+pub resolved-steps : (t : List ℕ) (d : Decoded) (m : Machine) (x : Current) (v : List ℕ) {o : Outcome} {s : ℕ} {r : Resolution}
+    → o ≡ runFrom t d m v (begin x) 0 → s ≡ signalNow (m .image) (o .progress .current) → r ≡ answerOf o s → r ≡ resolvedFrom t d m x v
+unfolding resolvedFrom
+resolved-steps t d m x v e f g = g ∙ ap (answerOf _) f ∙ ap (λ (o : Outcome). answerOf o (signalNow (m .image) (o .progress .current))) e

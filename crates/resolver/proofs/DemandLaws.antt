@@ -1,0 +1,159 @@
+-- The demands hold.
+use Prim.Native.Nat.{ℕ, zero, suc, _+_, _-_, _≤_, _<_}
+use mathlib.Core.Path.{_≡_, refl, sym, ap, ap₂, _∙_, subst}
+use mathlib.Core.Bool.{Bool, true, false, cond}
+use mathlib.Core.Option.{Option, none, some}
+use mathlib.Core.List.{List, [], _∷_, _++_, map, foldl, List·Memᴰ, List·Memᴰ·not-nil, List·Memᴰ·cases-cons}
+use mathlib.Core.Logic.{_⊎_, inl, inr}
+use lib.Dec.{eqb}
+use lib.ListN.{length, take, replicate}
+use lib.Seq.{take-at}
+use borrow.Author.Tests.{eq-eqb, ne-eqb, eqb-true, eqb-false}
+use native.Mathlib.Omega.{arith}
+use Rattle.alert_info.specs.Value.{refusalOf, urisOf}
+use Rattle.alert_urn.proofs.Fields.{byTest}
+use Rattle.resolution.specs.Names.{Name}
+use Rattle.resolution.specs.Table.{Urn, Table, WellFormed, mostParts}
+use Rattle.resolution.specs.Direct.{Used, AllUsed, usedOf, stepUri, changed, changes}
+use Rattle.resolution.specs.Build.{ReachableOver}
+use Rattle.node_step.specs.Uses.{usedUrn}
+use Rattle.machine_image.specs.Image.{signalIn, machineImage}
+use Rattle.machine_image.specs.Refusals.{buildRefusal, buildLength}
+use Rattle.machine_image.specs.Refusals as image
+use Rattle.machine_image.specs.Walk.{stepIn, walkSignal}
+use Rattle.machine_image.specs.Claim.{ImageClaim}
+use Rattle.machine_image.proofs.Build.{few-found, reachable-accepted, build-fits}
+use Rattle.machine_image.proofs.Check.{check-to}
+use Rattle.machine_image.proofs.Walk.{image-claim}
+use Rattle.stored_table.specs.Tables.{tableRefusal, tableOf, categoryNames}
+use Rattle.stored_table.proofs.Accepting.{accepted}
+use Rattle.signal_table.specs.Tables.{builtOf, bufferOf, checkOf}
+use Rattle.resolver.specs.declared.Resolution.{Resolution}
+use Rattle.resolver.specs.Resolve.{takenAs, directSignal, walkedSignal, refused, answered, unlessRefused, plainOf, machineOf}
+use Rattle.resolver.specs.Demands.{Demand1, WalkClaim, Demand3, DemandOne, DemandThree}
+use Rattle.resolver.proofs.TableLaws.{names-count}
+use Rattle.resolver.proofs.FoldLaws.{used-urn}
+
+-- an answer that is refused is refused as a whole, where the answer within is
+by-number : (t v : List ℕ) (r : Resolution) → ((r .refusal ≡ 0 → ⊥) → r ≡ refused (r .refusal))
+    → (unlessRefused t v r .refusal ≡ 0 → ⊥) → unlessRefused t v r ≡ refused (unlessRefused t v r .refusal)
+by-number t v r h = go (eqb (refusalOf v) 0) (eqb (tableRefusal t) 0)
+  where
+    go : (a b : Bool) → (cond a (cond b r (refused (tableRefusal t))) (refused (refusalOf v)) .refusal ≡ 0 → ⊥)
+        → cond a (cond b r (refused (tableRefusal t))) (refused (refusalOf v)) ≡ refused (cond a (cond b r (refused (tableRefusal t))) (refused (refusalOf v)) .refusal)
+    go true true n = h n
+    go true false n = refl
+    go false b n = refl
+
+plain-refused : (t v : List ℕ) → (plainOf t v .refusal ≡ 0 → ⊥) → plainOf t v ≡ refused (plainOf t v .refusal)
+unfolding plainOf
+plain-refused t v = by-number t v _ (λ n. absurd (n refl))
+
+machine-refused : (t im v : List ℕ) → (machineOf t im v .refusal ≡ 0 → ⊥) → machineOf t im v ≡ refused (machineOf t im v .refusal)
+unfolding machineOf
+machine-refused t im v = by-number t v _ (go (image.formOf (tableOf t) im))
+  where
+    given : Resolution
+    given = answered t (urisOf v) (walkedSignal t im (urisOf v))
+
+    go : (b : Bool) → (cond b given (refused 15) .refusal ≡ 0 → ⊥) → cond b given (refused 15) ≡ refused (cond b given (refused 15) .refusal)
+    go true n = absurd (n refl)
+    go false n = refl
+
+build-refused : (t : List ℕ) (room : ℕ) → (builtOf t room .refusal ≡ 0 → ⊥) → (builtOf t room .len ≡ 0) × (bufferOf t room ≡ replicate room 0)
+unfolding builtOf bufferOf buildLength image.bufferOf
+build-refused t room = go (eqb (tableRefusal t) 0)
+  where
+    T : Table
+    T = tableOf t
+
+    go : (b : Bool) → (cond b (buildRefusal T room) (tableRefusal t) ≡ 0 → ⊥)
+        → (cond b (buildLength T room) 0 ≡ 0) × (cond b (image.bufferOf T room) (replicate room 0) ≡ replicate room 0)
+    go true n = let z : eqb (buildRefusal T room) 0 ≡ false = ne-eqb (buildRefusal T room) 0 n in (simp z, simp z)
+    go false n = (refl, refl)
+
+pub demand-one : DemandOne
+demand-one t = record { plain-refused = plain-refused t; machine-refused = machine-refused t; build-refused = build-refused t }
+
+-- a list of URIs cut in two
+taken-append : (t : List ℕ) (a b : List (List ℕ)) → takenAs t (a ++ b) ≡ takenAs t a ++ takenAs t b
+taken-append t [] b = refl
+taken-append t (x ∷ a) b = ap (λ l. usedUrn (categoryNames t) x ∷ l) (taken-append t a b)
+
+-- the used ones of every list are of the table
+taken-used : (t : List ℕ) → length (categoryNames t) ≡ tableOf t .cats → (l : List (List ℕ)) → AllUsed (tableOf t) (takenAs t l)
+taken-used t e [] u m = absurd (List·Memᴰ·not-nil m)
+taken-used t e (x ∷ l) u m = go (usedUrn (categoryNames t) x) refl m (taken-used t e l u)
+  where
+    go : (o : Option Urn) → usedUrn (categoryNames t) x ≡ o → List·Memᴰ u (usedOf (o ∷ takenAs t l)) → (List·Memᴰ u (usedOf (takenAs t l)) → Used (tableOf t) u) → Used (tableOf t) u
+    go none q k ih = ih k
+    go (some w) q k ih = here (List·Memᴰ·cases-cons k)
+      where
+        own : Used (tableOf t) w
+        own = let f = used-urn (categoryNames t) x w q in record { known = omega (arith, f .0, e); some-part = f .1 }
+
+        here : (u ≡ w) ⊎ List·Memᴰ u (usedOf (takenAs t l)) → Used (tableOf t) u
+        here (inl z) = subst (Used (tableOf t)) (sym z) own
+        here (inr j) = ih j
+
+-- changes over a list whose members are seen through a function
+changes-map : {S A B : Type 0} (signalOf : S → ℕ) (next : S → B → S) (g : A → B) (s : S) (l : List A)
+    → changes signalOf next s (map g l) ≡ changes signalOf (λ x a. next x (g a)) s l
+changes-map signalOf next g s [] = refl
+changes-map signalOf next g s (a ∷ l) = ap (λ n. changed (eqb (signalOf (next s (g a))) (signalOf s)) + n) (changes-map signalOf next g (next s (g a)) l)
+
+module _ (t : List ℕ) (ok : tableRefusal t ≡ 0) where
+  check-image : (im : List ℕ) → checkOf t im ≡ image.checkOf (tableOf t) im
+  unfolding checkOf
+  check-image im = simp (eq-eqb (tableRefusal t) 0 ok)
+
+  walk-claim : (im : List ℕ) → checkOf t im ≡ 0 → (before after : List (List ℕ)) → WalkClaim t im before after
+  walk-claim im e before after =
+      record {
+        agrees = c .agrees;
+        only-given = c .only-given;
+        still-says = λ k p s. rw (taken-append t before after) (c .still-says k p s);
+        few-changes = rw (
+          ← changes-map (signalIn im) (stepUri (stepIn (tableOf t) im)) (usedUrn (categoryNames t)) 0 (before ++ after),
+          taken-append t before after,
+        )
+            (c .few-changes);
+      }
+    where
+      used : AllUsed (tableOf t) (takenAs t before ++ takenAs t after)
+      used = subst (AllUsed (tableOf t)) (taken-append t before after) (taken-used t (names-count t) (before ++ after))
+
+      c : ImageClaim (tableOf t) im (takenAs t before) (takenAs t after)
+      c = image-claim (tableOf t) (accepted t ok .well) im (sym (check-image im) ∙ e) (takenAs t before) (takenAs t after) used
+
+  -- the walk's signal over any list is direct resolution's
+  same-signal : (im : List ℕ) → checkOf t im ≡ 0 → (l : List (List ℕ)) → walkedSignal t im l ≡ directSignal t l
+  same-signal im e l = walk-claim im e l [] .agrees
+
+  form-right : (im : List ℕ) → checkOf t im ≡ 0 → image.formOf (tableOf t) im ≡ true
+  form-right im e = check-to (tableOf t) im (sym (check-image im) ∙ e) .0
+
+  alike : (im : List ℕ) → checkOf t im ≡ 0 → (v : List ℕ) → machineOf t im v ≡ plainOf t v
+  unfolding machineOf plainOf
+  alike im e v =
+      ap (λ b. unlessRefused t v (cond b (answered t (urisOf v) (walkedSignal t im (urisOf v))) (refused 15))) (form-right im e)
+      ∙ ap (λ s. unlessRefused t v (answered t (urisOf v) s)) (same-signal im e (urisOf v))
+
+  answers : (im : List ℕ) → checkOf t im ≡ 0 → (v : List ℕ) → refusalOf v ≡ 0 → plainOf t v ≡ answered t (urisOf v) (walkedSignal t im (urisOf v))
+  unfolding plainOf
+  answers im e v z = simp (eq-eqb (refusalOf v) 0 z, eq-eqb (tableRefusal t) 0 ok) (ap (answered t (urisOf v)) (sym (same-signal im e (urisOf v))))
+
+  builds : (ReachableOver (tableOf t) 256 → ⊥) → (room : ℕ) → length (machineImage (tableOf t)) ≤ room
+      → (builtOf t room .refusal ≡ 0) × (checkOf t (take (builtOf t room .len) (bufferOf t room)) ≡ 0)
+  unfolding builtOf bufferOf
+  builds few room h =
+      let b = build-fits (tableOf t) room (few-found (tableOf t) few) h in
+      simp (eq-eqb (tableRefusal t) 0 ok)
+      (b .0,
+      ap₂ (λ n l. checkOf t (take n l)) (b .1) (b .2)
+      ∙ ap (checkOf t) (take-at (machineImage (tableOf t)) (replicate (room - length (machineImage (tableOf t))) 0) (length (machineImage (tableOf t))) refl)
+      ∙ check-image (machineImage (tableOf t))
+      ∙ reachable-accepted (tableOf t) (accepted t ok .well) few)
+
+pub demand-three : DemandThree
+demand-three t ok few = record { builds = builds t ok few; walks = walk-claim t ok; alike = alike t ok; answers = answers t ok }

@@ -1,0 +1,82 @@
+-- The walk of an image over a whole value.
+use Prim.Native.Nat.{ℕ, _≤_, _<_}
+use mathlib.Core.Path.{_≡_, refl, sym, ap, subst, _∙_}
+use mathlib.Core.Bool.{Bool, true, false, cond}
+use mathlib.Core.List.{List}
+use lib.ListN.{length}
+use lib.Dec.{eqb}
+use borrow.Author.Tests.{eq-eqb}
+use Rattle.alert_info.specs.Value.{refusalOf, urisOf}
+use Rattle.alert_urn.proofs.Fields.{byTest}
+use Rattle.resolution.specs.Direct.{usedOf}
+use Rattle.resolution.proofs.Claim.{run-used}
+use Rattle.machine_image.specs.Image.{signalIn, targetIn}
+use Rattle.machine_image.specs.Refusals.{formOf}
+use Rattle.machine_image.specs.Walk.{stepIn, walkIn}
+use Rattle.stored_table.specs.Tables.{tableRefusal, tableOf}
+use Rattle.stored_table.specs.Decoded.{Holds}
+use Rattle.stored_table.specs.declared.Decoded.{Decoded}
+use Rattle.resolver.specs.declared.run.Current.{Current}
+use Rattle.resolver.specs.declared.run.Current.the-variants.{Walk}
+use Rattle.resolver.specs.Resolve.{takenAs, refused, answered, walkedSignal, unlessRefused, machineOf}
+use Rattle.resolver.specs.Run.{Machine, resolvedFrom}
+use Rattle.resolver.proofs.TableLaws.{few-symbols}
+use Rattle.resolver.proofs.FoldLaws.{Steps}
+use Rattle.resolver.proofs.AnswerLaws.{value-refused, refused-first, resolved-right}
+use Rattle.stored_table.proofs.Accepting.{accepted}
+use Rattle.signal_table.specs.Listed.{SymbolsIn, Listed, tripleLists, fewer}
+use Rattle.signal_table.specs.States.{formBy}
+use Rattle.signal_table.proofs.SymbolsRight.{symbols-in}
+use Rattle.signal_table.proofs.CheckRight.{form-right}
+use Rattle.signal_table.proofs.NumberRight.{number-right}
+
+module _ (t : List ℕ) (d : Decoded) (h : Holds t (tableOf t) d) (m : Machine) (listed : SymbolsIn (tableOf t) (m .symbols) (m .count)) where
+  walk-steps : Steps t (tableOf t) d h m (λ j. Unit) (stepIn (tableOf t) (m .image)) Walk
+  walk-steps =
+      record {
+        moves = λ j u v w. ap (λ k. Walk (targetIn (m .image) j k))
+            (number-right t (d .category) (d .at) (d .len) (d .nodes) (tableOf t) (h .nodes) (d .rows) (d .parent) (d .signals) (h .numbers) (h .well-formed)
+            (m .symbols) (m .count) listed u);
+        stays = λ j u v w. tt;
+      }
+
+  -- from state 0, an image of right form: the machine resolver's answer
+  pub machine-right : (v : List ℕ) → length v ≤ 4096 → tableRefusal t ≡ 0 → formOf (tableOf t) (m .image) ≡ true
+      → resolvedFrom t d m (Walk 0) v ≡ machineOf t (m .image) v
+  unfolding machineOf
+  machine-right v short formed right =
+      resolved-right t (tableOf t) d h m v short formed (λ j. Unit) (stepIn (tableOf t) (m .image)) Walk walk-steps 0 tt (signalIn (m .image)) (λ j. refl)
+      ∙ ap (λ j. unlessRefused t v (answered t (urisOf v) (signalIn (m .image) j))) (sym (run-used (stepIn (tableOf t) (m .image)) 0 (takenAs t (urisOf v))))
+      ∙ ap (λ b. unlessRefused t v (cond b (answered t (urisOf v) (walkedSignal t (m .image) (urisOf v))) (refused 15))) (sym right)
+
+-- the answers of the machine resolver's tests
+module _ (t im v : List ℕ) where
+  pub machine-long : {k : ℕ} → refusalOf v ≡ k → 0 < k → refused k ≡ machineOf t im v
+  unfolding machineOf
+  machine-long e h = value-refused t v _ e h
+
+  pub machine-table : {k : ℕ} → k ≡ tableRefusal t → (k ≡ 0 → ⊥) → refused (cond (eqb (refusalOf v) 0) k (refusalOf v)) ≡ machineOf t im v
+  unfolding machineOf
+  machine-table e n = refused-first t v _ e n
+
+  -- 15 comes after the value's and the table's numbers
+  pub machine-form : tableRefusal t ≡ 0 → formOf (tableOf t) im ≡ false → refused (cond (eqb (refusalOf v) 0) 15 (refusalOf v)) ≡ machineOf t im v
+  unfolding machineOf
+  machine-form z e =
+      byTest (eqb (refusalOf v) 0)
+      (λ q. simp (q, eq-eqb (tableRefusal t) 0 z, e))
+      (λ q. simp q)
+
+-- the listed symbols, and the form of an image, of a decoded table
+module _ (t : List ℕ) (d : Decoded) (z : tableRefusal t ≡ 0) (h : Holds t (tableOf t) d) {sy : List ℕ} {n : ℕ}
+    (listed : Listed sy n (tripleLists (d .category) (d .parent) (fewer (d .nodes) 64) (fewer (d .categories) 8))) where
+  pub symbols-listed : SymbolsIn (tableOf t) sy n
+  symbols-listed =
+      symbols-in t (d .category) (d .at) (d .len) (d .nodes) (tableOf t) (h .nodes) (d .rows) (d .parent) (d .signals) (h .numbers) sy n
+      (few-symbols t z)
+      (subst (λ (k : ℕ). Listed sy n (tripleLists (d .category) (d .parent) (fewer (d .nodes) 64) (fewer k 8))) (h .categories) listed)
+
+  pub form-listed : (im : List ℕ) {f : Bool} → f ≡ formBy sy n (d .signals) (d .categories) im → f ≡ formOf (tableOf t) im
+  form-listed im e =
+      e ∙ ap (λ k. formBy sy n (d .signals) k im) (h .categories)
+      ∙ form-right (tableOf t) (h .well-formed) (accepted t z .rows) (d .rows) (d .parent) (d .signals) (h .numbers) sy n symbols-listed im

@@ -1,0 +1,44 @@
+-- Direct resolution on node numbers, over a whole value.
+use Prim.Native.Nat.{ℕ, _≤_, _<_}
+use mathlib.Core.Path.{_≡_, refl, sym, ap, _∙_}
+use mathlib.Core.List.{List}
+use lib.ListN.{length}
+use Rattle.alert_info.specs.Value.{refusalOf, urisOf}
+use Rattle.resolution.specs.Table.{Urn, Table}
+use Rattle.resolution.specs.Direct.{envOf, start, step}
+use Rattle.resolution.specs.Direct as direct
+use Rattle.resolution.specs.Nodes.{nodes}
+use Rattle.resolution.proofs.Step.{Valid, valid-step}
+use Rattle.resolution.proofs.TableStep.{table-laws, valid-start}
+use Rattle.node_step.specs.Step.{coded}
+use Rattle.node_step.specs.declared.State.{State}
+use Rattle.node_step.proofs.Both.{step-direct, coded-start}
+use Rattle.stored_table.specs.Tables.{tableRefusal, tableOf}
+use Rattle.stored_table.specs.Decoded.{Holds}
+use Rattle.stored_table.specs.declared.Decoded.{Decoded}
+use Rattle.resolver.specs.declared.run.Current.{Current}
+use Rattle.resolver.specs.declared.run.Current.the-variants.{Direct}
+use Rattle.resolver.specs.Resolve.{plainOf}
+use Rattle.resolver.specs.Run.{Machine, resolvedFrom}
+use Rattle.resolver.proofs.FoldLaws.{Steps}
+use Rattle.resolver.proofs.AnswerLaws.{resolved-right}
+
+abbrev shown : direct.State → Current
+shown st = Direct (coded st)
+
+module _ (t : List ℕ) (d : Decoded) (h : Holds t (tableOf t) d) (m : Machine) where
+  direct-steps : Steps t (tableOf t) d h m (Valid (envOf (tableOf t)) (tableOf t .cats) (nodes (tableOf t))) (step (envOf (tableOf t))) shown
+  direct-steps =
+      record {
+        moves = λ st u v w. ap Direct (step-direct (d .rows) (d .parent) (d .signals) (tableOf t) (h .well-formed) (h .numbers) st v u (w .known));
+        stays = λ st u v w. valid-step (envOf (tableOf t)) (tableOf t .cats) (nodes (tableOf t)) (table-laws (tableOf t) (h .well-formed)) st u v;
+      }
+
+  -- from signal 0 with nothing shut: the plain resolver's answer
+  pub plain-right : (v : List ℕ) → length v ≤ 4096 → tableRefusal t ≡ 0
+      → resolvedFrom t d m (Direct (record { signal = 0; shut = 0 })) v ≡ plainOf t v
+  unfolding plainOf
+  plain-right v short formed =
+      ap (λ (x : State). resolvedFrom t d m (Direct x) v) (sym (coded-start (tableOf t .cats)))
+      ∙ resolved-right t (tableOf t) d h m v short formed (Valid (envOf (tableOf t)) (tableOf t .cats) (nodes (tableOf t))) (step (envOf (tableOf t))) shown
+          direct-steps (start (tableOf t .cats)) (valid-start (tableOf t) (h .well-formed)) (λ st. st .signal) (λ st. refl)

@@ -1,0 +1,76 @@
+-- One turn of a run.
+use Prim.Native.Nat.{ℕ, _+_, _-_}
+use mathlib.Core.Path.{_≡_, refl, sym, ap, _∙_}
+use mathlib.Core.Bool.{Bool, true, false}
+use mathlib.Core.List.{List, [], _∷_}
+use lib.ListN.{take, drop}
+use native.Mathlib.Omega.{arith}
+use Rattle.alert_info.specs.Value.{Reading, unfit, spans, add, partOf, readingFrom}
+use Rattle.alert_info.specs.declared.alert_param.Span.{Span}
+use Rattle.node_step.specs.Step.{stepNumbers}
+use Rattle.node_step.specs.declared.State.{State}
+use Rattle.node_step.specs.declared.uses.Use.{Use}
+use Rattle.node_step.specs.declared.uses.Use.the-variants.{Skipped, Used}
+use Rattle.stored_table.specs.declared.Decoded.{Decoded}
+use Rattle.resolver.specs.declared.run.Current.{Current}
+use Rattle.resolver.specs.declared.run.Current.the-variants.{Direct, Walk}
+use Rattle.resolver.specs.declared.run.Progress.{Progress}
+use Rattle.machine_image.specs.Image.{targetIn}
+use Rattle.signal_table.specs.Listed.{symbolNumber}
+use Rattle.resolver.specs.Run.{Machine, useIn, moved, afterUse, after, over, runOf}
+use Rattle.resolver.specs.declared.run.Outcome.{Outcome}
+
+module _ (d : Decoded) (m : Machine) (now : Current) (c k : ℕ) (w : Bool) where
+  pub moved-direct : {st r : State} → now ≡ Direct st → r ≡ stepNumbers (d .rows) (d .parent) (d .signals) st c k w → Direct r ≡ moved d m now c k w
+  moved-direct e q = rw e (ap Direct q)
+
+  pub moved-walk : {j r n : ℕ} → now ≡ Walk j → n ≡ symbolNumber (m .symbols) (m .count) (d .parent) (d .nodes) c k w → r ≡ targetIn (m .image) j n → Walk r ≡ moved d m now c k w
+  moved-walk {j} e f g = rw e (ap Walk (g ∙ ap (targetIn (m .image) j) f))
+
+module _ (t : List ℕ) (d : Decoded) (m : Machine) (p : Progress) (uri : List ℕ) {u : Use} (e : u ≡ useIn t d uri) where
+  pub after-skipped : u ≡ Skipped → record { current = p .current; used = p .used; skipped = p .skipped + 1 } ≡ after t d m p uri
+  unfolding after
+  after-skipped s = rw (← e, s)
+
+  pub after-used : {c k : ℕ} {w : Bool} {r : Current} → u ≡ Used c k w → r ≡ moved d m (p .current) c k w
+      → record { current = r; used = p .used + 1; skipped = p .skipped } ≡ after t d m p uri
+  unfolding after
+  after-used s q = rw (← e, s) (ap (λ (x : Current). record { current = x; used = p .used + 1; skipped = p .skipped }) q)
+
+-- one URI more is counted once
+pub after-counted : (t : List ℕ) (d : Decoded) (m : Machine) (p : Progress) (uri : List ℕ) {r : Progress} → r ≡ after t d m p uri
+    → r .used + r .skipped ≡ p .used + p .skipped + 1
+unfolding after
+after-counted t d m p uri e = ap (λ (x : Progress). x .used + x .skipped) e ∙ counted (useIn t d uri)
+  where
+    counted : (u : Use) → afterUse d m p u .used + afterUse d m p u .skipped ≡ p .used + p .skipped + 1
+    counted Skipped = omega arith
+    counted (Used c k w) = omega arith
+
+over-add : {S : Type 0} (v : List ℕ) (f : S → List ℕ → S) (s : S) (p : Span) (r : Reading) → over v f s (add p r) ≡ over v f (f s (partOf v p)) r
+unfolding over
+over-add v f s p unfit = refl
+over-add v f s p (spans ps) = refl
+
+-- the bytes from a part's start to its end
+whole-part : (v : List ℕ) (p : Span) → take (p .start + p .len - p .start) (drop (p .start) v) ≡ partOf v p
+whole-part v p = let e : p .start + p .len - p .start ≡ p .len = omega arith in ap (λ n. take n (drop (p .start) v)) e
+
+module _ (v : List ℕ) (f : Progress → List ℕ → Progress) (from s : Progress) (at : ℕ) (all : Outcome)
+    (inv : all ≡ runOf from (over v f s (readingFrom v at))) where
+  pub run-more : {q : Progress} (p : Span) (r : Reading) → readingFrom v at ≡ add p r
+      → q ≡ f s (take (p .start + p .len - p .start) (drop (p .start) v)) → all ≡ runOf from (over v f q r)
+  run-more {q} p r e g =
+      inv ∙ ap (λ x. runOf from (over v f s x)) e
+      ∙ ap (runOf from) (over-add v f s p r ∙ ap (λ x. over v f x r) (ap (f s) (sym (whole-part v p)) ∙ sym g))
+
+  pub run-last : {q : Progress} (p : Span) → readingFrom v at ≡ spans (p ∷ [])
+      → q ≡ f s (take (p .start + p .len - p .start) (drop (p .start) v)) → record { fits = true; progress = q } ≡ all
+  unfolding over
+  run-last {q} p e g =
+      ap (λ (x : Progress). record { fits = true; progress = x }) (g ∙ ap (f s) (whole-part v p))
+      ∙ sym (inv ∙ ap (λ x. runOf from (over v f s x)) e)
+
+  pub run-none : readingFrom v at ≡ unfit → record { fits = false; progress = from } ≡ all
+  unfolding over
+  run-none e = sym (inv ∙ ap (λ x. runOf from (over v f s x)) e)

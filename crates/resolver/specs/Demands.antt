@@ -1,0 +1,66 @@
+-- The three demands on the whole software, as claims.
+use Prim.Native.Nat.{ℕ, _≤_}
+use mathlib.Core.Path.{_≡_}
+use mathlib.Core.Bool.{cond}
+use mathlib.Core.List.{List, _++_}
+use lib.Dec.{eqb}
+use lib.ListN.{length, take, replicate}
+use Rattle.alert_info.specs.Value.{refusalOf, urisOf}
+use Rattle.resolution.specs.Names.{Parts}
+use Rattle.resolution.specs.Table.{mostParts}
+use Rattle.resolution.specs.Direct.{usedOf, usedCount, skippedCount, stepUri, changes}
+use Rattle.resolution.specs.Says.{Says, Given}
+use Rattle.resolution.specs.Build.{ReachableOver}
+use Rattle.node_step.specs.Uses.{usedUrn}
+use Rattle.machine_image.specs.Image.{signalIn, machineImage}
+use Rattle.machine_image.specs.Walk.{stepIn}
+use Rattle.stored_table.specs.Tables.{tableRefusal, tableOf, categoryNames}
+use Rattle.signal_table.specs.Tables.{builtOf, bufferOf, checkOf}
+use Rattle.resolver.specs.Resolve.{takenAs, directSignal, walkedSignal, refused, plainOf, machineOf}
+
+-- Demand 1: bad input is refused by a number, and nothing else comes of it. That every function answers for all bytes, with no
+-- condition on the caller, is seen from the functions' contracts: none has a `requires`.
+pub record Demand1 (t : List ℕ) : Type 0 where
+  -- a refused resolution is signal 0 with both counts 0
+  pub plain-refused : (v : List ℕ) → (plainOf t v .refusal ≡ 0 → ⊥) → plainOf t v ≡ refused (plainOf t v .refusal)
+  pub machine-refused : (im v : List ℕ) → (machineOf t im v .refusal ≡ 0 → ⊥) → machineOf t im v ≡ refused (machineOf t im v .refusal)
+  -- a refused build leaves the whole buffer zero, whatever its length
+  pub build-refused : (room : ℕ) → (builtOf t room .refusal ≡ 0 → ⊥) → (builtOf t room .len ≡ 0) × (bufferOf t room ≡ replicate room 0)
+
+-- the walk of an image over a list of URIs as bytes, used and skipped, at the point between before and after
+pub record WalkClaim (t im : List ℕ) (before after : List (List ℕ)) : Type 0 where
+  -- its signal is direct resolution's: at the start, where before is empty, and after each URI
+  pub agrees : walkedSignal t im before ≡ directSignal t before
+  -- it says only given URNs or their ancestors
+  pub only-given : (c : ℕ) (p : Parts) → Says (tableOf t) (walkedSignal t im before) c p → Given (usedOf (takenAs t before)) c p
+  -- what it said at this point it still says at every later one
+  pub still-says : (c : ℕ) (p : Parts) → Says (tableOf t) (walkedSignal t im before) c p → Says (tableOf t) (walkedSignal t im (before ++ after)) c p
+  -- over the list it changes at most as often as the largest number of parts that one signal names in all its URNs
+  pub few-changes : changes (signalIn im) (λ j uri. stepUri (stepIn (tableOf t) im) j (usedUrn (categoryNames t) uri)) 0 (before ++ after)
+      ≤ mostParts (tableOf t .signals)
+
+-- Demand 3, for a well-formed table with at most 256 reachable states
+pub record Demand3 (t : List ℕ) : Type 0 where
+  -- the build succeeds in every buffer that holds the image, and the checker accepts what it leaves there
+  pub builds : (room : ℕ) → length (machineImage (tableOf t)) ≤ room
+      → (builtOf t room .refusal ≡ 0) × (checkOf t (take (builtOf t room .len) (bufferOf t room)) ≡ 0)
+  -- for that image or any other that the checker accepts, over every list of URIs
+  pub walks : (im : List ℕ) → checkOf t im ≡ 0 → (before after : List (List ℕ)) → WalkClaim t im before after
+  -- for all bytes as a value both resolvers answer alike, in all four numbers
+  pub alike : (im : List ℕ) → checkOf t im ≡ 0 → (v : List ℕ) → machineOf t im v ≡ plainOf t v
+  -- for an accepted value these are the walk's signal over the value's list, the numbers of its used and skipped entries, and 0
+  pub answers : (im : List ℕ) → checkOf t im ≡ 0 → (v : List ℕ) → refusalOf v ≡ 0
+      → plainOf t v
+      ≡ record {
+        refusal = 0;
+        signal = walkedSignal t im (urisOf v);
+        used = usedCount (takenAs t (urisOf v));
+        skipped = skippedCount (takenAs t (urisOf v));
+      }
+
+-- what is proved: demand 1 for all bytes, demand 3 for every well-formed table with at most 256 reachable states
+abbrev pub DemandOne : Type 0
+DemandOne = (t : List ℕ) → Demand1 t
+
+abbrev pub DemandThree : Type 0
+DemandThree = (t : List ℕ) → tableRefusal t ≡ 0 → (ReachableOver (tableOf t) 256 → ⊥) → Demand3 t

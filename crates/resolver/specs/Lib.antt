@@ -1,0 +1,4 @@
+pub mod Resolve
+pub mod Run
+pub mod Demands
+pub mod Examples

@@ -1,0 +1,49 @@
+-- What the two resolvers answer.
+use Prim.Native.Nat.{ℕ}
+use mathlib.Core.Bool.{cond}
+use mathlib.Core.Option.{Option}
+use mathlib.Core.List.{List, map}
+use lib.Dec.{eqb}
+use Rattle.alert_info.specs.Value.{refusalOf, urisOf}
+use Rattle.resolution.specs.Table.{Urn}
+use Rattle.resolution.specs.Direct.{direct, usedOf, usedCount, skippedCount}
+use Rattle.node_step.specs.Uses.{usedUrn}
+use Rattle.machine_image.specs.Refusals.{formOf}
+use Rattle.machine_image.specs.Walk.{walkSignal}
+use Rattle.stored_table.specs.Tables.{tableRefusal, tableOf, categoryNames}
+use Rattle.resolver.specs.declared.Resolution.{Resolution}
+
+-- a list of URIs as a stored table takes them: a used one with its URN, or skipped
+abbrev pub takenAs : List ℕ → List (List ℕ) → List (Option Urn)
+takenAs t uris = map (usedUrn (categoryNames t)) uris
+
+-- direct resolution's signal over a list of URIs
+abbrev pub directSignal : List ℕ → List (List ℕ) → ℕ
+directSignal t uris = direct (tableOf t) (usedOf (takenAs t uris)) .signal
+
+-- the signal of an image's walk over a list of URIs
+abbrev pub walkedSignal : List ℕ → List ℕ → List (List ℕ) → ℕ
+walkedSignal t im uris = walkSignal (tableOf t) im (takenAs t uris)
+
+-- a refused resolution has signal 0 and counts 0
+abbrev pub refused : ℕ → Resolution
+refused k = record { refusal = k; signal = 0; used = 0; skipped = 0 }
+
+-- a signal with the numbers of used and skipped URIs
+abbrev pub answered : List ℕ → List (List ℕ) → ℕ → Resolution
+answered t uris s =
+    record { refusal = 0; signal = s; used = usedCount (takenAs t uris); skipped = skippedCount (takenAs t uris) }
+
+-- an answer where neither the value (1 to 3) nor the table (4 to 12) is refused
+abbrev pub unlessRefused : List ℕ → List ℕ → Resolution → Resolution
+unlessRefused t v r =
+    cond (eqb (refusalOf v) 0) (cond (eqb (tableRefusal t) 0) r (refused (tableRefusal t))) (refused (refusalOf v))
+
+-- the plain resolver: direct resolution over the value's list
+unfoldable pub plainOf : List ℕ → List ℕ → Resolution
+plainOf t v = unlessRefused t v (answered t (urisOf v) (directSignal t (urisOf v)))
+
+-- the machine resolver: the image as it is stored, followed over the value's list; 15 if it is of wrong form
+unfoldable pub machineOf : List ℕ → List ℕ → List ℕ → Resolution
+machineOf t im v =
+    unlessRefused t v (cond (formOf (tableOf t) im) (answered t (urisOf v) (walkedSignal t im (urisOf v))) (refused 15))

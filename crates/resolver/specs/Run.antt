@@ -1,0 +1,77 @@
+-- How a value is gone through: from entry to entry, each taken as it is met.
+use Prim.Native.Nat.{ℕ, _+_}
+use mathlib.Core.Bool.{Bool, true, false, cond}
+use mathlib.Core.Option.{Option, none, some}
+use mathlib.Core.List.{List, map, foldl}
+use lib.Dec.{ltb}
+use Rattle.alert_info.specs.Value.{Reading, unfit, spans, partOf, readingFrom}
+use Rattle.node_step.specs.Step.{stepNumbers}
+use Rattle.node_step.specs.Uses.{usesOf}
+use Rattle.node_step.specs.declared.State.{State}
+use Rattle.node_step.specs.declared.uses.Use.{Use}
+use Rattle.node_step.specs.declared.uses.Use.the-variants.{Skipped, Used}
+use Rattle.stored_table.specs.declared.Decoded.{Decoded}
+use Rattle.resolver.specs.declared.Resolution.{Resolution}
+use Rattle.resolver.specs.declared.run.Current.{Current}
+use Rattle.resolver.specs.declared.run.Current.the-variants.{Direct, Walk}
+use Rattle.resolver.specs.declared.run.Progress.{Progress}
+use Rattle.resolver.specs.declared.run.Outcome.{Outcome}
+use Rattle.machine_image.specs.Image.{signalIn, targetIn}
+use Rattle.resolver.specs.Resolve.{refused}
+use Rattle.signal_table.specs.Listed.{symbolNumber}
+
+-- what a URI is to the decoded table
+abbrev pub useIn : List ℕ → Decoded → List ℕ → Use
+useIn t d uri = usesOf t (d .«name_at») (d .«name_len») (d .categories) (d .category) (d .at) (d .len) (d .nodes) uri
+
+-- what a resolver goes by besides the decoded table: the stored symbols, their number, and an image
+pub record Machine : Type 0 where
+  pub symbols : List ℕ
+  pub count : ℕ
+  pub image : List ℕ
+
+-- a used URN takes direct resolution one step on, or the walk to the target that the state's row holds for its symbol
+abbrev pub moved : Decoded → Machine → Current → ℕ → ℕ → Bool → Current
+moved d m (Direct st) c k w = Direct (stepNumbers (d .rows) (d .parent) (d .signals) st c k w)
+moved d m (Walk j) c k w = Walk (targetIn (m .image) j (symbolNumber (m .symbols) (m .count) (d .parent) (d .nodes) c k w))
+
+-- one URI more
+abbrev pub afterUse : Decoded → Machine → Progress → Use → Progress
+afterUse d m p Skipped = record { current = p .current; used = p .used; skipped = p .skipped + 1 }
+afterUse d m p (Used c k w) = record { current = moved d m (p .current) c k w; used = p .used + 1; skipped = p .skipped }
+
+unfoldable pub after : List ℕ → Decoded → Machine → Progress → List ℕ → Progress
+after t d m p uri = afterUse d m p (useIn t d uri)
+
+-- the whole run over a reading of v, none where the value does not fit
+unfoldable pub over : {S : Type 0} → List ℕ → (S → List ℕ → S) → S → Reading → Option S
+over v f s unfit = none
+over v f s (spans ps) = some (foldl f s (map (partOf v) ps))
+
+abbrev pub runOf : Progress → Option Progress → Outcome
+runOf s none = record { fits = false; progress = s }
+runOf s (some p) = record { fits = true; progress = p }
+
+unfoldable pub runFrom : List ℕ → Decoded → Machine → List ℕ → Progress → ℕ → Outcome
+runFrom t d m v p at = runOf p (over v (after t d m) p (readingFrom v at))
+
+-- the signal where a resolver is
+abbrev pub signalNow : List ℕ → Current → ℕ
+signalNow im (Direct st) = st .signal
+signalNow im (Walk j) = signalIn im j
+
+-- the answer at the end of a value: 2 if it does not fit, 3 if it has over 64 entries
+unfoldable pub answerOf : Outcome → ℕ → Resolution
+answerOf o s =
+    cond (o .fits)
+    (cond (ltb 64 (o .progress .used + o .progress .skipped)) (refused 3)
+    (record { refusal = 0; signal = s; used = o .progress .used; skipped = o .progress .skipped }))
+    (refused 2)
+
+-- no entry read yet
+abbrev pub begin : Current → Progress
+begin x = record { current = x; used = 0; skipped = 0 }
+
+-- a whole value, from where a resolver begins
+unfoldable pub resolvedFrom : List ℕ → Decoded → Machine → Current → List ℕ → Resolution
+resolvedFrom t d m x v = answerOf (runFrom t d m v (begin x) 0) (signalNow (m .image) (runFrom t d m v (begin x) 0 .progress .current))

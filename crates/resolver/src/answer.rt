@@ -1,0 +1,93 @@
+// Answers: a refusal number, or the signal at the end of a value.
+use crate::Resolution;
+use crate::run::Current;
+use crate::run::Outcome;
+use crate::run::Progress;
+use stored_table::Decoded;
+ghost use mathlib.Core.Path.{_≡_};
+ghost use mathlib.Core.Bool.{cond};
+ghost use Prim.Native.Nat.{_+_, _≤_};
+ghost use lib.Dec.{eqb};
+ghost use lib.ListN.{length};
+ghost use Rattle.alert_info.specs.Value.{refusalOf};
+ghost use Rattle.resolver.specs.Resolve.{refused as refusedWith};
+ghost use Rattle.resolver.specs.Run.{signalNow, answerOf, resolvedFrom};
+
+// A refused resolution has signal 0 and counts 0.
+pub fn refused(k: u8) -> Resolution
+    ensures { λ r. ⌜ r ≡ refusedWith k ⌝ }
+{
+    Resolution {
+        refusal: k,
+        signal: 0,
+        used: 0,
+        skipped: 0,
+    }
+}
+
+// The value's number if it is refused, else this one.
+pub fn value_first(v: &[u8], k: u8) -> Resolution
+    ensures { λ r. ⌜ r ≡ refusedWith (cond (eqb (refusalOf (now (v .entry))) 0) k (refusalOf (now (v .entry)))) ⌝ }
+{
+    let n = alert_info::refusal(v);
+    if n == 0 {
+        return refused(k);
+    }
+    refused(n)
+}
+
+// The signal where a resolver is.
+fn signal_in(image: &[u8], current: Current) -> u8
+    ensures { λ r. ⌜ r ≡ signalNow (now (image .entry)) current ⌝ }
+{
+    match current {
+        Current::Direct(st) => st.signal,
+        Current::Walk(j) => signal_table::image::signal(image, j),
+    }
+}
+
+// The answer at the end of a value.
+fn answer(o: Outcome, signal: u8) -> Resolution
+    requires { ⌜ o .progress .used + o .progress .skipped ≤ 4097 ⌝ }
+    ensures { λ r. ⌜ r ≡ answerOf o signal ⌝ }
+{
+    if !o.fits {
+        return refused(2);
+    }
+    let used = o.progress.used;
+    let skipped = o.progress.skipped;
+    if 64 < used + skipped {
+        return refused(3);
+    }
+    Resolution {
+        refusal: 0,
+        signal,
+        used: used as u8,
+        skipped: skipped as u8,
+    }
+}
+
+// A whole value, from where a resolver begins.
+pub fn resolved(
+    t: &[u8],
+    d: Decoded,
+    symbols: &[u8; 384],
+    count: usize,
+    image: &[u8],
+    from: Current,
+    v: &[u8],
+) -> Resolution
+    requires { ⌜ length (now v) ≤ 4096 ⌝ }
+    ensures { λ r. ⌜ r ≡ resolvedFrom (now (t .entry)) d (record { symbols = now (symbols .entry); count = count; image = now (image .entry) }) from (now (v .entry)) ⌝ }
+{
+    let start = Progress {
+        current: from,
+        used: 0,
+        skipped: 0,
+    };
+    let o = crate::run::run(t, d, symbols, count, image, start, v);
+    let p = o.progress;
+    let last = p.current;
+    let signal = signal_in(image, last);
+    answer(o, signal)
+}
