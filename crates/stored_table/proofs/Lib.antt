@@ -1,0 +1,10 @@
+pub mod Readings
+pub mod Tabulated
+pub mod Indexing
+pub mod Prefixes
+pub mod NodeArrays
+pub mod RowLaws
+pub mod Flat
+pub mod Judging
+pub mod Placing
+pub mod Accepting

@@ -1,0 +1,40 @@
+-- What decoding answers: the arrays stand for the table that the bytes say.
+use Prim.Native.Nat.{ℕ}
+use mathlib.Core.Path.{_≡_}
+use mathlib.Core.List.{List}
+use lib.ListN.{length, replicate}
+use Rattle.resolution.specs.Table.{Table, WellFormed}
+use Rattle.node_step.specs.Arrays.{NamesIn, NodesIn, Numbers}
+use Rattle.stored_table.specs.Tables.{categoryNames, tableOf, tableRefusal}
+use Rattle.stored_table.specs.declared.Decoded.{Decoded}
+
+-- the answer to a table that is refused with k: all zero but the number
+abbrev pub refusedTable : ℕ → Decoded
+refusedTable k =
+    record {
+      refusal = k;
+      categories = 0;
+      signals = 0;
+      nodes = 0;
+      «name_at» = replicate 8 0;
+      «name_len» = replicate 8 0;
+      category = replicate 64 0;
+      parent = replicate 64 0;
+      at = replicate 64 0;
+      len = replicate 64 0;
+      rows = replicate 32 0;
+    }
+
+-- the arrays hold the table T of the bytes t
+pub record Holds (t : List ℕ) (T : Table) (r : Decoded) : Type 0 where
+  pub categories : r .categories ≡ T .cats
+  pub names : NamesIn t (r .«name_at») (r .«name_len») (r .categories) (categoryNames t)
+  pub nodes : NodesIn t (r .category) (r .at) (r .len) (r .nodes) T
+  pub numbers : Numbers (r .rows) (r .parent) (r .signals) T
+  pub well-formed : WellFormed T
+
+-- what `decode` answers
+pub record Means (t : List ℕ) (r : Decoded) : Type 0 where
+  pub refusal : r .refusal ≡ tableRefusal t
+  pub refused : (tableRefusal t ≡ 0 → ⊥) → r ≡ refusedTable (tableRefusal t)
+  pub holds : tableRefusal t ≡ 0 → Holds t (tableOf t) r

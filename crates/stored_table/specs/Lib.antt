@@ -1,0 +1,6 @@
+pub mod Stored
+pub mod Tables
+pub mod Held
+pub mod Accepted
+pub mod Stages
+pub mod Decoded

@@ -1,0 +1,109 @@
+use crate::forms::name_text;
+use crate::forms::urn_text;
+ghost use mathlib.Core.Path.{_≡_};
+ghost use mathlib.Core.Bool.{true};
+ghost use Prim.Native.Nat.{_≤_, _<_, _+_};
+ghost use lib.ListN.{length, getD};
+ghost use lib.Dec.{eqb};
+ghost use Rattle.resolution.specs.Lists.{tabulate, indexBy};
+ghost use Rattle.resolution.specs.Names.{sameName};
+ghost use Rattle.alert_urn.specs.Text.{all};
+ghost use Rattle.node_step.specs.Arrays.{stretch};
+ghost use Rattle.stored_table.specs.Tables.{any, noTwo, isListed};
+ghost use Rattle.stored_table.specs.Held.{Indexed};
+
+// The number of the first of n categories that has the name s, or n.
+fn name_index(t: &[u8], s: &[u8], n: usize, at: &[u16; 8], len: &[u8; 8]) -> usize
+    requires { ⌜ n ≤ 8 ⌝ }
+    ensures { λ r. ⌜ (r ≡ indexBy sameName (now (s .entry)) (tabulate (stretch (now (t .entry)) (now (at .entry)) (now (len .entry))) n)) × (r ≤ n) ⌝ }
+{
+    let mut i = 0;
+    while i < n {
+        if alert_urn::text::same(s, name_text(t, at, len, i)) {
+            return i;
+        }
+        i += 1;
+    }
+    i
+}
+
+// No category is listed twice.
+pub fn names_distinct(t: &[u8], n: usize, at: &[u16; 8], len: &[u8; 8]) -> bool
+    requires { ⌜ n ≤ 8 ⌝ }
+    ensures { λ r. ⌜ r ≡ noTwo sameName (tabulate (stretch (now (t .entry)) (now (at .entry)) (now (len .entry))) n) ⌝ }
+{
+    let mut i = 0;
+    while i < n {
+        if name_index(t, name_text(t, at, len, i), i, at, len) < i {
+            return false;
+        }
+        i += 1;
+    }
+    true
+}
+
+// Where the path of a URN begins: after its first colon, k bytes in, or at its end if it has none.
+fn path_start(n: usize, k: usize) -> usize
+    ensures { λ r. ⌜ (r ≤ n) × (k < n → r ≡ k + 1) × (n ≤ k → r ≡ n) ⌝ }
+{
+    if k < n {
+        return k + 1;
+    }
+    n
+}
+
+// The category and the path of every URN, as far as its category is listed.
+pub fn index_urns(t: &[u8], n: usize, name_at: &[u16; 8], name_len: &[u8; 8], m: usize, at: &[u16; 256], len: &[u8; 256], category: &mut [u8; 256], path_at: &mut [u16; 256], path_len: &mut [u8; 256]) -> bool
+    requires { ⌜ (n ≤ 8) × (m ≤ 256) × (length (now t) ≤ 8192) × (length (now category) ≡ 256) × (length (now «path_at») ≡ 256) × (length (now «path_len») ≡ 256) ⌝ }
+    ensures { λ r. ⌜ r ≡ all (isListed (tabulate (stretch (now (t .entry)) (now («name_at» .entry)) (now («name_len» .entry))) n)) (tabulate (stretch (now (t .entry)) (now (at .entry)) (now (len .entry))) m) ⌝ }
+    ensures indexed { λ r. ⌜ (r ≡ true → Indexed (now (t .entry)) (tabulate (stretch (now (t .entry)) (now («name_at» .entry)) (now («name_len» .entry))) n) (now (at .entry)) (now (len .entry)) m (now (category .exit)) (now («path_at» .exit)) (now («path_len» .exit))) ⌝ }
+{
+    let mut i = 0;
+    while i < m {
+        let u = urn_text(t, at, len, i);
+        let a = 0;
+        let k = alert_urn::text::find(u, 58);
+        let c = name_index(t, &u[a..k], n, name_at, name_len);
+        if c < n {
+            let e = path_start(u.len(), k);
+            category[i] = crate::read::small(c);
+            path_at[i] = crate::read::short(crate::read::wider(at[i]) + e);
+            path_len[i] = crate::read::small(u.len() - e);
+            i += 1;
+        } else {
+            return false;
+        }
+    }
+    true
+}
+
+// Some URN is of category c.
+fn has_category(category: &[u8; 256], m: usize, c: usize) -> bool
+    requires { ⌜ m ≤ 256 ⌝ }
+    ensures { λ r. ⌜ r ≡ any (λ x. eqb x c) (tabulate (λ j. getD (now (category .entry)) j 0) m) ⌝ }
+{
+    let mut i = 0;
+    while i < m {
+        if crate::read::wide(category[i]) == c {
+            return true;
+        }
+        i += 1;
+    }
+    false
+}
+
+// Every one of n categories has a URN.
+pub fn all_used(category: &[u8; 256], m: usize, n: usize) -> bool
+    requires { ⌜ m ≤ 256 ⌝ }
+    ensures { λ r. ⌜ r ≡ all (λ c. any (λ x. eqb x c) (tabulate (λ j. getD (now (category .entry)) j 0) m)) (tabulate (λ c. c) n) ⌝ }
+{
+    let mut c = 0;
+    while c < n {
+        if has_category(category, m, c) {
+            c += 1;
+        } else {
+            return false;
+        }
+    }
+    true
+}

@@ -1,0 +1,61 @@
+ghost use mathlib.Core.Path.{_≡_};
+ghost use mathlib.Core.Bool.{_&&_};
+ghost use Prim.Native.Nat.{_≤_, _<_};
+ghost use lib.ListN.{length};
+ghost use Rattle.resolution.specs.Lists.{tabulate};
+ghost use Rattle.alert_urn.specs.Text.{all, nameOk};
+ghost use Rattle.alert_urn.specs.Urn.{urnOk};
+ghost use Rattle.node_step.specs.Arrays.{stretch};
+
+// The name of category i.
+pub fn name_text<'a>(t: &'a [u8], at: &[u16; 8], len: &[u8; 8], i: usize) -> &'a [u8]
+    requires { ⌜ i < 8 ⌝ }
+    ensures { λ r. ⌜ now r ≡ stretch (now (t .entry)) (now (at .entry)) (now (len .entry)) i ⌝ }
+{
+    let a = crate::read::wider(at[i]);
+    let n = crate::read::wide(len[i]);
+    alert_urn::text::part(t, a, n)
+}
+
+// The i-th URN, or its path.
+pub fn urn_text<'a>(t: &'a [u8], at: &[u16; 256], len: &[u8; 256], i: usize) -> &'a [u8]
+    requires { ⌜ i < 256 ⌝ }
+    ensures { λ r. ⌜ now r ≡ stretch (now (t .entry)) (now (at .entry)) (now (len .entry)) i ⌝ }
+    ensures short { λ r. ⌜ length (now r) ≤ 255 ⌝ }
+{
+    let a = crate::read::wider(at[i]);
+    let n = crate::read::wide(len[i]);
+    alert_urn::text::part(t, a, n)
+}
+
+// Every category name has its form.
+pub fn names_formed(t: &[u8], n: usize, at: &[u16; 8], len: &[u8; 8]) -> bool
+    requires { ⌜ n ≤ 8 ⌝ }
+    ensures { λ r. ⌜ r ≡ all nameOk (tabulate (stretch (now (t .entry)) (now (at .entry)) (now (len .entry))) n) ⌝ }
+{
+    let mut i = 0;
+    while i < n {
+        if alert_urn::text::name(name_text(t, at, len, i)) {
+            i += 1;
+        } else {
+            return false;
+        }
+    }
+    true
+}
+
+// Every URN has its form.
+pub fn urns_formed(t: &[u8], m: usize, at: &[u16; 256], len: &[u8; 256]) -> bool
+    requires { ⌜ m ≤ 256 ⌝ }
+    ensures { λ r. ⌜ r ≡ all urnOk (tabulate (stretch (now (t .entry)) (now (at .entry)) (now (len .entry))) m) ⌝ }
+{
+    let mut i = 0;
+    while i < m {
+        if alert_urn::urn::urn_formed(urn_text(t, at, len, i)) {
+            i += 1;
+        } else {
+            return false;
+        }
+    }
+    true
+}
