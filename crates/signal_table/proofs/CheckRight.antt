@@ -24,7 +24,8 @@ use Rattle.machine_image.proofs.Form.{Formed, form-to, form-symbols}
 use Rattle.machine_image.proofs.Check.{machine-states}
 use Rattle.machine_image.proofs.Walk.{machine-state-in, machine-target}
 use Rattle.signal_table.specs.Listed.{SymbolsIn}
-use Rattle.signal_table.specs.States.{nextPair, pairIn, stateFormedBy, formBy, targetRightBy, rowRightBy, checkBy}
+use Rattle.signal_table.specs.States.{nextPair}
+use Rattle.signal_table.specs.Checks.{pairIn, stateFormedBy, formBy, targetRightBy, rowRightBy, checkBy}
 use Rattle.signal_table.proofs.PairsRight.{code, code-start, code-test, next-code}
 
 all-same : (n : ℕ) (f g : ℕ → Bool) → ((k : ℕ) → k < n → f k ≡ g k) → all n f ≡ all n g

@@ -14,7 +14,7 @@ use Rattle.resolution.specs.Names.{sameName}
 use Rattle.resolution.proofs.Lists.{all-stop}
 use Rattle.machine_image.specs.Image.{symbolCount, stateCount, placeOf, signalIn, shutIn, targetIn}
 use Rattle.machine_image.specs.Refusals.{targetBelow}
-use Rattle.signal_table.specs.States.{pairIn, stateFormedBy, formBy, targetRightBy, rowRightBy, checkBy}
+use Rattle.signal_table.specs.Checks.{pairIn, stateFormedBy, formBy, targetRightBy, rowRightBy, checkBy}
 
 -- one number more of a test of all
 pub all-more : (f : ℕ → Bool) (k : ℕ) → all k f ≡ true → f k ≡ true → all (k + 1) f ≡ true

@@ -11,3 +11,4 @@ pub mod PairsRight
 pub mod BuildRight
 pub mod CheckRight
 pub mod NumberRight
+pub mod TableRight

@@ -1,3 +1,4 @@
 pub mod Built
 pub mod Listed
 pub mod States
+pub mod Checks

@@ -1,26 +1,21 @@
 -- Discovery as the code does it: a state is one number, and the rows are written as the states are found.
-use Prim.Native.Nat.{ℕ, zero, suc, _+_, _*_, _/_, _%_, _≤_, _<_}
+use Prim.Native.Nat.{ℕ, zero, suc, _+_, _-_, _*_, _/_, _%_, _≤_, _<_}
 use mathlib.Core.Path.{_≡_}
-use mathlib.Core.Bool.{Bool, cond, _&&_}
+use mathlib.Core.Bool.{cond}
 use mathlib.Core.List.{List, [], _∷_, _++_}
 use lib.Dec.{eqb, ltb}
-use lib.ListN.{length, getD, take, drop, replicate}
-use Rattle.resolution.specs.Lists.{all}
+use lib.ListN.{length, getD, take, replicate}
 use Rattle.resolution.specs.Discovery.{expand, discover, targets}
 use Rattle.node_step.specs.Step.{stepNumbers}
 use Rattle.node_step.specs.declared.State.{State}
-use Rattle.machine_image.specs.Image.{symbolCount, stateCount, placeOf, signalIn, shutIn, targetIn}
-use Rattle.machine_image.specs.Refusals.{targetBelow}
 use Rattle.signal_table.specs.Built.{refused, accepted}
 use Rattle.signal_table.specs.declared.write.Built.{Built}
-use Rattle.resolution.specs.Names.{sameName}
-use lib.Dec.{leb}
-use Prim.Native.Nat.{_^_, _-_}
 
 -- a state as one number: 256 times its signal, plus its shut set
 abbrev pub pairOf : State → ℕ
 pairOf st = st .signal * 256 + st .shut
 
+-- and the state of a number
 abbrev pub ofPair : ℕ → State
 ofPair p = record { signal = p / 256; shut = p % 256 }
 
@@ -85,9 +80,11 @@ module _ (next : ℕ → ℕ → ℕ) (count : ℕ) where
   imageBy sy =
       count ∷ take (3 * count) sy ++ length (found 256) % 256 ∷ length (found 256) / 256 ∷ [] ++ rowsBytes (found 256) (length (found 256))
 
+  -- its length
   abbrev pub sizeBy : ℕ
   sizeBy = 3 + 3 * count + length (found 256) * (count + 2)
 
+  -- what a build answers, and what it leaves in the buffer
   unfoldable pub builtBy : ℕ → Built
   builtBy room =
       cond (ltb 256 (length (found 256))) (refused 13)
@@ -96,37 +93,3 @@ module _ (next : ℕ → ℕ → ℕ) (count : ℕ) where
 
   unfoldable pub bufferBy : List ℕ → ℕ → List ℕ
   bufferBy sy room = cond (eqb (builtBy room .refusal) 0) (imageBy sy ++ replicate (room - sizeBy) 0) (replicate room 0)
-
--- Checking, over the arrays.
-
-abbrev pub pairIn : List ℕ → ℕ → ℕ
-pairIn im j = signalIn im j * 256 + shutIn im j
-
-unfoldable pub stateFormedBy : ℕ → ℕ → List ℕ → ℕ → Bool
-stateFormedBy signals cats im j =
-    ltb (signalIn im j) signals
-    && (eqb (shutIn im j / 2 ^ cats) 0
-    && all (symbolCount im) (targetBelow im j))
-
-unfoldable pub formBy : List ℕ → ℕ → ℕ → ℕ → List ℕ → Bool
-formBy sy count signals cats im =
-    leb cats 8
-    && (leb count 128
-    && (leb (3 + 3 * symbolCount im) (length im)
-    && (eqb (length im) (placeOf im (stateCount im))
-    && (sameName (take (3 * symbolCount im) (drop 1 im)) (take (3 * count) (drop 0 sy))
-    && (leb 1 (stateCount im)
-    && (leb (stateCount im) 256
-    && all (stateCount im) (stateFormedBy signals cats im)))))))
-
-unfoldable pub targetRightBy : (ℕ → ℕ → ℕ) → List ℕ → ℕ → ℕ → Bool
-targetRightBy next im j k = eqb (pairIn im (targetIn im j k)) (next (pairIn im j) k)
-
-unfoldable pub rowRightBy : (ℕ → ℕ → ℕ) → ℕ → List ℕ → ℕ → Bool
-rowRightBy next count im j = all count (targetRightBy next im j)
-
-unfoldable pub checkBy : (ℕ → ℕ → ℕ) → List ℕ → ℕ → ℕ → ℕ → List ℕ → ℕ
-checkBy next sy count signals cats im =
-    cond (formBy sy count signals cats im)
-    (cond (eqb (pairIn im 0) 0)
-    (cond (all (stateCount im) (rowRightBy next count im)) 0 17) 16) 15

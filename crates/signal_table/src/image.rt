@@ -5,7 +5,8 @@ ghost use lib.ListN.{getD};
 ghost use Rattle.resolution.specs.Lists.{all};
 ghost use Rattle.machine_image.specs.Image.{symbolCount, stateCount, placeOf, signalIn, targetIn};
 ghost use Rattle.machine_image.specs.Refusals.{targetBelow};
-ghost use Rattle.signal_table.specs.States.{nextPair, pairIn, stateFormedBy, formBy, rowRightBy, checkBy};
+ghost use Rattle.signal_table.specs.States.{nextPair};
+ghost use Rattle.signal_table.specs.Checks.{pairIn, stateFormedBy, formBy, rowRightBy, checkBy};
 
 // The byte at i, or 0 past the end.
 fn byte(im: &[u8], i: usize) -> u8

@@ -7,6 +7,7 @@ ghost use Rattle.signal_table.specs.Built.{refused};
 ghost use Rattle.signal_table.specs.States.{nextPair, builtBy, bufferBy};
 
 // What a build answers: its refusal number, and the image's length, 0 if refused.
+#[repr(C)]
 pub struct Built {
     pub refusal: u8,
     pub len: usize,

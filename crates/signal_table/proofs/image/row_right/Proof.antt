@@ -3,7 +3,8 @@ use Prim.Native.Nat.{_≤_, _-_}
 use mathlib.Core.Path.{_≡_, refl}
 use mathlib.Core.Bool.{true}
 use Rattle.resolution.specs.Lists.{all}
-use Rattle.signal_table.specs.States.{nextPair, targetRightBy, rowRightBy}
+use Rattle.signal_table.specs.States.{nextPair}
+use Rattle.signal_table.specs.Checks.{targetRightBy, rowRightBy}
 use Rattle.signal_table.proofs.ImageLaws.{all-more, all-done, right-no, right-yes}
 use borrow.Author.Needs.{needs}
 use Rattle.signal_table.proofs.image.row_right.Statement.{statement}

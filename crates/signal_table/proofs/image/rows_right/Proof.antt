@@ -5,7 +5,8 @@ use mathlib.Core.Path.{_≡_, refl, sym, _∙_}
 use mathlib.Core.Bool.{true}
 use Rattle.resolution.specs.Lists.{all}
 use Rattle.resolution.proofs.Lists.{all-stop}
-use Rattle.signal_table.specs.States.{nextPair, rowRightBy}
+use Rattle.signal_table.specs.States.{nextPair}
+use Rattle.signal_table.specs.Checks.{rowRightBy}
 use Rattle.signal_table.proofs.ImageLaws.{all-more, all-done}
 use borrow.Author.Needs.{needs}
 use Rattle.signal_table.proofs.image.rows_right.Statement.{statement}

@@ -6,7 +6,7 @@ use mathlib.Core.Bool.{true}
 use Rattle.resolution.specs.Lists.{all}
 use Rattle.resolution.proofs.Lists.{all-stop}
 use Rattle.machine_image.specs.Image.{stateCount}
-use Rattle.signal_table.specs.States.{stateFormedBy}
+use Rattle.signal_table.specs.Checks.{stateFormedBy}
 use Rattle.signal_table.proofs.ImageLaws.{all-more, all-done}
 use borrow.Author.Needs.{needs}
 use Rattle.signal_table.proofs.image.states_formed.Statement.{statement}

@@ -128,11 +128,15 @@ loop-again : tie.Need-loop-again Inv-loop μ-loop
 loop-again c = let l = c .before .before .before .before .before .before .before .before .before .before .before .before .loop in
     let a = c .before .before .before .before .before .before .before .before .before .before .before .before .before .before .args in
     let names = tabulate (stretch (a .t .now) (a .name-at .now) (a .name-len .now)) (a .n) in
-    let h : c .before .before .before .before .before .before .before .name-index .result < length names = omega (arith, c .before .before .before .before .before .before .if1 .taken, tabulate-length (stretch (a .t .now) (a .name-at .now) (a .name-len .now)) (a .n)) in
-    (omega arith, length-set (l .category) (l .i) (c .before .before .before .before .small .result) ∙ l .inv .1, length-set (l .path-at) (l .i) (c .before .short .result) ∙ l .inv .2, length-set (l .path-len) (l .i) (c .small2 .result) ∙ l .inv .3,
-    all-next _ _ _ (l .inv .4) (sym (urn-listed names (c .before .before .before .before .before .before .before .before .before .find .ensures) (c .before .before .before .before .before .before .before .name-index .ensures .0) (c .before .before .before .before .before .before .before .before .before .before .urn-text .ensures .0) h)) refl,
-    urn-put (a .t .now) names (a .at .now) (a .len .now) (l .i) (l .category) (l .path-at) (l .path-len) (l .inv .5) (omega arith) (omega arith) (omega arith)
-    (c .before .before .before .before .before .before .before .before .before .find .ensures) (c .before .before .before .before .before .before .before .name-index .ensures .0) (c .before .before .before .before .before .before .before .before .before .before .urn-text .ensures .0) h (c .before .before .before .before .before .path-start .ensures) (c .before .before .before .before .small .ensures) (c .before .before .wider .ensures .0) (c .before .short .ensures) (c .small2 .ensures))
+    let h : c .before .before .before .before .before .before .before .name-index .result < length names = omega (arith, c .before .before .before .before .before .before .if1 .taken, tabulate-length (stretch (a .t .now) (a .name-at .now) (a .name-len .now)) (a .n)) in (
+      omega arith,
+      length-set (l .category) (l .i) (c .before .before .before .before .small .result) ∙ l .inv .1,
+      length-set (l .path-at) (l .i) (c .before .short .result) ∙ l .inv .2,
+      length-set (l .path-len) (l .i) (c .small2 .result) ∙ l .inv .3,
+      all-next _ _ _ (l .inv .4) (sym (urn-listed names (c .before .before .before .before .before .before .before .before .before .find .ensures) (c .before .before .before .before .before .before .before .name-index .ensures .0) (c .before .before .before .before .before .before .before .before .before .before .urn-text .ensures .0) h)) refl,
+      urn-put (a .t .now) names (a .at .now) (a .len .now) (l .i) (l .category) (l .path-at) (l .path-len) (l .inv .5) (omega arith) (omega arith) (omega arith)
+          (c .before .before .before .before .before .before .before .before .before .find .ensures) (c .before .before .before .before .before .before .before .name-index .ensures .0) (c .before .before .before .before .before .before .before .before .before .before .urn-text .ensures .0) h (c .before .before .before .before .before .path-start .ensures) (c .before .before .before .before .small .ensures) (c .before .before .wider .ensures .0) (c .before .short .ensures) (c .small2 .ensures),
+    )
 
 -- src/categories.rt:74:13
 returns : tie.Need-returns Inv-loop μ-loop

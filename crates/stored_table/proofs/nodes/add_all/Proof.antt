@@ -91,9 +91,13 @@ loop-again c = let a = c .before .before .before .before .before .before .before
     let l = c .before .before .before .before .before .before .before .before .before .before .before .before .before .before .loop in
     let e = ap₂ (λ x y. urn (getD (a .category .now) (l .i) 0) (fields 58 (take y (drop x (a .t .now))))) (c .before .before .before .before .before .before .before .before .before .before .before .wider .ensures .0) (c .before .before .before .before .before .before .before .before .before .wide .ensures .0) in
     let A = c .before .before .before .add-urn .ensures .0 (tabulate f (l .i)) (l .inv .3) in
-    let h : l .i < length (l .node) = omega (arith, l .inv .2) in
-    (omega arith, c .before .before .before .add-urn .ensures .1 .1, length-set (l .node) (l .i) (c .small .result) ∙ l .inv .2,
-    all-nodes (a .t .now) f (l .i) e A (l .node) (l .inv .4) (c .before .if1 .left) h (c .small .ensures), all-numbered (a .t .now) f (l .i) e A (l .node) (l .inv .4) (c .before .if1 .left) h (c .small .ensures))
+    let h : l .i < length (l .node) = omega (arith, l .inv .2) in (
+      omega arith,
+      c .before .before .before .add-urn .ensures .1 .1,
+      length-set (l .node) (l .i) (c .small .result) ∙ l .inv .2,
+      all-nodes (a .t .now) f (l .i) e A (l .node) (l .inv .4) (c .before .if1 .left) h (c .small .ensures),
+      all-numbered (a .t .now) f (l .i) e A (l .node) (l .inv .4) (c .before .if1 .left) h (c .small .ensures),
+    )
 
 -- src/nodes.rt:113:1
 returns-2 : tie.Need-returns-2 Inv-loop μ-loop

@@ -78,9 +78,13 @@ loop-less c = omega (arith, next-le (c .before .before .before .before .before .
 loop-again : tie.Need-loop-again Inv-loop μ-loop
 loop-again c = let a = c .before .before .before .before .before .before .before .before .before .before .before .before .before .before .before .before .before .before .before .args in
     let w = c .before .before .before .before .before .before .before .before .before .before .before .before .before .before .before .before .before .part .result .now in
-    let l = c .before .before .before .before .before .before .before .before .before .before .loop in
-    (next-le w (l .i) (c .before .before .before .before .before .find2 .result) (c .before .before .before .before .before .find2 .ensures) (c .before .before .before .before .before .before .before .before .before .loop-test .taken), colon-next w (l .i) (c .before .before .before .before .before .find2 .result) (c .before .before .before .before .before .find2 .ensures), c .add-node2 .ensures .1 .0, c .add-node2 .ensures .1 .1,
-    λ ns D. path-more (a .t .now) w (a .c) (a .from) (a .k) (c .before .before .before .before .before .before .before .before .before .before .before .before .before .before .before .before .before .part .ensures) ns (l .i) (l .inv .4 ns D) (c .before .before .before .before .before .find2 .result) (c .before .before .before .before .before .before .before .before .before .loop-test .taken) (l .inv .1 (c .before .before .before .before .before .before .before .before .before .loop-test .taken)) (c .before .before .before .before .before .find2 .ensures) (c .before .before .before .before .before .before .before .if1 .left) (c .add-node2 .ensures .0))
+    let l = c .before .before .before .before .before .before .before .before .before .before .loop in (
+      next-le w (l .i) (c .before .before .before .before .before .find2 .result) (c .before .before .before .before .before .find2 .ensures) (c .before .before .before .before .before .before .before .before .before .loop-test .taken),
+      colon-next w (l .i) (c .before .before .before .before .before .find2 .result) (c .before .before .before .before .before .find2 .ensures),
+      c .add-node2 .ensures .1 .0,
+      c .add-node2 .ensures .1 .1,
+      λ ns D. path-more (a .t .now) w (a .c) (a .from) (a .k) (c .before .before .before .before .before .before .before .before .before .before .before .before .before .before .before .before .before .part .ensures) ns (l .i) (l .inv .4 ns D) (c .before .before .before .before .before .find2 .result) (c .before .before .before .before .before .before .before .before .before .loop-test .taken) (l .inv .1 (c .before .before .before .before .before .before .before .before .before .loop-test .taken)) (c .before .before .before .before .before .find2 .ensures) (c .before .before .before .before .before .before .before .if1 .left) (c .add-node2 .ensures .0),
+    )
 
 -- src/nodes.rt:79:1
 returns-2 : tie.Need-returns-2 Inv-loop μ-loop

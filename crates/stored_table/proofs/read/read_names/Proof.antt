@@ -79,9 +79,12 @@ loop-again c = let at = c .before .before .before .before .before .before .befor
     let len = c .before .before .before .before .before .before .before .loop .len in
     let i = c .before .before .before .before .before .before .before .loop .i in
     let h : i < length at = omega arith in
-    let k : i < length len = omega arith in
-    (omega arith, length-set at i (c .before .short .result) ∙ c .before .before .before .before .before .before .before .loop .inv .1, length-set len i (c .small .result) ∙ c .before .before .before .before .before .before .before .loop .inv .2,
-    run-more _ _ _ _ _ _ _ (c .before .before .before .before .before .before .before .loop .inv .3) _ _ _ (c .before .before .before .before .before .before .loop-test .taken) (text-was _ _ _ (c .before .before .before .before .before .read-text .ensures .0) (c .before .before .before .got2 .given .1)) (λ j l. stretch-keep _ at len i _ _ j l) (stored-text _ at len i _ _ (c .before .short .ensures) (c .small .ensures) h k))
+    let k : i < length len = omega arith in (
+      omega arith,
+      length-set at i (c .before .short .result) ∙ c .before .before .before .before .before .before .before .loop .inv .1,
+      length-set len i (c .small .result) ∙ c .before .before .before .before .before .before .before .loop .inv .2,
+      run-more _ _ _ _ _ _ _ (c .before .before .before .before .before .before .before .loop .inv .3) _ _ _ (c .before .before .before .before .before .before .loop-test .taken) (text-was _ _ _ (c .before .before .before .before .before .read-text .ensures .0) (c .before .before .before .got2 .given .1)) (λ j l. stretch-keep _ at len i _ _ j l) (stored-text _ at len i _ _ (c .before .short .ensures) (c .small .ensures) h k),
+    )
 
 -- src/read.rt:79:1
 returns-2 : tie.Need-returns-2 Inv-loop μ-loop

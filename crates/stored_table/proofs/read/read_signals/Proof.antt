@@ -55,9 +55,14 @@ loop-less c = omega arith
 
 -- src/read.rt:151:5
 loop-again : tie.Need-loop-again Inv-loop μ-loop
-loop-again c = let k = at-most-got _ _ (c .before .before .before .read-signal .ensures .1 .0) (c .before .got2 .given .1) in
-    (omega arith, omega (arith, k), c .before .before .before .read-signal .ensures .1 .1, c .before .before .before .read-signal .ensures .1 .2, c .before .before .before .read-signal .ensures .1 .3,
-    signals-more _ _ _ _ _ _ _ (c .before .before .before .before .before .before .before .before .before .loop .inv .5) _ _ _ (c .before .before .before .before .before .before .before .before .loop-test .taken) (c .before .before .before .before .before .before .before .small .ensures) (c .before .before .before .read-signal .ensures .0) (c .before .got2 .given .1))
+loop-again c = let k = at-most-got _ _ (c .before .before .before .read-signal .ensures .1 .0) (c .before .got2 .given .1) in (
+  omega arith,
+  omega (arith, k),
+  c .before .before .before .read-signal .ensures .1 .1,
+  c .before .before .before .read-signal .ensures .1 .2,
+  c .before .before .before .read-signal .ensures .1 .3,
+  signals-more _ _ _ _ _ _ _ (c .before .before .before .before .before .before .before .before .before .loop .inv .5) _ _ _ (c .before .before .before .before .before .before .before .before .loop-test .taken) (c .before .before .before .before .before .before .before .small .ensures) (c .before .before .before .read-signal .ensures .0) (c .before .got2 .given .1),
+)
 
 -- src/read.rt:143:1
 returns-2 : tie.Need-returns-2 Inv-loop μ-loop

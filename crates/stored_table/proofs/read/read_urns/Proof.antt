@@ -85,9 +85,13 @@ loop-again c = let at = c .before .before .before .before .before .before .befor
     let i = c .before .before .before .before .before .before .before .loop .i in
     let h : i < length at = omega arith in
     let k : i < length len = omega arith in
-    let l : i < length signal = omega arith in
-    (omega arith, length-set at i (c .before .short .result) ∙ c .before .before .before .before .before .before .before .loop .inv .1, length-set len i (c .small .result) ∙ c .before .before .before .before .before .before .before .loop .inv .2, length-set signal i (c .before .before .before .before .before .before .before .before .before .args .s) ∙ c .before .before .before .before .before .before .before .loop .inv .3,
-    run-more _ _ _ _ _ _ _ (c .before .before .before .before .before .before .before .loop .inv .4) _ _ _ (c .before .before .before .before .before .before .loop-test .taken) (text-was _ _ _ (c .before .before .before .before .before .read-text .ensures .0) (c .before .before .before .got2 .given .1)) (λ j l. urn-keep _ signal at len i _ _ _ j l) (stored-urn _ signal at len i _ _ _ (c .before .short .ensures) (c .small .ensures) l h k))
+    let l : i < length signal = omega arith in (
+      omega arith,
+      length-set at i (c .before .short .result) ∙ c .before .before .before .before .before .before .before .loop .inv .1,
+      length-set len i (c .small .result) ∙ c .before .before .before .before .before .before .before .loop .inv .2,
+      length-set signal i (c .before .before .before .before .before .before .before .before .before .args .s) ∙ c .before .before .before .before .before .before .before .loop .inv .3,
+      run-more _ _ _ _ _ _ _ (c .before .before .before .before .before .before .before .loop .inv .4) _ _ _ (c .before .before .before .before .before .before .loop-test .taken) (text-was _ _ _ (c .before .before .before .before .before .read-text .ensures .0) (c .before .before .before .got2 .given .1)) (λ j l. urn-keep _ signal at len i _ _ _ j l) (stored-urn _ signal at len i _ _ _ (c .before .short .ensures) (c .small .ensures) l h k),
+    )
 
 -- src/read.rt:104:1
 returns-2 : tie.Need-returns-2 Inv-loop μ-loop

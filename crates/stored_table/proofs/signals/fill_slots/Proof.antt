@@ -85,10 +85,12 @@ loop-again c = let a = c .before .before .before .before .before .before .before
     let y = c .before .before .before .wide2 .result in
     let l = c .before .before .before .before .before .before .before .before .loop in
     let h : y < 8 = omega (arith, c .before .before .before .wide2 .ensures .0, c .before .before .before .before .before .before .before .before .before .pre .4 _ (c .before .before .before .before .before .before .before .loop-test .taken)) in
-    let k : 8 * x + y < length (l .slots) = omega (arith, c .before .before .before .before .before .wide .ensures .0, c .before .before .before .before .before .before .before .before .before .pre .3 _ (c .before .before .before .before .before .before .before .loop-test .taken), h, l .inv .1) in
-    (omega arith, length-set (l .slots) (8 * x + y) (c .short .result) ∙ l .inv .1,
-    slot-once (a .signal .now) (a .category .now) (l .slots) (l .i) (a .m) x y (c .before .before .before .before .before .wide .ensures .0) (c .before .before .before .wide2 .ensures .0) h (l .inv .3) (l .inv .2) (c .before .if1 .taken),
-    slot-put (a .signal .now) (a .category .now) (l .slots) (l .i) (a .m) x y (c .before .before .before .before .before .wide .ensures .0) (c .before .before .before .wide2 .ensures .0) h (l .inv .3) _ (c .short .ensures) k)
+    let k : 8 * x + y < length (l .slots) = omega (arith, c .before .before .before .before .before .wide .ensures .0, c .before .before .before .before .before .before .before .before .before .pre .3 _ (c .before .before .before .before .before .before .before .loop-test .taken), h, l .inv .1) in (
+      omega arith,
+      length-set (l .slots) (8 * x + y) (c .short .result) ∙ l .inv .1,
+      slot-once (a .signal .now) (a .category .now) (l .slots) (l .i) (a .m) x y (c .before .before .before .before .before .wide .ensures .0) (c .before .before .before .wide2 .ensures .0) h (l .inv .3) (l .inv .2) (c .before .if1 .taken),
+      slot-put (a .signal .now) (a .category .now) (l .slots) (l .i) (a .m) x y (c .before .before .before .before .before .wide .ensures .0) (c .before .before .before .wide2 .ensures .0) h (l .inv .3) _ (c .short .ensures) k,
+    )
 
 -- src/signals.rt:23:13
 returns : tie.Need-returns Inv-loop μ-loop

@@ -1,0 +1,89 @@
+-- What the builder and the checker answer for a stored table, from its decoded arrays.
+use Prim.Native.Nat.{ℕ, _≤_, _<_}
+use mathlib.Core.Path.{_≡_, refl, sym, ap, subst, _∙_}
+use mathlib.Core.Bool.{Bool, true, false, cond}
+use mathlib.Core.List.{List}
+use lib.Dec.{eqb}
+use borrow.Author.Tests.{eq-eqb, ne-eqb}
+use lib.ListN.{length, replicate}
+use native.Mathlib.Omega.{arith}
+use Rattle.resolution.specs.Names.{Parts}
+use Rattle.resolution.specs.Nodes.{nodes, isNode}
+use Rattle.resolution.proofs.Nodes.{urn-node}
+use Rattle.resolution.specs.Table.{Table}
+use Rattle.resolution.proofs.SymbolCount.{few-symbols}
+use Rattle.machine_image.specs.Refusals.{bufferOf, checkOf}
+use Rattle.stored_table.specs.Tables.{tableOf, tableRefusal}
+use Rattle.stored_table.specs.Decoded.{Holds, Means}
+use Rattle.stored_table.specs.Accepted.{Accepted}
+use Rattle.stored_table.specs.declared.Decoded.{Decoded}
+use Rattle.stored_table.proofs.Accepting.{accepted}
+use Rattle.signal_table.specs.Built.{refused, builtOf, builtFrom, bufferFrom, checkFrom}
+use Rattle.signal_table.specs.Listed.{tripleLists, fewer, Listed, SymbolsIn}
+use Rattle.signal_table.specs.States.{nextPair, builtBy, bufferBy}
+use Rattle.signal_table.specs.Checks.{checkBy}
+use Rattle.signal_table.proofs.SymbolsRight.{symbols-in}
+use Rattle.signal_table.proofs.BuildRight.{built-right, buffer-right}
+use Rattle.signal_table.proofs.CheckRight.{check-right}
+
+module _ (t : List ℕ) (r : Decoded) (m : Means t r) where
+  -- a refused table
+  module _ (n : r .refusal ≡ 0 → ⊥) where
+    other : eqb (tableRefusal t) 0 ≡ false
+    other = ne-eqb (tableRefusal t) 0 (λ z. n (m .refusal ∙ z))
+
+    pub refused-built : (room : ℕ) → refused (r .refusal) ≡ builtFrom t room
+    unfolding builtFrom
+    refused-built room = ap refused (m .refusal) ∙ sym (rw other)
+
+    pub refused-buffer : (room : ℕ) → replicate room 0 ≡ bufferFrom t room
+    unfolding bufferFrom
+    refused-buffer room = sym (rw other)
+
+    pub refused-check : (im : List ℕ) → r .refusal ≡ checkFrom t im
+    unfolding checkFrom
+    refused-check im = m .refusal ∙ sym (rw other)
+
+  -- a well-formed one, with its symbols listed
+  module _ (z : r .refusal ≡ 0) (sy : List ℕ) (count : ℕ)
+      (v : Listed sy count (tripleLists (r .category) (r .parent) (fewer (r .nodes) 64) (fewer (r .categories) 8))) where
+    well : tableRefusal t ≡ 0
+    well = sym (m .refusal) ∙ z
+
+    same : eqb (tableRefusal t) 0 ≡ true
+    same = eq-eqb (tableRefusal t) 0 well
+
+    held : Holds t (tableOf t) r
+    held = m .holds well
+
+    all-well : Accepted (tableOf t)
+    all-well = accepted t well
+
+    -- each category has a node
+    all-used : (c : ℕ) → c < tableOf t .cats → (p : Parts) × (isNode (nodes (tableOf t)) c p ≡ true)
+    all-used c h =
+        let w = all-well .used c h in
+        (w .2 .path, ap (λ z. isNode (nodes (tableOf t)) z (w .2 .path)) (sym (w .4)) ∙ urn-node (tableOf t) (w .0) (w .2) (w .1) (w .3) (all-well .some-part (w .0) (w .1) (w .2) (w .3)))
+
+    pub table-symbols : SymbolsIn (tableOf t) sy count
+    table-symbols =
+        symbols-in t (r .category) (r .at) (r .len) (r .nodes) (tableOf t) (held .nodes) (r .rows) (r .parent) (r .signals) (held .numbers) sy count
+        (omega (arith, few-symbols (tableOf t) all-used, all-well .few-nodes))
+        (subst (λ (k : ℕ). Listed sy count (tripleLists (r .category) (r .parent) (fewer (r .nodes) 64) (fewer k 8))) (held .categories) v)
+
+    pub table-built : (room : ℕ) → builtBy (nextPair (r .rows) (r .parent) (r .signals) sy) count room ≡ builtFrom t room
+    unfolding builtFrom
+    table-built room =
+        built-right (tableOf t) (held .well-formed) (r .rows) (r .parent) (r .signals) (held .numbers) sy count table-symbols room ∙ sym (rw same)
+
+    pub table-buffer : (room : ℕ) → bufferBy (nextPair (r .rows) (r .parent) (r .signals) sy) count sy room ≡ bufferFrom t room
+    unfolding bufferFrom
+    table-buffer room =
+        buffer-right (tableOf t) (held .well-formed) (r .rows) (r .parent) (r .signals) (held .numbers) sy count table-symbols room ∙ sym (rw same)
+
+    pub table-check : (im : List ℕ) → checkBy (nextPair (r .rows) (r .parent) (r .signals) sy) sy count (r .signals) (r .categories) im ≡ checkFrom t im
+    unfolding checkFrom
+    table-check im =
+        ap (λ k. checkBy (nextPair (r .rows) (r .parent) (r .signals) sy) sy count (r .signals) k im) (held .categories)
+        ∙ check-right (tableOf t) (held .well-formed) (all-well .rows) (r .rows) (r .parent) (r .signals) (held .numbers) sy count table-symbols im
+        ∙ sym (rw same)
