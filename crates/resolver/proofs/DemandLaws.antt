@@ -27,7 +27,7 @@ use Rattle.machine_image.proofs.Check.{check-to}
 use Rattle.machine_image.proofs.Walk.{image-claim}
 use Rattle.stored_table.specs.Tables.{tableRefusal, tableOf, categoryNames}
 use Rattle.stored_table.proofs.Accepting.{accepted}
-use Rattle.signal_table.specs.Tables.{builtOf, bufferOf, checkOf}
+use Rattle.signal_table.specs.Built.{refused as without, builtOf, builtFrom, bufferFrom, checkFrom}
 use Rattle.resolver.specs.declared.Resolution.{Resolution}
 use Rattle.resolver.specs.Resolve.{takenAs, directSignal, walkedSignal, refused, answered, unlessRefused, plainOf, machineOf}
 use Rattle.resolver.specs.Demands.{Demand1, WalkClaim, Demand3, DemandOne, DemandThree}
@@ -60,15 +60,15 @@ machine-refused t im v = by-number t v _ (go (image.formOf (tableOf t) im))
     go true n = absurd (n refl)
     go false n = refl
 
-build-refused : (t : List ℕ) (room : ℕ) → (builtOf t room .refusal ≡ 0 → ⊥) → (builtOf t room .len ≡ 0) × (bufferOf t room ≡ replicate room 0)
-unfolding builtOf bufferOf buildLength image.bufferOf
+build-refused : (t : List ℕ) (room : ℕ) → (builtFrom t room .refusal ≡ 0 → ⊥) → (builtFrom t room .len ≡ 0) × (bufferFrom t room ≡ replicate room 0)
+unfolding builtFrom bufferFrom buildLength image.bufferOf
 build-refused t room = go (eqb (tableRefusal t) 0)
   where
     T : Table
     T = tableOf t
 
-    go : (b : Bool) → (cond b (buildRefusal T room) (tableRefusal t) ≡ 0 → ⊥)
-        → (cond b (buildLength T room) 0 ≡ 0) × (cond b (image.bufferOf T room) (replicate room 0) ≡ replicate room 0)
+    go : (b : Bool) → (cond b (builtOf T room) (without (tableRefusal t)) .refusal ≡ 0 → ⊥)
+        → (cond b (builtOf T room) (without (tableRefusal t)) .len ≡ 0) × (cond b (image.bufferOf T room) (replicate room 0) ≡ replicate room 0)
     go true n = let z : eqb (buildRefusal T room) 0 ≡ false = ne-eqb (buildRefusal T room) 0 n in (simp z, simp z)
     go false n = (refl, refl)
 
@@ -103,11 +103,11 @@ changes-map signalOf next g s [] = refl
 changes-map signalOf next g s (a ∷ l) = ap (λ n. changed (eqb (signalOf (next s (g a))) (signalOf s)) + n) (changes-map signalOf next g (next s (g a)) l)
 
 module _ (t : List ℕ) (ok : tableRefusal t ≡ 0) where
-  check-image : (im : List ℕ) → checkOf t im ≡ image.checkOf (tableOf t) im
-  unfolding checkOf
+  check-image : (im : List ℕ) → checkFrom t im ≡ image.checkOf (tableOf t) im
+  unfolding checkFrom
   check-image im = simp (eq-eqb (tableRefusal t) 0 ok)
 
-  walk-claim : (im : List ℕ) → checkOf t im ≡ 0 → (before after : List (List ℕ)) → WalkClaim t im before after
+  walk-claim : (im : List ℕ) → checkFrom t im ≡ 0 → (before after : List (List ℕ)) → WalkClaim t im before after
   walk-claim im e before after =
       record {
         agrees = c .agrees;
@@ -127,31 +127,31 @@ module _ (t : List ℕ) (ok : tableRefusal t ≡ 0) where
       c = image-claim (tableOf t) (accepted t ok .well) im (sym (check-image im) ∙ e) (takenAs t before) (takenAs t after) used
 
   -- the walk's signal over any list is direct resolution's
-  same-signal : (im : List ℕ) → checkOf t im ≡ 0 → (l : List (List ℕ)) → walkedSignal t im l ≡ directSignal t l
+  same-signal : (im : List ℕ) → checkFrom t im ≡ 0 → (l : List (List ℕ)) → walkedSignal t im l ≡ directSignal t l
   same-signal im e l = walk-claim im e l [] .agrees
 
-  form-right : (im : List ℕ) → checkOf t im ≡ 0 → image.formOf (tableOf t) im ≡ true
+  form-right : (im : List ℕ) → checkFrom t im ≡ 0 → image.formOf (tableOf t) im ≡ true
   form-right im e = check-to (tableOf t) im (sym (check-image im) ∙ e) .0
 
-  alike : (im : List ℕ) → checkOf t im ≡ 0 → (v : List ℕ) → machineOf t im v ≡ plainOf t v
+  alike : (im : List ℕ) → checkFrom t im ≡ 0 → (v : List ℕ) → machineOf t im v ≡ plainOf t v
   unfolding machineOf plainOf
   alike im e v =
       ap (λ b. unlessRefused t v (cond b (answered t (urisOf v) (walkedSignal t im (urisOf v))) (refused 15))) (form-right im e)
       ∙ ap (λ s. unlessRefused t v (answered t (urisOf v) s)) (same-signal im e (urisOf v))
 
-  answers : (im : List ℕ) → checkOf t im ≡ 0 → (v : List ℕ) → refusalOf v ≡ 0 → plainOf t v ≡ answered t (urisOf v) (walkedSignal t im (urisOf v))
+  answers : (im : List ℕ) → checkFrom t im ≡ 0 → (v : List ℕ) → refusalOf v ≡ 0 → plainOf t v ≡ answered t (urisOf v) (walkedSignal t im (urisOf v))
   unfolding plainOf
   answers im e v z = simp (eq-eqb (refusalOf v) 0 z, eq-eqb (tableRefusal t) 0 ok) (ap (answered t (urisOf v)) (sym (same-signal im e (urisOf v))))
 
   builds : (ReachableOver (tableOf t) 256 → ⊥) → (room : ℕ) → length (machineImage (tableOf t)) ≤ room
-      → (builtOf t room .refusal ≡ 0) × (checkOf t (take (builtOf t room .len) (bufferOf t room)) ≡ 0)
-  unfolding builtOf bufferOf
+      → (builtFrom t room .refusal ≡ 0) × (checkFrom t (take (builtFrom t room .len) (bufferFrom t room)) ≡ 0)
+  unfolding builtFrom bufferFrom
   builds few room h =
       let b = build-fits (tableOf t) room (few-found (tableOf t) few) h in
       simp (eq-eqb (tableRefusal t) 0 ok)
       (b .0,
-      ap₂ (λ n l. checkOf t (take n l)) (b .1) (b .2)
-      ∙ ap (checkOf t) (take-at (machineImage (tableOf t)) (replicate (room - length (machineImage (tableOf t))) 0) (length (machineImage (tableOf t))) refl)
+      ap₂ (λ n l. checkFrom t (take n l)) (b .1) (b .2)
+      ∙ ap (checkFrom t) (take-at (machineImage (tableOf t)) (replicate (room - length (machineImage (tableOf t))) 0) (length (machineImage (tableOf t))) refl)
       ∙ check-image (machineImage (tableOf t))
       ∙ reachable-accepted (tableOf t) (accepted t ok .well) few)
 

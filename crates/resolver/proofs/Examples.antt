@@ -16,10 +16,10 @@ use Rattle.machine_image.specs.Refusals.{buildLength, buildRefusal}
 use Rattle.machine_image.specs.Refusals as image
 use Rattle.stored_table.specs.Stored.{andThen, byteIn, counted, stored, storedFrom, text, times}
 use Rattle.stored_table.specs.Tables.{any, categoryNames, distinct, fewNodes, formed, isListed, judged, judgedRead, listed, namesRead, noTwo, plain, single, tableOf, tableRead, tableRefusal, uses, verdict}
-use Rattle.signal_table.specs.Tables.{builtOf, bufferOf}
+use Rattle.signal_table.specs.Built.{builtFrom, bufferFrom}
 use Rattle.resolver.specs.Resolve.{plainOf}
 use Rattle.resolver.specs.Examples.{Marked}
 
 pub marked : Marked
-unfolding isBlank isEscapable isText isToken isUri blankAt endingAt endingStep entryAt followingAt paramAt quoteAt quotedAt quotedFrom quotedStep settingAt tokenAt whiteAt whiteStep readingFrom readingOf refusalOf spansOf urisOf valueStep run runAt walk walkAt all fields labelByte labelOk nameOk onFirst past upTo alertUrn begins bytes bytesFrom restOk urnOk usedUrn step discover expand tabulate deepest leaf nodes imageOf joined image.bufferOf buildLength buildRefusal andThen byteIn counted stored storedFrom text times any categoryNames distinct fewNodes formed isListed judged judgedRead listed namesRead noTwo plain single tableOf tableRead tableRefusal uses verdict builtOf bufferOf plainOf
+unfolding isBlank isEscapable isText isToken isUri blankAt endingAt endingStep entryAt followingAt paramAt quoteAt quotedAt quotedFrom quotedStep settingAt tokenAt whiteAt whiteStep readingFrom readingOf refusalOf spansOf urisOf valueStep run runAt walk walkAt all fields labelByte labelOk nameOk onFirst past upTo alertUrn begins bytes bytesFrom restOk urnOk usedUrn step discover expand tabulate deepest leaf nodes imageOf joined image.bufferOf buildLength buildRefusal andThen byteIn counted stored storedFrom text times any categoryNames distinct fewNodes formed isListed judged judgedRead listed namesRead noTwo plain single tableOf tableRead tableRefusal uses verdict builtFrom bufferFrom plainOf
 marked = refl

@@ -1,6 +1,6 @@
 -- The walk of an image over a whole value.
 use Prim.Native.Nat.{ℕ, _≤_, _<_}
-use mathlib.Core.Path.{_≡_, refl, sym, ap, subst, _∙_}
+use mathlib.Core.Path.{_≡_, refl, sym, ap, _∙_}
 use mathlib.Core.Bool.{Bool, true, false, cond}
 use mathlib.Core.List.{List}
 use lib.ListN.{length}
@@ -14,19 +14,18 @@ use Rattle.machine_image.specs.Image.{signalIn, targetIn}
 use Rattle.machine_image.specs.Refusals.{formOf}
 use Rattle.machine_image.specs.Walk.{stepIn, walkIn}
 use Rattle.stored_table.specs.Tables.{tableRefusal, tableOf}
-use Rattle.stored_table.specs.Decoded.{Holds}
+use Rattle.stored_table.specs.Decoded.{Holds, Means}
 use Rattle.stored_table.specs.declared.Decoded.{Decoded}
 use Rattle.resolver.specs.declared.run.Current.{Current}
 use Rattle.resolver.specs.declared.run.Current.the-variants.{Walk}
 use Rattle.resolver.specs.Resolve.{takenAs, refused, answered, walkedSignal, unlessRefused, machineOf}
 use Rattle.resolver.specs.Run.{Machine, resolvedFrom}
-use Rattle.resolver.proofs.TableLaws.{few-symbols}
 use Rattle.resolver.proofs.FoldLaws.{Steps}
 use Rattle.resolver.proofs.AnswerLaws.{value-refused, refused-first, resolved-right}
 use Rattle.stored_table.proofs.Accepting.{accepted}
 use Rattle.signal_table.specs.Listed.{SymbolsIn, Listed, tripleLists, fewer}
-use Rattle.signal_table.specs.States.{formBy}
-use Rattle.signal_table.proofs.SymbolsRight.{symbols-in}
+use Rattle.signal_table.specs.Checks.{formBy}
+use Rattle.signal_table.proofs.TableRight.{table-symbols}
 use Rattle.signal_table.proofs.CheckRight.{form-right}
 use Rattle.signal_table.proofs.NumberRight.{number-right}
 
@@ -68,15 +67,18 @@ module _ (t im v : List ℕ) where
       (λ q. simp q)
 
 -- the listed symbols, and the form of an image, of a decoded table
-module _ (t : List ℕ) (d : Decoded) (z : tableRefusal t ≡ 0) (h : Holds t (tableOf t) d) {sy : List ℕ} {n : ℕ}
+module _ (t : List ℕ) (d : Decoded) (means : Means t d) (z : d .refusal ≡ 0) {sy : List ℕ} {n : ℕ}
     (listed : Listed sy n (tripleLists (d .category) (d .parent) (fewer (d .nodes) 64) (fewer (d .categories) 8))) where
+  well : tableRefusal t ≡ 0
+  well = sym (means .refusal) ∙ z
+
+  held : Holds t (tableOf t) d
+  held = means .holds well
+
   pub symbols-listed : SymbolsIn (tableOf t) sy n
-  symbols-listed =
-      symbols-in t (d .category) (d .at) (d .len) (d .nodes) (tableOf t) (h .nodes) (d .rows) (d .parent) (d .signals) (h .numbers) sy n
-      (few-symbols t z)
-      (subst (λ (k : ℕ). Listed sy n (tripleLists (d .category) (d .parent) (fewer (d .nodes) 64) (fewer k 8))) (h .categories) listed)
+  symbols-listed = table-symbols t d means z sy n listed
 
   pub form-listed : (im : List ℕ) {f : Bool} → f ≡ formBy sy n (d .signals) (d .categories) im → f ≡ formOf (tableOf t) im
   form-listed im e =
-      e ∙ ap (λ k. formBy sy n (d .signals) k im) (h .categories)
-      ∙ form-right (tableOf t) (h .well-formed) (accepted t z .rows) (d .rows) (d .parent) (d .signals) (h .numbers) sy n symbols-listed im
+      e ∙ ap (λ k. formBy sy n (d .signals) k im) (held .categories)
+      ∙ form-right (tableOf t) (held .well-formed) (accepted t well .rows) (d .rows) (d .parent) (d .signals) (held .numbers) sy n symbols-listed im

@@ -15,7 +15,7 @@ use Rattle.node_step.specs.Uses.{usedUrn}
 use Rattle.machine_image.specs.Image.{signalIn, machineImage}
 use Rattle.machine_image.specs.Walk.{stepIn}
 use Rattle.stored_table.specs.Tables.{tableRefusal, tableOf, categoryNames}
-use Rattle.signal_table.specs.Tables.{builtOf, bufferOf, checkOf}
+use Rattle.signal_table.specs.Built.{builtFrom, bufferFrom, checkFrom}
 use Rattle.resolver.specs.Resolve.{takenAs, directSignal, walkedSignal, refused, plainOf, machineOf}
 
 -- Demand 1: bad input is refused by a number, and nothing else comes of it. That every function answers for all bytes, with no
@@ -25,7 +25,7 @@ pub record Demand1 (t : List ℕ) : Type 0 where
   pub plain-refused : (v : List ℕ) → (plainOf t v .refusal ≡ 0 → ⊥) → plainOf t v ≡ refused (plainOf t v .refusal)
   pub machine-refused : (im v : List ℕ) → (machineOf t im v .refusal ≡ 0 → ⊥) → machineOf t im v ≡ refused (machineOf t im v .refusal)
   -- a refused build leaves the whole buffer zero, whatever its length
-  pub build-refused : (room : ℕ) → (builtOf t room .refusal ≡ 0 → ⊥) → (builtOf t room .len ≡ 0) × (bufferOf t room ≡ replicate room 0)
+  pub build-refused : (room : ℕ) → (builtFrom t room .refusal ≡ 0 → ⊥) → (builtFrom t room .len ≡ 0) × (bufferFrom t room ≡ replicate room 0)
 
 -- the walk of an image over a list of URIs as bytes, used and skipped, at the point between before and after
 pub record WalkClaim (t im : List ℕ) (before after : List (List ℕ)) : Type 0 where
@@ -43,13 +43,13 @@ pub record WalkClaim (t im : List ℕ) (before after : List (List ℕ)) : Type 0
 pub record Demand3 (t : List ℕ) : Type 0 where
   -- the build succeeds in every buffer that holds the image, and the checker accepts what it leaves there
   pub builds : (room : ℕ) → length (machineImage (tableOf t)) ≤ room
-      → (builtOf t room .refusal ≡ 0) × (checkOf t (take (builtOf t room .len) (bufferOf t room)) ≡ 0)
+      → (builtFrom t room .refusal ≡ 0) × (checkFrom t (take (builtFrom t room .len) (bufferFrom t room)) ≡ 0)
   -- for that image or any other that the checker accepts, over every list of URIs
-  pub walks : (im : List ℕ) → checkOf t im ≡ 0 → (before after : List (List ℕ)) → WalkClaim t im before after
+  pub walks : (im : List ℕ) → checkFrom t im ≡ 0 → (before after : List (List ℕ)) → WalkClaim t im before after
   -- for all bytes as a value both resolvers answer alike, in all four numbers
-  pub alike : (im : List ℕ) → checkOf t im ≡ 0 → (v : List ℕ) → machineOf t im v ≡ plainOf t v
+  pub alike : (im : List ℕ) → checkFrom t im ≡ 0 → (v : List ℕ) → machineOf t im v ≡ plainOf t v
   -- for an accepted value these are the walk's signal over the value's list, the numbers of its used and skipped entries, and 0
-  pub answers : (im : List ℕ) → checkOf t im ≡ 0 → (v : List ℕ) → refusalOf v ≡ 0
+  pub answers : (im : List ℕ) → checkFrom t im ≡ 0 → (v : List ℕ) → refusalOf v ≡ 0
       → plainOf t v
       ≡ record {
         refusal = 0;

@@ -5,7 +5,7 @@ use mathlib.Core.Path.{_≡_}
 use mathlib.Core.List.{List, [], _∷_, _++_, map}
 use lib.ListN.{length, take}
 use Rattle.alert_urn.specs.Urn.{bytes}
-use Rattle.signal_table.specs.Tables.{builtOf, bufferOf}
+use Rattle.signal_table.specs.Built.{builtFrom, bufferFrom}
 use Rattle.resolver.specs.declared.Resolution.{Resolution}
 use Rattle.resolver.specs.Resolve.{directSignal, plainOf}
 
@@ -62,7 +62,7 @@ numbers r = r .refusal ∷ r .signal ∷ r .used ∷ r .skipped ∷ []
 abbrev pub answer : List ℕ → Asked → List ℕ
 answer t (list l) = directSignal t (map bytes l) ∷ []
 answer t (value v) = numbers (plainOf t (bytes v))
-answer t (image room) = take (builtOf t room .len) (bufferOf t room)
+answer t (image room) = take (builtFrom t room .len) (bufferFrom t room)
 
 pub record Case : Type 0 where
   pub table : List ℕ
