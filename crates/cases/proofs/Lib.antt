@@ -1,2 +1,3 @@
 pub mod LineLaws
 mod NumberLaws
+mod Counted

@@ -27,8 +27,7 @@ unfolding takeTo
 take-short m [] = refl
 take-short m (b ∷ l) = go (eqb b m) (take-short m l)
   where
-    go : (x : Bool) → take (length (takeTo m l)) l ≡ takeTo m l
-        → take (length (cond x [] (b ∷ takeTo m l))) (b ∷ l) ≡ cond x [] (b ∷ takeTo m l)
+    go : (x : Bool) → take (length (takeTo m l)) l ≡ takeTo m l → take (length (cond x [] (b ∷ takeTo m l))) (b ∷ l) ≡ cond x [] (b ∷ takeTo m l)
     go true h = refl
     go false h = ap (λ (t : List ℕ). b ∷ t) h
 
@@ -37,14 +36,11 @@ unfolding takeTo dropPast
 drop-short m [] = refl
 drop-short m (b ∷ l) = go (eqb b m) (drop-short m l)
   where
-    go : (x : Bool) → drop (length (takeTo m l) + 1) l ≡ dropPast m l
-        → drop (length (cond x [] (b ∷ takeTo m l)) + 1) (b ∷ l) ≡ cond x l (dropPast m l)
+    go : (x : Bool) → drop (length (takeTo m l) + 1) l ≡ dropPast m l → drop (length (cond x [] (b ∷ takeTo m l)) + 1) (b ∷ l) ≡ cond x l (dropPast m l)
     go true h = refl
-    go false h = let e : suc (length (takeTo m l)) + 1 ≡ suc (length (takeTo m l) + 1) = omega arith in ap
-        (λ (n : ℕ). drop n (b ∷ l)) e ∙ h
+    go false h = let e : suc (length (takeTo m l)) + 1 ≡ suc (length (takeTo m l) + 1) = omega arith in ap (λ (n : ℕ). drop n (b ∷ l)) e ∙ h
 
-pub drop-none : (m : ℕ) (l : List ℕ) (at : ℕ) → at ≡ length (takeTo m l) → length l ≤ at
-    → take (length l - length l) (drop (length l) l) ≡ dropPast m l
+pub drop-none : (m : ℕ) (l : List ℕ) (at : ℕ) → at ≡ length (takeTo m l) → length l ≤ at → take (length l - length l) (drop (length l) l) ≡ dropPast m l
 drop-none m l at e h =
     let z : length l - length l ≡ 0 = omega arith in
     ap (λ (n : ℕ). take n (drop (length l) l)) z
@@ -52,8 +48,7 @@ drop-none m l at e h =
 
 -- the search, byte by byte: at bytes are passed
 module _ (m : ℕ) (s : List ℕ) (at : ℕ) where
-  pub find-next : at < length s → (getD s at 0 ≡ m → ⊥)
-      → at + length (takeTo m (drop at s)) ≡ at + 1 + length (takeTo m (drop (at + 1) s))
+  pub find-next : at < length s → (getD s at 0 ≡ m → ⊥) → at + length (takeTo m (drop at s)) ≡ at + 1 + length (takeTo m (drop (at + 1) s))
   unfolding takeTo
   find-next h n = rw (drop-cons s at 0 h) (simp (ne-eqb _ _ n, add-one) (omega arith))
 
@@ -78,12 +73,10 @@ pub word-next : (l m r : List ℕ) (k : ℕ) → m ≡ dropPast 32 l → r ≡ w
 word-next l m r zero e f n = absurd (n refl)
 word-next l m r (suc k) e f n = f ∙ ap (wordOf (suc k - 1)) e ∙ word-suc l k
 
-pub after-found : (m : ℕ) (l : List ℕ) (at : ℕ) → at ≡ length (takeTo m l) → at < length l
-    → take (length l - (at + 1)) (drop (at + 1) l) ≡ dropPast m l
+pub after-found : (m : ℕ) (l : List ℕ) (at : ℕ) → at ≡ length (takeTo m l) → at < length l → take (length l - (at + 1)) (drop (at + 1) l) ≡ dropPast m l
 after-found m l at e h =
     take-all (length l - (at + 1)) (drop (at + 1) l) (omega (arith, length-drop (at + 1) l))
     ∙ ap (λ (n : ℕ). drop (n + 1) l) e ∙ drop-short m l
 
 pub before-found : (m : ℕ) (l : List ℕ) (at : ℕ) → at ≡ length (takeTo m l) → take (at - 0) l ≡ takeTo m l
-before-found m l at e = let n : at - 0 ≡ length (takeTo m l) = omega arith in ap (λ (k : ℕ). take k l) n
-    ∙ take-short m l
+before-found m l at e = let n : at - 0 ≡ length (takeTo m l) = omega arith in ap (λ (k : ℕ). take k l) n ∙ take-short m l

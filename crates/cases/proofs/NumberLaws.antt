@@ -14,8 +14,7 @@ use Rattle.cases.specs.Numbers.{digitOf, moreDigits, numberOf, hexDigit,
 
 -- the digits that are left, one by one
 module _ (s : List ℕ) (n at : ℕ) where
-  pub number-next : at < length s → (m : ℕ) → m ≡ moreDigits n (getD s at 0)
-      → numberOf n (drop at s) ≡ numberOf m (drop (at + 1) s)
+  pub number-next : at < length s → (m : ℕ) → m ≡ moreDigits n (getD s at 0) → numberOf n (drop at s) ≡ numberOf m (drop (at + 1) s)
   unfolding numberOf
   number-next h m e = rw (drop-cons s at 0 h, add-one, e)
 
@@ -37,8 +36,7 @@ over-set p b a v e h =
     ∙ ap (λ (n : ℕ). (p ++ (v ∷ [])) ++ drop n b) (sym (add-one (length p)) ∙ sym (length-append p (v ∷ [])))
 
 -- one store more
-pub over-more : (f : ℕ → ℕ) (r b : List ℕ) (k v : ℕ) → r ≡ over (tab f k) b → k < length b → v ≡ f k
-    → set r k v ≡ over (tab f (k + 1)) b
+pub over-more : (f : ℕ → ℕ) (r b : List ℕ) (k v : ℕ) → r ≡ over (tab f k) b → k < length b → v ≡ f k → set r k v ≡ over (tab f (k + 1)) b
 unfolding tab
 over-more f r b k v e h g = rw (e, add-one, g) (over-set (tab f k) b k (f k) (length-tab f k) h)
 
@@ -46,6 +44,5 @@ pub over-none : (f : ℕ → ℕ) (b : List ℕ) → b ≡ over (tab f 0) b
 unfolding over tab
 over-none f b = refl
 
-pub pair-is : (s : List ℕ) (k h l : ℕ) → h ≡ hexDigit (getD s (2 * k) 0) → l ≡ hexDigit (getD s (2 * k + 1) 0)
-    → h * 16 + l ≡ hexPair s k
+pub pair-is : (s : List ℕ) (k h l : ℕ) → h ≡ hexDigit (getD s (2 * k) 0) → l ≡ hexDigit (getD s (2 * k + 1) 0) → h * 16 + l ≡ hexPair s k
 pair-is s k h l e f = ap (λ (x : ℕ). x * 16 + l) e ∙ ap (λ (x : ℕ). hexDigit (getD s (2 * k) 0) * 16 + x) f

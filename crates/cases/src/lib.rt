@@ -1,7 +1,7 @@
 // Reads lines of test cases: words with single spaces between, bytes in hex, numbers in decimal.
 ghost use mathlib.Core.Path.{_≡_};
 ghost use Prim.Native.Nat.{_≤_, _<_, _/_, min};
-ghost use lib.ListN.{length, getD};
+ghost use lib.ListN.{length, getD, take};
 ghost use Rattle.cases.specs.Lines.{takeTo, dropPast, wordOf};
 ghost use Rattle.cases.specs.Numbers.{digitOf, moreDigits, numberOf, hexDigit, hexPair, tab, over};
 
@@ -116,7 +116,7 @@ fn hex_digit(b: u8) -> u8
 pub fn decode(text: &[u8], out: &mut [u8]) -> usize
     ensures { λ r. ⌜ r ≡ min (length (now (text .entry)) / 2) (length (now (out .entry))) ⌝ }
     ensures { λ r. ⌜ now (out .exit) ≡ over (tab (hexPair (now (text .entry))) r) (now (out .entry)) ⌝ }
-    ensures { λ r. ⌜ r ≤ length (now (out .exit)) ⌝ }
+    ensures { λ r. ⌜ (r ≤ length (now (out .exit))) × (r ≡ length (take r (now (out .exit)))) ⌝ }
 {
     let n = text.len() / 2;
     let room = out.len();

@@ -17,29 +17,33 @@ Inv-loop s n₀ at₀ n at = numberOf 0 s ≡ numberOf n (drop at s)
 abbrev μ-loop : tie.MeasureT-loop
 μ-loop s n₀ at₀ n at = length s - at
 
+-- src/lib.rt:87:5
 loop-holds : tie.Need-loop-holds Inv-loop μ-loop
 loop-holds c = refl
 
+-- src/lib.rt:88:28
 shared-slice-read-more-digits : tie.Need-shared-slice-read-more-digits Inv-loop μ-loop
 shared-slice-read-more-digits c = search needs
 
+-- src/lib.rt:88:9
 more-digits-requires : tie.Need-more-digits-requires Inv-loop μ-loop
 more-digits-requires c κs = search needs
 
+-- src/lib.rt:89:9
 add-at : tie.Need-add-at Inv-loop μ-loop
 add-at c = search needs
 
+-- src/lib.rt:87:5
 loop-less : tie.Need-loop-less Inv-loop μ-loop
 loop-less c = search needs
 
+-- src/lib.rt:87:5
 loop-again : tie.Need-loop-again Inv-loop μ-loop
-loop-again c = c .before .before .before .loop .inv
-    ∙ number-next (now (c .before .before .before .before .before .args .s)) (c .before .before .before .loop .n)
-    (c .before .before .before .loop .at) (search needs) _ (c .more-digits .ensures)
+loop-again c = c .before .before .before .loop .inv ∙ number-next (now (c .before .before .before .before .before .args .s)) (c .before .before .before .loop .n) (c .before .before .before .loop .at) (search needs) _ (c .more-digits .ensures)
 
+-- src/lib.rt:82:1
 returns : tie.Need-returns Inv-loop μ-loop
-returns c = sym (c .before .loop .inv
-    ∙ number-end (now (c .before .before .before .args .s)) (c .before .loop .n) (c .before .loop .at) (search needs))
+returns c = sym (c .before .loop .inv ∙ number-end (now (c .before .before .before .args .s)) (c .before .loop .n) (c .before .loop .at) (search needs))
 
 pub number-spec : {M : Type 1} → statement M
 number-spec =

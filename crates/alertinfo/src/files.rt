@@ -1,0 +1,109 @@
+// The program's arguments, and the files that they name.
+ghost use Rattle.io.specs.Counts.{Counts};
+
+// How much of a buffer was filled; or that it could not be.
+pub struct Got {
+    pub ok: bool,
+    pub n: usize,
+}
+
+// Argument i is this word.
+pub fn is(i: usize, word: &[u8]) -> bool {
+    let mut buf = [0u8; 16];
+    let n = os::arg(i, &mut buf);
+    check::same(&buf[..n], word)
+}
+
+// A descriptor of which nothing was read cannot be read, as that of a folder: the file is not merely empty.
+fn unreadable(fd: i32) -> bool {
+    let mut probe = [0u8; 1];
+    libc::read(fd, &mut probe) < 0
+}
+
+// The start of the file with this name, as much as fits.
+fn read(path: &[u8], buf: &mut [u8]) -> Got
+    ensures { λ r. ⌜ Counts (r .n) (now (buf .exit)) ⌝ }
+{
+    let fd = os::open_read(path);
+    if fd < 0 {
+        os::fail(path);
+        return Got { ok: false, n: 0 };
+    }
+    let n = io::read_full(fd, buf);
+    if n == 0 {
+        if unreadable(fd) {
+            os::fail(path);
+            libc::close(fd);
+            return Got { ok: false, n: 0 };
+        }
+    }
+    libc::close(fd);
+    Got { ok: true, n }
+}
+
+// The start of the file that argument i names.
+pub fn file(i: usize, buf: &mut [u8]) -> Got
+    ensures { λ r. ⌜ Counts (r .n) (now (buf .exit)) ⌝ }
+{
+    let mut name = io::buffer();
+    let n = os::arg(i, &mut name);
+    read(&name[..n], buf)
+}
+
+// How many bytes there are without a line end, LF or CR LF, behind them.
+fn without_line_end(text: &[u8]) -> usize
+    ensures { λ r. ⌜ Counts r (now (text .entry)) ⌝ }
+{
+    let n = text.len();
+    if n == 0 {
+        return n;
+    }
+    let last = n - 1;
+    if text[last] != b'\n' {
+        return n;
+    }
+    if last == 0 {
+        return last;
+    }
+    let before = last - 1;
+    if text[before] == b'\r' {
+        return before;
+    }
+    last
+}
+
+// The value that argument i is, if it begins with `<`; else the value in the file that it names, without a line end behind it.
+pub fn value(i: usize, buf: &mut [u8]) -> Got
+    ensures { λ r. ⌜ Counts (r .n) (now (buf .exit)) ⌝ }
+{
+    let n = os::arg(i, buf);
+    if 0 < n {
+        if buf[0] == b'<' {
+            return Got { ok: true, n };
+        }
+    }
+    let got = file(i, buf);
+    let m = got.n;
+    let k = without_line_end(&buf[..m]);
+    Got { ok: got.ok, n: k }
+}
+
+// The first n bytes go to the file that argument i names.
+pub fn write(i: usize, bytes: &[u8], n: usize) -> bool {
+    if bytes.len() < n {
+        return false;
+    }
+    let mut name = io::buffer();
+    let k = os::arg(i, &mut name);
+    let fd = os::open_overwrite(&name[..k]);
+    if fd < 0 {
+        os::fail(&name[..k]);
+        return false;
+    }
+    let ok = io::write_all(fd, &bytes[..n]);
+    libc::close(fd);
+    if !ok {
+        os::fail(&name[..k]);
+    }
+    ok
+}

@@ -1,0 +1,168 @@
+// Picks a ring from the command line: the libraries' answers, in plain words.
+mod files;
+mod words;
+
+use libc::STDERR_FILENO;
+use libc::STDOUT_FILENO;
+
+// Each file is read up to one byte more than the library takes, so a longer one is refused by its number.
+const VALUE: usize = 4097;
+
+const TABLE: usize = 8193;
+
+const MACHINE: usize = 33668;
+
+fn usage() {
+    io::write_all(STDERR_FILENO, b"usage: alertinfo entries VALUE\n");
+    io::write_all(STDERR_FILENO, b"       alertinfo build TABLE MACHINE\n");
+    io::write_all(STDERR_FILENO, b"       alertinfo check TABLE MACHINE\n");
+    io::write_all(
+        STDERR_FILENO,
+        b"       alertinfo resolve TABLE VALUE [MACHINE]\n",
+    );
+    io::write_all(
+        STDERR_FILENO,
+        b"TABLE and MACHINE are files. VALUE is a file, or the value itself if it begins with '<'.\n",
+    );
+}
+
+// The URIs of a value, one a line after its number.
+fn list(v: &[u8]) {
+    let n = alert_info::entries(v);
+    words::count(n as u64, b" entries\n");
+    let mut k = 0;
+    while k < n {
+        words::count(k as u64, b" ");
+        io::write_all(STDOUT_FILENO, alert_info::entry(v, k));
+        io::write_all(STDOUT_FILENO, b"\n");
+        k += 1;
+    }
+}
+
+fn entries() {
+    let mut value = [0u8; VALUE];
+    let v = files::value(2, &mut value);
+    if !v.ok {
+        return;
+    }
+    let n = v.n;
+    let r = alert_info::refusal(&value[..n]);
+    if r != 0 {
+        words::refused(r);
+        return;
+    }
+    list(&value[..n]);
+}
+
+fn build() {
+    let mut table = [0u8; TABLE];
+    let t = files::file(2, &mut table);
+    if !t.ok {
+        return;
+    }
+    let n = t.n;
+    let mut image = [0u8; MACHINE];
+    let b = signal_table::build(&table[..n], &mut image);
+    if b.refusal != 0 {
+        words::refused(b.refusal);
+        return;
+    }
+    if files::write(3, &image, b.len) {
+        words::count(b.len as u64, b" bytes written\n");
+    }
+}
+
+fn check() {
+    let mut table = [0u8; TABLE];
+    let t = files::file(2, &mut table);
+    if !t.ok {
+        return;
+    }
+    let n = t.n;
+    let mut image = [0u8; MACHINE];
+    let m = files::file(3, &mut image);
+    if !m.ok {
+        return;
+    }
+    let k = m.n;
+    let r = signal_table::check(&table[..n], &image[..k]);
+    if r != 0 {
+        words::refused(r);
+        return;
+    }
+    io::write_all(STDOUT_FILENO, b"accepted\n");
+}
+
+fn answer(r: resolver::Resolution) {
+    if r.refusal != 0 {
+        words::refused(r.refusal);
+        return;
+    }
+    io::write_all(STDOUT_FILENO, b"signal ");
+    words::count(r.signal as u64, b", ");
+    words::count(r.used as u64, b" used, ");
+    words::count(r.skipped as u64, b" skipped\n");
+}
+
+fn follow(t: &[u8], v: &[u8]) {
+    let mut image = [0u8; MACHINE];
+    let m = files::file(4, &mut image);
+    if !m.ok {
+        return;
+    }
+    let n = m.n;
+    answer(resolver::machine(t, &image[..n], v));
+}
+
+fn resolve(by_machine: bool) {
+    let mut table = [0u8; TABLE];
+    let t = files::file(2, &mut table);
+    if !t.ok {
+        return;
+    }
+    let n = t.n;
+    let mut value = [0u8; VALUE];
+    let v = files::value(3, &mut value);
+    if !v.ok {
+        return;
+    }
+    let k = v.n;
+    if by_machine {
+        follow(&table[..n], &value[..k]);
+    } else {
+        answer(resolver::plain(&table[..n], &value[..k]));
+    }
+}
+
+fn main() {
+    let n = os::arg_count();
+    if files::is(1, b"entries") {
+        if n == 3 {
+            entries();
+            return;
+        }
+    }
+    if files::is(1, b"build") {
+        if n == 4 {
+            build();
+            return;
+        }
+    }
+    if files::is(1, b"check") {
+        if n == 4 {
+            check();
+            return;
+        }
+    }
+    if files::is(1, b"resolve") {
+        if n == 4 {
+            resolve(false);
+            return;
+        }
+        if n == 5 {
+            resolve(true);
+            return;
+        }
+    }
+    usage();
+}
