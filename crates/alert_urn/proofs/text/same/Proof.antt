@@ -1,57 +1,66 @@
+use native.Mathlib.Omega.{arith}
 use Prim.Native.Nat.{_≤_, _-_}
+use mathlib.Core.Path.{_≡_, refl, sym, _∙_}
 use lib.ListN.{length, drop}
 use Rattle.resolution.specs.Names.{sameName}
-use Rattle.alert_urn.proofs.Turns.{same-more, same-less, same-short, same-end}
-use native.Mathlib.Omega.{arith}
-use mathlib.Core.Path.{_≡_, refl, ap, sym, _∙_}
+use Rattle.alert_urn.proofs.Turns.{words-more, words-less, same-lengths}
 use borrow.Author.Needs.{needs}
 use Rattle.alert_urn.proofs.text.same.Statement.{statement}
 use Rattle.alert_urn.proofs.text.same.Tie as tie
+use Rattle.alert_urn.proofs.text.same.Reads as reads
+use Rattle.alert_urn.proofs.text.same.Lts as lts
+use Rattle.alert_urn.proofs.text.same_from.Reads as same-from-reads
+use Rattle.alert_urn.proofs.text.word_at.Reads as word-at-reads
 
 abbrev Inv-loop : tie.InvT-loop
-Inv-loop a b i₀ i = (i ≤ length a) × (sameName a b ≡ sameName (drop i a) (drop i b))
+Inv-loop a b n i₀ i = (i ≤ length a) × (sameName a b ≡ sameName (drop i a) (drop i b))
 
 abbrev μ-loop : tie.MeasureT-loop
-μ-loop a b i₀ i = length a - i
+μ-loop a b n i₀ i = length a - i
 
+-- src/text.rt:167:9
 loop-holds : tie.Need-loop-holds Inv-loop μ-loop
-loop-holds c = search needs
+loop-holds c = (omega arith, refl)
 
-returns : tie.Need-returns Inv-loop μ-loop
-returns c =
-    let a = c .before .before .before .args in
-    let l = c .before .before .loop in
-    same-short (a .a .now) (a .b .now) (l .i) (l .inv .1) (c .before .loop-test .taken) (c .if1 .taken)
+-- src/text.rt:167:15
+add-loop : tie.Need-add-loop Inv-loop μ-loop
+add-loop c = omega arith
 
-shared-slice-read-if2 : tie.Need-shared-slice-read-if2 Inv-loop μ-loop
-shared-slice-read-if2 c = search needs
+-- src/text.rt:168:16
+word-at-requires : tie.Need-word-at-requires Inv-loop μ-loop
+word-at-requires c κs = search needs
 
-shared-slice-read-if2-2 : tie.Need-shared-slice-read-if2-2 Inv-loop μ-loop
-shared-slice-read-if2-2 c = search needs
+-- src/text.rt:168:33
+word-at-requires-2 : tie.Need-word-at-requires-2 Inv-loop μ-loop
+word-at-requires-2 c κs = search needs
 
+-- src/text.rt:169:17
 add-i : tie.Need-add-i Inv-loop μ-loop
 add-i c = search needs
 
+-- src/text.rt:167:9
 loop-less : tie.Need-loop-less Inv-loop μ-loop
-loop-less c = search needs
+loop-less c = omega arith
 
+-- src/text.rt:167:9
 loop-again : tie.Need-loop-again Inv-loop μ-loop
-loop-again c =
-    let a = c .before .before .before .before .before .before .args in
-    let l = c .before .before .before .before .before .loop in
-    (omega arith, same-more (a .a .now) (a .b .now) (l .i) (l .inv .1) (c .before .before .before .before .loop-test .taken) (c .before .before .before .if1 .left) (c .if2 .taken))
+loop-again c = (omega arith, words-more (c .before .before .before .before .before .before .before .before .args .a .now) (c .before .before .before .before .before .before .before .before .args .b .now) 8 (c .before .before .before .before .loop .i) (λ k. omega (arith, c .before .before .before .before .before .before .before .shared-slice-known .given k)) (λ k. omega (arith, c .before .before .before .before .before .before .shared-slice-known2 .given k)) (c .before .before .before .before .loop .inv .1) (c .before .before .before .loop-test .taken) (omega arith) (sym (c .before .before .word-at .ensures) ∙ c .if2 .taken ∙ c .before .word-at2 .ensures))
 
+-- src/text.rt:171:17
+returns : tie.Need-returns Inv-loop μ-loop
+returns c = words-less (c .before .before .before .before .before .before .before .before .args .a .now) (c .before .before .before .before .before .before .before .before .args .b .now) (c .before .before .before .before .loop .i) 8 (c .before .before .word-at .ensures) (c .before .word-at2 .ensures) (c .if2 .left)
+
+-- src/text.rt:174:9
+same-from-requires : tie.Need-same-from-requires Inv-loop μ-loop
+same-from-requires c κs = (omega arith, omega arith)
+
+-- src/text.rt:174:9
 returns-2 : tie.Need-returns-2 Inv-loop μ-loop
-returns-2 c =
-    let a = c .before .before .before .before .before .before .args in
-    let l = c .before .before .before .before .before .loop in
-    same-less (a .a .now) (a .b .now) (l .i) (l .inv .1) (c .before .before .before .before .loop-test .taken) (c .before .before .before .if1 .left) (c .if2 .left)
+returns-2 c = c .same-from .ensures ∙ sym (c .before .before .loop .inv .1)
 
+-- src/text.rt:161:1
 returns-3 : tie.Need-returns-3 Inv-loop μ-loop
-returns-3 c =
-    let a = c .before .before .args in
-    let l = c .before .loop in
-    same-end (a .a .now) (a .b .now) (l .i) (l .inv .1) (c .loop-test .left)
+returns-3 c = same-lengths (c .before .before .before .args .a .now) (c .before .before .before .args .b .now) (c .if1 .left)
 
 pub same-spec : {M : Type 1} → statement M
 same-spec =
@@ -60,11 +69,13 @@ same-spec =
     Inv-loop
     μ-loop
     loop-holds
-    returns
-    shared-slice-read-if2
-    shared-slice-read-if2-2
+    add-loop
+    word-at-requires
+    word-at-requires-2
     add-i
     loop-less
     loop-again
+    returns
+    same-from-requires
     returns-2
     returns-3)
