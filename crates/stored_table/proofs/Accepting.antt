@@ -81,9 +81,12 @@ unfolding urnOk
 fields-parts w e =
     let b = and-eq-true-iff (within 2 9 (length (fields 58 w))) (all nameOk (fields 58 w)) .0 e in
     let l = and-eq-true-iff (leb 2 (length (fields 58 w))) (leb (length (fields 58 w)) 9) .0 (b .0) in
-    let h = leb-true 2 (length (fields 58 w)) (l .0) in
-    (byTest (ltb (length (upTo 58 w)) (length w)) (λ x. fields-more 58 w (ltb-true _ _ x))
-    (λ x. absurd (omega (arith, h, ap length (fields-last 58 w (ltb-false (length (upTo 58 w)) (length w) x))))), leb-true (length (fields 58 w)) 9 (l .1), b .1)
+    let h = leb-true 2 (length (fields 58 w)) (l .0) in (
+      byTest (ltb (length (upTo 58 w)) (length w)) (λ x. fields-more 58 w (ltb-true _ _ x))
+          (λ x. absurd (omega (arith, h, ap length (fields-last 58 w (ltb-false (length (upTo 58 w)) (length w) x))))),
+      leb-true (length (fields 58 w)) 9 (l .1),
+      b .1,
+    )
 
 urn-names : (w : List ℕ) → urnOk w ≡ true → (x : Name) → List·Memᴰ x (fields 58 (past 58 w)) → x ≢ []
 unfolding nameOk labelOk upTo past
@@ -145,9 +148,12 @@ stored-counts t s q e =
     let c = counted-length 1 8 (text 55 t) t 0 (a .0) (a .1) (a .2) in
     let b = after-got (counted 1 32 (signal t) t (a .1)) (λ ss p. cond (ltb p (length t)) (fault 5) (got (record { names = a .0; signals = ss }) p)) s q (a .3) in
     let d = counted-length 1 32 (signal t) t (a .1) (b .0) (b .1) (b .2) in
-    let z = ended (a .0) (b .0) (ltb (b .1) (length t)) (b .1) q s (b .3) in
-    (omega (arith, c .0, ap (λ (x : Stored). length (x .names)) z), omega (arith, c .1, ap (λ (x : Stored). length (x .names)) z),
-    omega (arith, d .0, ap (λ (x : Stored). length (x .signals)) z), omega (arith, d .1, ap (λ (x : Stored). length (x .signals)) z))
+    let z = ended (a .0) (b .0) (ltb (b .1) (length t)) (b .1) q s (b .3) in (
+      omega (arith, c .0, ap (λ (x : Stored). length (x .names)) z),
+      omega (arith, c .1, ap (λ (x : Stored). length (x .names)) z),
+      omega (arith, d .0, ap (λ (x : Stored). length (x .signals)) z),
+      omega (arith, d .1, ap (λ (x : Stored). length (x .signals)) z),
+    )
 
 module _ (t : List ℕ) (s : Stored) (q : ℕ) (r : stored t ≡ got s q) (g : Passed s) where
   -- a URN of the table is a stored URN
@@ -203,9 +209,13 @@ module _ (t : List ℕ) (s : Stored) (q : ℕ) (r : stored t ≡ got s q) (g : P
       let a = any-mem (uses x) (s .signals) (all-mem (λ y. any (uses y) (s .signals)) (s .names) x (three .1) (mem-at (s .names) c [] h)) in
       let b = any-mem (λ u. sameName (categoryOf u) x) (a .0) (a .2) in
       let n : categoryOf (b .0) ≡ x = name-exact .to (categoryOf (b .0)) x (b .2) in
-      let i : indexBy sameName x (s .names) ≡ c = index-at sameName name-exact [] (s .names) (two-distinct (s .names) (three .0)) c h in
-      (map (toUrn (s .names)) (a .0), mem-map (map (toUrn (s .names))) (s .signals) (a .0) (a .1),
-      toUrn (s .names) (b .0), mem-map (toUrn (s .names)) (a .0) (b .0) (b .1), ap (λ (z : Name). indexBy sameName z (s .names)) n ∙ i)
+      let i : indexBy sameName x (s .names) ≡ c = index-at sameName name-exact [] (s .names) (two-distinct (s .names) (three .0)) c h in (
+        map (toUrn (s .names)) (a .0),
+        mem-map (map (toUrn (s .names))) (s .signals) (a .0) (a .1),
+        toUrn (s .names) (b .0),
+        mem-map (toUrn (s .names)) (a .0) (b .0) (b .1),
+        ap (λ (z : Name). indexBy sameName z (s .names)) n ∙ i,
+      )
 
   far : (i j : ℕ) → i < j → j < length (tableIn s .signals) → rowOf (tableIn s) i ≡ rowOf (tableIn s) j → ⊥
   unfolding distinct

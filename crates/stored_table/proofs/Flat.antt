@@ -152,7 +152,7 @@ single-tags s (sig ∷ ss) = ap (λ b. noTwo sameCat sig && b) (single-tags (suc
     go [] = refl
     go (u ∷ sig) =
         let a : any (sameTag (tag s u)) (map (tag s) sig ++ taggedFrom (suc s) ss) ≡ any (sameCat u) sig =
-            any-join (sameTag (tag s u)) (map (tag s) sig) (taggedFrom (suc s) ss) ∙ rw (any-tags s u sig, any-later s (suc s) u ss (omega arith)) (keep (any (sameCat u) sig)) in
+        any-join (sameTag (tag s u)) (map (tag s) sig) (taggedFrom (suc s) ss) ∙ rw (any-tags s u sig, any-later s (suc s) u ss (omega arith)) (keep (any (sameCat u) sig)) in
         ap₂ (λ x y. not x && y) a (go sig) ∙ sym (and-assoc (not (any (sameCat u) sig)) (noTwo sameCat sig) (noTwo sameTag (taggedFrom (suc s) ss)))
       where
         keep : (b : Bool) → cond b true false ≡ b
@@ -225,16 +225,16 @@ unfolding firstPlace
 slot-last l x s c p v ih =
     first-snoc l x s c ∙ byTest (sameKey (tag s c) (keyOf x))
     (λ b.
-        let a = and-eq-true-iff (eqb s (x .signal)) (eqb c (x .what .cat)) .0 b in
-        let o : x .signal ≡ s = sym (eqb-true s (x .signal) (a .0)) in
-        let q : x .what .cat ≡ c = sym (eqb-true c (x .what .cat) (a .1)) in
-        let w : any (λ y. eqb (y .signal) s && eqb (y .what .cat) c) l ≡ false =
-            subst (λ (k : ℕ). any (λ y. eqb (y .signal) s && eqb (y .what .cat) k) l ≡ false) q (subst (λ (k : ℕ). any (λ y. eqb (y .signal) k && eqb (y .what .cat) (x .what .cat)) l ≡ false) o v) in
-        let m : (eqb (x .signal) s && eqb (x .what .cat) c) ≡ true = ap₂ _&&_ (eq-eqb (x .signal) s o) (eq-eqb (x .what .cat) c q) in
-        rw (w, m, b))
+    let a = and-eq-true-iff (eqb s (x .signal)) (eqb c (x .what .cat)) .0 b in
+    let o : x .signal ≡ s = sym (eqb-true s (x .signal) (a .0)) in
+    let q : x .what .cat ≡ c = sym (eqb-true c (x .what .cat) (a .1)) in
+    let w : any (λ y. eqb (y .signal) s && eqb (y .what .cat) c) l ≡ false =
+    subst (λ (k : ℕ). any (λ y. eqb (y .signal) s && eqb (y .what .cat) k) l ≡ false) q (subst (λ (k : ℕ). any (λ y. eqb (y .signal) k && eqb (y .what .cat) (x .what .cat)) l ≡ false) o v) in
+    let m : (eqb (x .signal) s && eqb (x .what .cat) c) ≡ true = ap₂ _&&_ (eq-eqb (x .signal) s o) (eq-eqb (x .what .cat) c q) in
+    rw (w, m, b))
     (λ b.
-        let m : (eqb (x .signal) s && eqb (x .what .cat) c) ≡ false = ap₂ _&&_ (eqb-sym (x .signal) s) (eqb-sym (x .what .cat) c) ∙ b in
-        rw (m, b) (first-none l s c ∙ ih))
+    let m : (eqb (x .signal) s && eqb (x .what .cat) c) ≡ false = ap₂ _&&_ (eqb-sym (x .signal) s) (eqb-sym (x .what .cat) c) ∙ b in
+    rw (m, b) (first-none l s c ∙ ih))
 
 path-cond : (f : ℕ → Tagged Urn) (n k : ℕ) (b : Bool) → cond b (f n .what .path) (pathIn f k) ≡ pathIn f (cond b (suc n) k)
 path-cond f n k true = refl

@@ -48,11 +48,11 @@ pub path-part : (t : List ℕ) (a n e k : ℕ) {u : List ℕ} → u ≡ take n (
     → (k < length u → e ≡ k + 1) → (length u ≤ k → e ≡ length u) → take (length u - e) (drop (a + e) t) ≡ pathOf u
 path-part t a n e k {u} g f h p q =
     let x : take (length u - e) (drop (a + e) t) ≡ drop e u =
-        subst (λ (z : List ℕ). e ≤ length z → take (length z - e) (drop (a + e) t) ≡ drop e z) (sym g) (λ l. rw (← drop-drop e a t) (take-part n e (drop a t) l)) h in
+    subst (λ (z : List ℕ). e ≤ length z → take (length z - e) (drop (a + e) t) ≡ drop e z) (sym g) (λ l. rw (← drop-drop e a t) (take-part n e (drop a t) l)) h in
     x ∙ byTest (ltb k (length u)) (λ b. let l = p (ltb-true k (length u) b) in rw (l, add-one, f) (past-drop 58 u))
     (λ b.
-        let l = ltb-false k (length u) b in
-        drop-of-length-le u {i = e} (omega (arith, q l)) ∙ sym (drop-of-length-le u {i = suc (length (upTo 58 u))} (omega (arith, f))) ∙ past-drop 58 u)
+    let l = ltb-false k (length u) b in
+    drop-of-length-le u {i = e} (omega (arith, q l)) ∙ sym (drop-of-length-le u {i = suc (length (upTo 58 u))} (omega (arith, f))) ∙ past-drop 58 u)
 
 -- an element below the length is there
 pub index-below : {A : Type 0} (q : A → A → Bool) (x : A) (l : List A) → indexBy q x l < length l → memberBy q x l ≡ true
@@ -161,17 +161,17 @@ module _ (signal category slots : List ℕ) (i m x y : ℕ) (e : x ≡ getD sign
   unfolding slotIn
   slot-put r q l s c k = rw add-one (byTest (sameKey (tag s c) (keyAt signal category i))
       (λ b.
-          let a = and-eq-true-iff (eqb s (getD signal i 0)) (eqb c (getD category i 0)) .0 b in
-          let o : s ≡ x = eqb-true s (getD signal i 0) (a .0) ∙ sym e in
-          let p : c ≡ y = eqb-true c (getD category i 0) (a .1) ∙ sym g in
-          rw b (rw (o, p) (getD-set-same slots (8 * x + y) r 0 l) ∙ q ∙ add-one i))
+      let a = and-eq-true-iff (eqb s (getD signal i 0)) (eqb c (getD category i 0)) .0 b in
+      let o : s ≡ x = eqb-true s (getD signal i 0) (a .0) ∙ sym e in
+      let p : c ≡ y = eqb-true c (getD category i 0) (a .1) ∙ sym g in
+      rw b (rw (o, p) (getD-set-same slots (8 * x + y) r 0 l) ∙ q ∙ add-one i))
       (λ b. rw b (getD-set-other slots (8 * x + y) (8 * s + c) r 0
-          (λ z.
-              let o : s ≡ x = omega arith in
-              let p : c ≡ y = omega arith in
-              let w : sameKey (tag s c) (keyAt signal category i) ≡ true = ap₂ _&&_ (eq-eqb s (getD signal i 0) (o ∙ e)) (eq-eqb c (getD category i 0) (p ∙ g)) in
-              true≢false (sym w ∙ b))
-          ∙ v s c k)))
+      (λ z.
+      let o : s ≡ x = omega arith in
+      let p : c ≡ y = omega arith in
+      let w : sameKey (tag s c) (keyAt signal category i) ≡ true = ap₂ _&&_ (eq-eqb s (getD signal i 0) (o ∙ e)) (eq-eqb c (getD category i 0) (p ∙ g)) in
+      true≢false (sym w ∙ b))
+      ∙ v s c k)))
 
 pub slot-start : (signal category slots : List ℕ) → ((k : ℕ) → getD slots k 0 ≡ 0) → (s c : ℕ) → c < 8 → getD slots (8 * s + c) 0 ≡ slotIn (keyAt signal category) s c 0
 unfolding slotIn

@@ -156,9 +156,9 @@ same-index l x c d h k =
     same-test (sameName x (getD l c [])) (eqb (indexBy sameName x l) c)
     (λ e. eq-eqb _ c (ap (λ (y : Name). indexBy sameName y l) (name-exact .to x (getD l c []) e) ∙ index-at sameName name-exact [] l d c k))
     (λ e.
-        let m = index-member sameName name-exact [] x l (index-below sameName x l h) in
-        let q : getD l c [] ≡ x = ap (λ i. getD l i []) (sym (eqb-true (indexBy sameName x l) c e)) ∙ m .1 in
-        ap (sameName x) q ∙ name-exact .self x)
+    let m = index-member sameName name-exact [] x l (index-below sameName x l h) in
+    let q : getD l c [] ≡ x = ap (λ i. getD l i []) (sym (eqb-true (indexBy sameName x l) c e)) ∙ m .1 in
+    ap (sameName x) q ∙ name-exact .self x)
 
 -- 8
 module _ (t nameAt nameLen at len signal : List ℕ) (l : Counts) (F : FormedAs t nameAt nameLen at len signal l) where

@@ -20,7 +20,7 @@ use Rattle.resolution.proofs.Lists.{tabulate-length, tabulate-at, tabulate-same
 use Rattle.resolution.proofs.Nodes.{urn-exact}
 use Rattle.resolution.proofs.Numbers.{number-node, ancestor-node}
 use Rattle.node_step.specs.Arrays.{stretch}
-use Rattle.stored_table.specs.Held.{nodeUrn, pathUrn, Nodes, Numbered, AddedTo, AllAdded}
+use Rattle.stored_table.specs.Held.{nodeUrn, pathUrn, Nodes, Numbered, AddedTo, AddsNode, AllAdded}
 use Rattle.stored_table.specs.declared.nodes.Added.{Added}
 use Rattle.stored_table.proofs.Tabulated.{tab-suc, tab-split, tab-same-end, index-hit}
 use Rattle.stored_table.proofs.Readings.{stretch-set, stretch-keep}
@@ -95,7 +95,7 @@ module _ (t cats parents at len : List ℕ) (n : ℕ) (ns : List Urn) (N : Nodes
       full h =
           record {
             over = λ _. omega (arith, ap length new, length-append ns (urn c p ∷ []), count);
-            kept = λ l. absurd (omega arith)
+            kept = λ l. absurd (omega arith);
           }
 
       module _ (h : n < 64) (a l q : ℕ) (g : fields 58 (take l (drop a t)) ≡ p) (u : Parts) (x : Name) (j : p ≡ u ++ x ∷ []) (o : Numbered ns c u q) where
@@ -119,18 +119,24 @@ module _ (t cats parents at len : List ℕ) (n : ℕ) (ns : List Urn) (N : Nodes
         at-end = ap (λ k. nodeAt (ns ++ urn c p ∷ []) k) (sym count) ∙ getD-end ns (urn c p) (urn 0 [])
 
         parent-end : Parent n
-        parent-end =
-            (u, x, ap (λ (y : Urn). y .path) at-end ∙ j,
-            subst (λ (k : ℕ). Numbered (ns ++ urn c p ∷ []) (nodeAt (ns ++ urn c p ∷ []) n .cat) u k) (sym (getD-set-same parents n q 0 (omega (arith, N .long-parents))))
-            (subst (λ (k : ℕ). Numbered (ns ++ urn c p ∷ []) k u q) (ap (λ (y : Urn). y .cat) (sym at-end)) (numbered-extends c u q more o)))
+        parent-end = (
+          u,
+          x,
+          ap (λ (y : Urn). y .path) at-end ∙ j,
+          subst (λ (k : ℕ). Numbered (ns ++ urn c p ∷ []) (nodeAt (ns ++ urn c p ∷ []) n .cat) u k) (sym (getD-set-same parents n q 0 (omega (arith, N .long-parents))))
+              (subst (λ (k : ℕ). Numbered (ns ++ urn c p ∷ []) k u q) (ap (λ (y : Urn). y .cat) (sym at-end)) (numbered-extends c u q more o)),
+        )
 
         parent-before : (k : ℕ) → k < n → Parent k
         parent-before k i =
             let w = N .parent k i in
-            let y : nodeAt (ns ++ urn c p ∷ []) k ≡ nodeAt ns k = at-extends (urn 0 []) more k (omega (arith, count)) in
-            (w .0, w .1, ap (λ (y : Urn). y .path) y ∙ w .2,
-            subst (λ (z : ℕ). Numbered (ns ++ urn c p ∷ []) (nodeAt (ns ++ urn c p ∷ []) k .cat) (w .0) z) (sym (getD-set-other parents n k q 0 (λ y. omega arith)))
-            (subst (λ (z : ℕ). Numbered (ns ++ urn c p ∷ []) z (w .0) (getD parents k 0)) (ap (λ (y : Urn). y .cat) (sym y)) (numbered-extends _ (w .0) _ more (w .3))))
+            let y : nodeAt (ns ++ urn c p ∷ []) k ≡ nodeAt ns k = at-extends (urn 0 []) more k (omega (arith, count)) in (
+              w .0,
+              w .1,
+              ap (λ (y : Urn). y .path) y ∙ w .2,
+              subst (λ (z : ℕ). Numbered (ns ++ urn c p ∷ []) (nodeAt (ns ++ urn c p ∷ []) k .cat) (w .0) z) (sym (getD-set-other parents n k q 0 (λ y. omega arith)))
+                  (subst (λ (z : ℕ). Numbered (ns ++ urn c p ∷ []) z (w .0) (getD parents k 0)) (ap (λ (y : Urn). y .cat) (sym y)) (numbered-extends _ (w .0) _ more (w .3))),
+            )
 
         parent : (k : ℕ) → k < n + 1 → Parent k
         parent k i = byTest (eqb k n) (λ b. subst Parent (sym (eqb-true k n b)) parent-end) (λ b. let y = eqb-false k n b in parent-before k (omega arith))
@@ -140,16 +146,18 @@ module _ (t cats parents at len : List ℕ) (n : ℕ) (ns : List Urn) (N : Nodes
             subst (λ (z : List Urn). AddedTo t (set cats n c) (set parents n q) (set at n a) (set len n l) z c p (record { node = n + 1; count = n + 1 })) (sym new)
             (record {
               over = λ y. absurd (omega arith);
-              kept = λ _. (record {
-                held = held;
-                few = omega arith;
-                parent = parent;
-                long-cats = length-set cats n c ∙ N .long-cats;
-                long-parents = length-set parents n q ∙ N .long-parents;
-                long-at = length-set at n a ∙ N .long-at;
-                long-len = length-set len n l ∙ N .long-len
-              },
-              inr (n, add-one n, omega (arith, length-append ns (urn c p ∷ []), count), at-end))
+              kept = λ _. (
+                record {
+                  held = held;
+                  few = omega arith;
+                  parent = parent;
+                  long-cats = length-set cats n c ∙ N .long-cats;
+                  long-parents = length-set parents n q ∙ N .long-parents;
+                  long-at = length-set at n a ∙ N .long-at;
+                  long-len = length-set len n l ∙ N .long-len;
+                },
+                inr (n, add-one n, omega (arith, length-append ns (urn c p ∷ []), count), at-end),
+              );
             })
 
 -- a node put where the code puts it
@@ -188,12 +196,6 @@ front t w from k i e h =
     shorter (suc i) (suc k) [] h = refl
     shorter (suc i) (suc k) (y ∷ x) h = ap (λ (l : List ℕ). y ∷ l) (shorter i k x (omega arith))
 
--- what adding a node promises
-abbrev pub Adds : (t : List ℕ) (c from i q n : ℕ) (cats parents at len cats₁ parents₁ at₁ len₁ : List ℕ) → Added → Type 0
-Adds t c from i q n cats parents at len cats₁ parents₁ at₁ len₁ r =
-    (ns : List Urn) (p : Parts) (x : Name) → Nodes t cats parents at len n ns → fields 58 (take i (drop from t)) ≡ p ++ x ∷ [] → Numbered ns c p q
-    → AddedTo t cats₁ parents₁ at₁ len₁ (addBy sameUrn ns (urn c (fields 58 (take i (drop from t))))) c (fields 58 (take i (drop from t))) r
-
 -- the prefixes of w that end in its first i bytes have been added to ns
 pub record PathDone (t w : List ℕ) (c : ℕ) (ns : List Urn) (cats parents at len : List ℕ) (i : ℕ) (r : Added) : Type 0 where
   pub done : List Urn
@@ -202,7 +204,7 @@ pub record PathDone (t w : List ℕ) (c : ℕ) (ns : List Urn) (cats parents at 
 
 module _ (t w : List ℕ) (c from k : ℕ) (y : w ≡ take k (drop from t)) (ns : List Urn) where
   pub path-start : {cats parents at len cats₁ parents₁ at₁ len₁ : List ℕ} (n i : ℕ) {r : Added} → i ≡ length (upTo 58 w)
-      → Adds t c from i 0 n cats parents at len cats₁ parents₁ at₁ len₁ r → Nodes t cats parents at len n ns → PathDone t w c ns cats₁ parents₁ at₁ len₁ i r
+      → AddsNode t c from i 0 n cats parents at len cats₁ parents₁ at₁ len₁ r → Nodes t cats parents at len n ns → PathDone t w c ns cats₁ parents₁ at₁ len₁ i r
   path-start {cats} {parents} {at} {len} {cats₁} {parents₁} {at₁} {len₁} n i {r} e A N =
       let h : i ≤ length w = omega (arith, e, upTo-le 58 w) in
       let f : take i w ≡ take i (drop from t) = front t w from k i y h in
@@ -212,13 +214,13 @@ module _ (t w : List ℕ) (c from k : ℕ) (y : w ≡ take k (drop from t)) (ns 
         done = addBy sameUrn ns (urn c (fields 58 (take i w)));
         so-far = ap (foldl (adder c) ns) s;
         added = subst (λ (z : List ℕ). AddedTo t cats₁ parents₁ at₁ len₁ (addBy sameUrn ns (urn c (fields 58 z))) c (fields 58 z) r) (sym f)
-            (A ns [] (upTo 58 w) N (ap (fields 58) (sym f) ∙ g) (inl (refl, refl)))
+            (A ns [] (upTo 58 w) N (ap (fields 58) (sym f) ∙ g) (inl (refl, refl)));
       }
 
   module _ {cats parents at len : List ℕ} (i : ℕ) {r : Added} (D : PathDone t w c ns cats parents at len i r) where
     pub path-more : {cats₁ parents₁ at₁ len₁ : List ℕ} (j : ℕ) {r₁ : Added} → i < length w → getD w i 0 ≡ 58
         → j ≡ length (upTo 58 (take (length w - (i + 1)) (drop (i + 1) w))) → (r .node ≡ 0 → ⊥)
-        → Adds t c from (i + 1 + j) (r .node) (r .count) cats parents at len cats₁ parents₁ at₁ len₁ r₁ → PathDone t w c ns cats₁ parents₁ at₁ len₁ (i + 1 + j) r₁
+        → AddsNode t c from (i + 1 + j) (r .node) (r .count) cats parents at len cats₁ parents₁ at₁ len₁ r₁ → PathDone t w c ns cats₁ parents₁ at₁ len₁ (i + 1 + j) r₁
     path-more {cats₁} {parents₁} {at₁} {len₁} j {r₁} h e d z A =
         let q : j ≡ length (upTo 58 (drop (i + 1) w)) = rw part-end at d in
         let l : i + 1 + j ≤ length w = omega (arith, q, upTo-le 58 (drop (i + 1) w), length-drop (i + 1) w) in
@@ -228,7 +230,7 @@ module _ (t w : List ℕ) (c from k : ℕ) (y : w ≡ take k (drop from t)) (ns 
           done = addBy sameUrn (D .done) (urn c (fields 58 (take (i + 1 + j) w)));
           so-far = D .so-far ∙ ap (foldl (adder c) (D .done)) (coming-more w i j h e q);
           added = subst (λ (z : List ℕ). AddedTo t cats₁ parents₁ at₁ len₁ (addBy sameUrn (D .done) (urn c (fields 58 z))) c (fields 58 z) r₁) (sym f)
-              (A (D .done) (fields 58 (take i w)) (upTo 58 (drop (i + 1) w)) (K .0) (ap (fields 58) (sym f) ∙ fields-front w i j h e q) (K .1))
+              (A (D .done) (fields 58 (take i w)) (upTo 58 (drop (i + 1) w)) (K .0) (ap (fields 58) (sym f) ∙ fields-front w i j h e q) (K .1));
         }
 
     whole : AddedTo t cats parents at len (addUrn ns (urn c (fields 58 w))) c (fields 58 w) r → AddedTo t cats parents at len (addUrn ns (urn c (fields 58 (take k (drop from t))))) c (fields 58 (take k (drop from t))) r
@@ -237,7 +239,7 @@ module _ (t w : List ℕ) (c from k : ℕ) (y : w ≡ take k (drop from t)) (ns 
     pub path-over : r .node ≡ 0 → AddedTo t cats parents at len (addUrn ns (urn c (fields 58 (take k (drop from t))))) c (fields 58 (take k (drop from t))) r
     path-over z = whole (record {
       over = λ _. omega (arith, D .added .over z, extends-le (adds-extend c (coming w i) (D .done)), ap length (D .so-far));
-      kept = λ l. absurd (omega (arith, z))
+      kept = λ l. absurd (omega (arith, z));
     })
 
     pub path-end : length w ≤ i → AddedTo t cats parents at len (addUrn ns (urn c (fields 58 (take k (drop from t))))) c (fields 58 (take k (drop from t))) r
@@ -309,7 +311,7 @@ module _ (t : List ℕ) (f : ℕ → Urn) (i : ℕ) {cats parents at len : List 
   all-over m h z =
       let s = tab-split f i m h in
       let x : foldl addUrn [] (tabulate f m) ≡ foldl addUrn (foldl addUrn [] (tabulate f (i + 1))) (s .0) =
-          ap (foldl addUrn []) (s .1) ∙ foldl-append addUrn [] (tabulate f i) (f i ∷ s .0) ∙ ap (λ (l : List Urn). foldl addUrn l (s .0)) (sym (fold-more f i)) in
+      ap (foldl addUrn []) (s .1) ∙ foldl-append addUrn [] (tabulate f i) (f i ∷ s .0) ∙ ap (λ (l : List Urn). foldl addUrn l (s .0)) (sym (fold-more f i)) in
       omega (arith, B .over z, extends-le (urns-extend (s .0) (foldl addUrn [] (tabulate f (i + 1)))), ap length x)
 
   module _ (node : List ℕ) (v : (j : ℕ) → j < i → Numbered (foldl addUrn [] (tabulate f i)) (f j .cat) (f j .path) (getD node j 0)) (z : r .node ≡ 0 → ⊥)
@@ -331,8 +333,8 @@ module _ (t : List ℕ) (f : ℕ → Urn) (i : ℕ) {cats parents at len : List 
     all-numbered j k = byTest (eqb j i)
         (λ b. subst (λ (x : ℕ). N x (getD (set node i w) x 0)) (sym (eqb-true j i b)) (subst (N i) (sym (getD-set-same node i w 0 h ∙ g)) (K .1)))
         (λ b.
-            let y = eqb-false j i b in
-            subst (N j) (sym (getD-set-other node i j w 0 y)) (numbered-extends (f j .cat) (f j .path) (getD node j 0) grows (v j (omega arith))))
+        let y = eqb-false j i b in
+        subst (N j) (sym (getD-set-other node i j w 0 y)) (numbered-extends (f j .cat) (f j .path) (getD node j 0) grows (v j (omega arith))))
 
 pub nodes-none : (t cats parents at len : List ℕ) (f : ℕ → Urn) → length cats ≡ 64 → length parents ≡ 64 → length at ≡ 64 → length len ≡ 64
     → Nodes t cats parents at len 0 (foldl addUrn [] (tabulate f 0))

@@ -108,8 +108,8 @@ module _ (t nameAt nameLen signal category pathAt pathLen slots : List ℕ) (l :
       ∙ row-all (getD (T .signals) a []) (getD (T .signals) b []) 0 (l .categories)
       ∙ all-alike (λ i. sameParts (place T a (0 + i)) (place T b (0 + i))) (λ c. sameSlots t pathAt pathLen (slot a c) (slot b c)) (λ i. i) (λ c. c) (l .categories)
       (λ c h.
-          let k : c < 8 = omega (arith, h, L .few-categories) in
-          ap (λ i. sameParts (place T a i) (place T b i)) (zero-add c) ∙ ap₂ sameParts (place-slot a c k) (place-slot b c k) ∙ same-slot (slot a c) (slot b c))
+      let k : c < 8 = omega (arith, h, L .few-categories) in
+      ap (λ i. sameParts (place T a i) (place T b i)) (zero-add c) ∙ ap₂ sameParts (place-slot a c k) (place-slot b c k) ∙ same-slot (slot a c) (slot b c))
 
   distinct-by : (q : ℕ → ℕ → Bool) → ((i j : ℕ) → i < j → j < l .signals → samePlaces (T .cats) (getD (T .signals) i []) (getD (T .signals) j []) ≡ q i j)
       → distinct T ≡ noTwo q (tabulate (λ i. i) (l .signals))
@@ -158,7 +158,7 @@ module _ (t nameAt nameLen signal category pathAt pathLen slots : List ℕ) (l :
           let q : c ≡ getD category i 0 = eqb-true c (getD category i 0) (and-eq-true-iff (eqb s (getD signal i 0)) (eqb c (getD category i 0)) .0 (r .1) .1) in
           let z : slot s c ≢ 0 = λ y. omega (arith, e, y) in
           let m = number-as (getD category i 0) (fields 58 (stretch t pathAt pathLen i)) (getD node i 0)
-              (subst (λ (y : List Urn). Numbered y (getD category i 0) (fields 58 (stretch t pathAt pathLen i)) (getD node i 0)) (sym nodes-are) (A .numbered h i (r .0))) in
+          (subst (λ (y : List Urn). Numbered y (getD category i 0) (fields 58 (stretch t pathAt pathLen i)) (getD node i 0)) (sym nodes-are) (A .numbered h i (r .0))) in
           let o : suc i - 1 ≡ i = omega arith in
           rw (ne-eqb (slot s c) 0 z) (ap (λ y. getD node (y - 1) 0) e ∙ ap (λ y. getD node y 0) o ∙ m ∙ ap (λ y. number (nodes T) y (fields 58 (stretch t pathAt pathLen i))) (sym q))
 
@@ -179,14 +179,14 @@ module _ (t nameAt nameLen signal category pathAt pathLen slots : List ℕ) (l :
       digit : (s c : ℕ) → c < 8 → placeNumber slots node (8 * s + c) ≡ getD (numbers s) c 0
       digit s c k = byTest (ltb c (l .categories))
           (λ b.
-              let g = ltb-true c (l .categories) b in
-              let g₁ : c < T .cats = omega (arith, g, L .cats) in
-              let g₂ : c < length (rowOf T s) = omega (arith, g₁, row-length (getD (T .signals) s []) 0 (T .cats)) in
-              place-is s c (slot s c) refl k ∙ ap (number (nodes T) c) (sym (place-slot s c k))
-              ∙ sym (numbers-at (nodes T) 0 (rowOf T s) c g₂ ∙ ap₂ (number (nodes T)) (zero-add c) (row-place T s c g₁)))
+          let g = ltb-true c (l .categories) b in
+          let g₁ : c < T .cats = omega (arith, g, L .cats) in
+          let g₂ : c < length (rowOf T s) = omega (arith, g₁, row-length (getD (T .signals) s []) 0 (T .cats)) in
+          place-is s c (slot s c) refl k ∙ ap (number (nodes T) c) (sym (place-slot s c k))
+          ∙ sym (numbers-at (nodes T) 0 (rowOf T s) c g₂ ∙ ap₂ (number (nodes T)) (zero-add c) (row-place T s c g₁)))
           (λ b.
-              let g = ltb-false c (l .categories) b in
-              blank s c (slot s c) refl g k ∙ sym (List·getD-eq-default (numbers s) 0 (omega (arith, wide s, g))))
+          let g = ltb-false c (l .categories) b in
+          blank s c (slot s c) refl g k ∙ sym (List·getD-eq-default (numbers s) 0 (omega (arith, wide s, g))))
 
       module _ (rows : List ℕ) (v : (s : ℕ) → s < l .signals → getD rows s 0 ≡ packedFrom (placeNumber slots node) (8 * s) 8) where
         packed : (s : ℕ) → s < l .signals → getD rows s 0 ≡ pack (numbers s)
@@ -203,10 +203,10 @@ module _ (t nameAt nameLen signal category pathAt pathLen slots : List ℕ) (l :
             same-test (sameRow (rowOf T i) (rowOf T j)) (eqb (getD rows i 0) (getD rows j 0))
             (λ e. eq-eqb _ _ (packed i a ∙ ap (λ (r : Row). pack (numbersFrom (nodes T) 0 r)) (row-exact .to (rowOf T i) (rowOf T j) e) ∙ sym (packed j b)))
             (λ e.
-                let w : pack (numbers i) ≡ pack (numbers j) = sym (packed i a) ∙ eqb-true _ _ e ∙ packed j b in
-                let s : numbers i ≡ numbers j = pack-same (numbers i) (numbers j) (wide i ∙ sym (wide j)) (numbers-bytes (nodes T) few 0 (rowOf T i)) (numbers-bytes (nodes T) few 0 (rowOf T j)) w in
-                let u : rowOf T i ≡ rowOf T j = numbers-same T 0 (rowOf T i) (rowOf T j) (anchored i a) (anchored j b) (row-length (getD (T .signals) i []) 0 (T .cats) ∙ sym (row-length (getD (T .signals) j []) 0 (T .cats))) s in
-                subst (λ (r : Row). sameRow (rowOf T i) r ≡ true) u (row-exact .self (rowOf T i)))
+            let w : pack (numbers i) ≡ pack (numbers j) = sym (packed i a) ∙ eqb-true _ _ e ∙ packed j b in
+            let s : numbers i ≡ numbers j = pack-same (numbers i) (numbers j) (wide i ∙ sym (wide j)) (numbers-bytes (nodes T) few 0 (rowOf T i)) (numbers-bytes (nodes T) few 0 (rowOf T j)) w in
+            let u : rowOf T i ≡ rowOf T j = numbers-same T 0 (rowOf T i) (rowOf T j) (anchored i a) (anchored j b) (row-length (getD (T .signals) i []) 0 (T .cats) ∙ sym (row-length (getD (T .signals) j []) 0 (T .cats))) s in
+            subst (λ (r : Row). sameRow (rowOf T i) r ≡ true) u (row-exact .self (rowOf T i)))
 
         pub by-rows : {b : Bool} → b ≡ noTwo eqb (tabulate (λ s. getD rows s 0) (l .signals)) → distinct T ≡ b
         by-rows e =
@@ -228,7 +228,7 @@ module _ (t nameAt nameLen signal category pathAt pathLen slots : List ℕ) (l :
             record {
               all-names = ap length (L .names) ∙ tabulate-length (stretch t nameAt nameLen) (l .categories);
               few-names = L .few-categories;
-              name-at = λ i k. sym (ap (λ (z : List Name). getD z i []) (L .names) ∙ tabulate-at (stretch t nameAt nameLen) (l .categories) i [] k)
+              name-at = λ i k. sym (ap (λ (z : List Name). getD z i []) (L .names) ∙ tabulate-at (stretch t nameAt nameLen) (l .categories) i [] k);
             }
 
         pub nodes-in : NodesIn t cats at len n T
@@ -237,7 +237,7 @@ module _ (t nameAt nameLen signal category pathAt pathLen slots : List ℕ) (l :
               all-nodes = count;
               few-nodes = h;
               cat-at = λ i k. ap (λ (u : Urn). u .cat) (sym (node-is i k));
-              path-at = λ i k. ap (λ (u : Urn). u .path) (sym (node-is i k))
+              path-at = λ i k. ap (λ (u : Urn). u .path) (sym (node-is i k));
             }
 
         snoc-same : (p q : Parts) (x y : Name) → p ++ x ∷ [] ≡ q ++ y ∷ [] → p ≡ q
@@ -258,7 +258,7 @@ module _ (t nameAt nameLen signal category pathAt pathLen slots : List ℕ) (l :
               parent-at = λ k i p x e.
                   let w = N .parent k (omega (arith, i, count)) in
                   let s : w .0 ≡ p = snoc-same (w .0) p (w .1) x (sym (w .2) ∙ e) in
-                  number-as (nodeAt (nodes T) k .cat) (w .0) (getD parents k 0) (w .3) ∙ ap (number (nodes T) (nodeAt (nodes T) k .cat)) s
+                  number-as (nodeAt (nodes T) k .cat) (w .0) (getD parents k 0) (w .3) ∙ ap (number (nodes T) (nodeAt (nodes T) k .cat)) s;
             }
 
 -- the answer to an accepted table
@@ -277,6 +277,6 @@ means-accepted t nameAt nameLen signal category pathAt pathLen slots l S {node} 
         names = names-in t nameAt nameLen signal category pathAt pathLen slots l S A h rows v;
         nodes = nodes-in t nameAt nameLen signal category pathAt pathLen slots l S A h rows v;
         numbers = numbers-hold t nameAt nameLen signal category pathAt pathLen slots l S A h rows v (node-parts (tableOf t) acc);
-        well-formed = acc .well
-      }
+        well-formed = acc .well;
+      };
     }

@@ -52,11 +52,11 @@ byte-read lo hi t at n p e =
     byTest (ltb at (length t))
     (λ h. byTest (within lo hi (getD t at 0))
     (λ w.
-        let q : got (getD t at 0) (at + 1) ≡ got n p = simp (h, w) at e in
-        let v : getD t at 0 ≡ n = cc in
-        let y : at + 1 ≡ p = cc in
-        let b = and-eq-true-iff (leb lo (getD t at 0)) (leb (getD t at 0) hi) .0 w in
-        record { low = omega (arith, leb-true lo (getD t at 0) (b .0)); high = omega (arith, leb-true (getD t at 0) hi (b .1)); next = sym y; here = ltb-true _ _ h })
+    let q : got (getD t at 0) (at + 1) ≡ got n p = simp (h, w) at e in
+    let v : getD t at 0 ≡ n = cc in
+    let y : at + 1 ≡ p = cc in
+    let b = and-eq-true-iff (leb lo (getD t at 0)) (leb (getD t at 0) hi) .0 w in
+    record { low = omega (arith, leb-true lo (getD t at 0) (b .0)); high = omega (arith, leb-true (getD t at 0) hi (b .1)); next = sym y; here = ltb-true _ _ h })
     (λ w. let q : fault 6 ≡ got n p = simp (h, w) at e in let z : _≡_ {A = ℕ} 0 1 = cc in absurd (omega arith)))
     (λ h. let q : fault 5 ≡ got n p = simp h at e in let z : _≡_ {A = ℕ} 0 1 = cc in absurd (omega arith))
 

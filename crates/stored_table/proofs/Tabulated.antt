@@ -30,8 +30,8 @@ tab-split f i zero h = absurd (omega arith)
 tab-split f i (suc n) h =
     byTest (ltb i n)
     (λ e.
-        let r = tab-split f i n (ltb-true i n e) in
-        (r .0 ++ f n ∷ [], ap (λ l. l ++ f n ∷ []) (r .1) ∙ append-assoc (tabulate f i) (f i ∷ r .0) (f n ∷ [])))
+    let r = tab-split f i n (ltb-true i n e) in
+    (r .0 ++ f n ∷ [], ap (λ l. l ++ f n ∷ []) (r .1) ∙ append-assoc (tabulate f i) (f i ∷ r .0) (f n ∷ [])))
     (λ e. let k : i ≡ n = omega (arith, ltb-false i n e) in ([], rw k))
 
 pub tab-same-end : {A : Type 0} (f : ℕ → A) (i n : ℕ) → i ≤ n → n ≤ i → tabulate f i ≡ tabulate f n
@@ -164,9 +164,9 @@ two-more q (y ∷ l) x v e =
     byTest (q y x)
     (λ t. absurd (true≢false (rw t at e)))
     (λ t.
-        let f : any (λ y. q y x) l ≡ false = rw t at e in
-        let g : any (q y) (l ++ x ∷ []) ≡ any (q y) l = any-join (q y) l (x ∷ []) ∙ rw t (keep (any (q y) l)) in
-        rw (g, two-more q l x (a .1) f) (ap (λ b. b && true) (a .0)))
+    let f : any (λ y. q y x) l ≡ false = rw t at e in
+    let g : any (q y) (l ++ x ∷ []) ≡ any (q y) l = any-join (q y) l (x ∷ []) ∙ rw t (keep (any (q y) l)) in
+    rw (g, two-more q l x (a .1) f) (ap (λ b. b && true) (a .0)))
   where
     keep : (b : Bool) → cond b true false ≡ b
     keep true = refl

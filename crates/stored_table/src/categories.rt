@@ -53,10 +53,24 @@ fn path_start(n: usize, k: usize) -> usize
 }
 
 // The category and the path of every URN, as far as its category is listed.
-pub fn index_urns(t: &[u8], n: usize, name_at: &[u16; 8], name_len: &[u8; 8], m: usize, at: &[u16; 256], len: &[u8; 256], category: &mut [u8; 256], path_at: &mut [u16; 256], path_len: &mut [u8; 256]) -> bool
+pub fn index_urns(
+    t: &[u8],
+    n: usize,
+    name_at: &[u16; 8],
+    name_len: &[u8; 8],
+    m: usize,
+    at: &[u16; 256],
+    len: &[u8; 256],
+    category: &mut [u8; 256],
+    path_at: &mut [u16; 256],
+    path_len: &mut [u8; 256],
+) -> bool
     requires { ⌜ (n ≤ 8) × (m ≤ 256) × (length (now t) ≤ 8192) × (length (now category) ≡ 256) × (length (now «path_at») ≡ 256) × (length (now «path_len») ≡ 256) ⌝ }
-    ensures { λ r. ⌜ r ≡ all (isListed (tabulate (stretch (now (t .entry)) (now («name_at» .entry)) (now («name_len» .entry))) n)) (tabulate (stretch (now (t .entry)) (now (at .entry)) (now (len .entry))) m) ⌝ }
-    ensures indexed { λ r. ⌜ (r ≡ true → Indexed (now (t .entry)) (tabulate (stretch (now (t .entry)) (now («name_at» .entry)) (now («name_len» .entry))) n) (now (at .entry)) (now (len .entry)) m (now (category .exit)) (now («path_at» .exit)) (now («path_len» .exit))) ⌝ }
+    ensures { λ r. ⌜ r ≡ all (isListed (tabulate (stretch (now (t .entry)) (now («name_at» .entry)) (now («name_len» .entry))) n))
+        (tabulate (stretch (now (t .entry)) (now (at .entry)) (now (len .entry))) m) ⌝ }
+    ensures indexed { λ r. ⌜ (r ≡ true → Indexed (now (t .entry))
+        (tabulate (stretch (now (t .entry)) (now («name_at» .entry)) (now («name_len» .entry))) n) (now (at .entry)) (now (len .entry)) m
+        (now (category .exit)) (now («path_at» .exit)) (now («path_len» .exit))) ⌝ }
 {
     let mut i = 0;
     while i < m {

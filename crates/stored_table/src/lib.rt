@@ -5,6 +5,7 @@ mod nodes;
 mod places;
 mod read;
 mod signals;
+
 use crate::read::Counts;
 ghost use mathlib.Core.Path.{_≡_};
 ghost use Prim.Native.Nat.{_≤_};
@@ -33,11 +34,33 @@ pub struct Decoded {
 fn refused(k: u8) -> Decoded
     ensures { λ r. ⌜ r ≡ refusedTable k ⌝ }
 {
-    Decoded { refusal: k, categories: 0, signals: 0, nodes: 0, name_at: [0u16; 8], name_len: [0u8; 8], category: [0u8; 64], parent: [0u8; 64], at: [0u16; 64], len: [0u8; 64], rows: [0u64; 32] }
+    Decoded {
+        refusal: k,
+        categories: 0,
+        signals: 0,
+        nodes: 0,
+        name_at: [0u16; 8],
+        name_len: [0u8; 8],
+        category: [0u8; 64],
+        parent: [0u8; 64],
+        at: [0u16; 64],
+        len: [0u8; 64],
+        rows: [0u64; 32],
+    }
 }
 
 // The nodes and the places, with refusals 11 and 12. If there are too many nodes, the places are compared as texts.
-fn placed(t: &[u8], l: Counts, name_at: &[u16; 8], name_len: &[u8; 8], signal: &[u8; 256], category: &[u8; 256], path_at: &[u16; 256], path_len: &[u8; 256], slots: &[u16; 256]) -> Decoded
+fn placed(
+    t: &[u8],
+    l: Counts,
+    name_at: &[u16; 8],
+    name_len: &[u8; 8],
+    signal: &[u8; 256],
+    category: &[u8; 256],
+    path_at: &[u16; 256],
+    path_len: &[u8; 256],
+    slots: &[u16; 256],
+) -> Decoded
     requires { ⌜ SlotsAs (now t) (now «name_at») (now «name_len») (now signal) (now category) (now «path_at») (now «path_len») (now slots) l ⌝ }
     ensures { λ r. ⌜ Means (now (t .entry)) r ⌝ }
 {
@@ -46,7 +69,18 @@ fn placed(t: &[u8], l: Counts, name_at: &[u16; 8], name_len: &[u8; 8], signal: &
     let mut parent = [0u8; 64];
     let mut at = [0u16; 64];
     let mut len = [0u8; 64];
-    let n = nodes::add_all(t, l.urns, category, path_at, path_len, &mut node, &mut cats, &mut parent, &mut at, &mut len);
+    let n = nodes::add_all(
+        t,
+        l.urns,
+        category,
+        path_at,
+        path_len,
+        &mut node,
+        &mut cats,
+        &mut parent,
+        &mut at,
+        &mut len,
+    );
     if 64 < n {
         if places::texts_distinct(t, l.signals, l.categories, slots, path_at, path_len) {
             return refused(12);
@@ -58,20 +92,51 @@ fn placed(t: &[u8], l: Counts, name_at: &[u16; 8], name_len: &[u8; 8], signal: &
     if places::rows_distinct(l.signals, &rows) {
         let names = *name_at;
         let lens = *name_len;
-        return Decoded { refusal: 0, categories: l.categories, signals: l.signals, nodes: n, name_at: names, name_len: lens, category: cats, parent, at, len, rows };
+        return Decoded {
+            refusal: 0,
+            categories: l.categories,
+            signals: l.signals,
+            nodes: n,
+            name_at: names,
+            name_len: lens,
+            category: cats,
+            parent,
+            at,
+            len,
+            rows,
+        };
     }
     refused(11)
 }
 
 // Refusals 9 and 10.
-fn slotted(t: &[u8], l: Counts, name_at: &[u16; 8], name_len: &[u8; 8], signal: &[u8; 256], category: &[u8; 256], path_at: &[u16; 256], path_len: &[u8; 256]) -> Decoded
+fn slotted(
+    t: &[u8],
+    l: Counts,
+    name_at: &[u16; 8],
+    name_len: &[u8; 8],
+    signal: &[u8; 256],
+    category: &[u8; 256],
+    path_at: &[u16; 256],
+    path_len: &[u8; 256],
+) -> Decoded
     requires { ⌜ ListedAs (now t) (now «name_at») (now «name_len») (now signal) (now category) (now «path_at») (now «path_len») l ⌝ }
     ensures { λ r. ⌜ Means (now (t .entry)) r ⌝ }
 {
     let mut slots = [0u16; 256];
     if signals::fill_slots(l.urns, signal, category, &mut slots) {
         if signals::silent(l.urns, signal) {
-            return placed(t, l, name_at, name_len, signal, category, path_at, path_len, &slots);
+            return placed(
+                t,
+                l,
+                name_at,
+                name_len,
+                signal,
+                category,
+                path_at,
+                path_len,
+                &slots,
+            );
         }
         return refused(10);
     }
@@ -79,7 +144,15 @@ fn slotted(t: &[u8], l: Counts, name_at: &[u16; 8], name_len: &[u8; 8], signal: 
 }
 
 // Refusal 8.
-fn listed(t: &[u8], l: Counts, name_at: &[u16; 8], name_len: &[u8; 8], at: &[u16; 256], len: &[u8; 256], signal: &[u8; 256]) -> Decoded
+fn listed(
+    t: &[u8],
+    l: Counts,
+    name_at: &[u16; 8],
+    name_len: &[u8; 8],
+    at: &[u16; 256],
+    len: &[u8; 256],
+    signal: &[u8; 256],
+) -> Decoded
     requires { ⌜ FormedAs (now t) (now «name_at») (now «name_len») (now at) (now len) (now signal) l ⌝ }
     ensures { λ r. ⌜ Means (now (t .entry)) r ⌝ }
 {
@@ -87,9 +160,29 @@ fn listed(t: &[u8], l: Counts, name_at: &[u16; 8], name_len: &[u8; 8], at: &[u16
     let mut path_at = [0u16; 256];
     let mut path_len = [0u8; 256];
     if categories::names_distinct(t, l.categories, name_at, name_len) {
-        if categories::index_urns(t, l.categories, name_at, name_len, l.urns, at, len, &mut category, &mut path_at, &mut path_len) {
+        if categories::index_urns(
+            t,
+            l.categories,
+            name_at,
+            name_len,
+            l.urns,
+            at,
+            len,
+            &mut category,
+            &mut path_at,
+            &mut path_len,
+        ) {
             if categories::all_used(&category, l.urns, l.categories) {
-                return slotted(t, l, name_at, name_len, signal, &category, &path_at, &path_len);
+                return slotted(
+                    t,
+                    l,
+                    name_at,
+                    name_len,
+                    signal,
+                    &category,
+                    &path_at,
+                    &path_len,
+                );
             }
             return refused(8);
         }
@@ -99,7 +192,15 @@ fn listed(t: &[u8], l: Counts, name_at: &[u16; 8], name_len: &[u8; 8], at: &[u16
 }
 
 // Refusal 7.
-fn formed(t: &[u8], l: Counts, name_at: &[u16; 8], name_len: &[u8; 8], at: &[u16; 256], len: &[u8; 256], signal: &[u8; 256]) -> Decoded
+fn formed(
+    t: &[u8],
+    l: Counts,
+    name_at: &[u16; 8],
+    name_len: &[u8; 8],
+    at: &[u16; 256],
+    len: &[u8; 256],
+    signal: &[u8; 256],
+) -> Decoded
     requires { ⌜ (length (now t) ≤ 8192) × ReadAs (now t) (now «name_at») (now «name_len») (now at) (now len) (now signal) l ⌝ }
     ensures { λ r. ⌜ Means (now (t .entry)) r ⌝ }
 {
@@ -124,7 +225,14 @@ pub fn decode(t: &[u8]) -> Decoded
     let mut at = [0u16; 256];
     let mut len = [0u8; 256];
     let mut signal = [0u8; 256];
-    let l = read::read_table(t, &mut name_at, &mut name_len, &mut at, &mut len, &mut signal);
+    let l = read::read_table(
+        t,
+        &mut name_at,
+        &mut name_len,
+        &mut at,
+        &mut len,
+        &mut signal,
+    );
     if l.ok {
         return formed(t, l, &name_at, &name_len, &at, &len, &signal);
     }

@@ -1,15 +1,12 @@
 ghost use mathlib.Core.Path.{_≡_};
-ghost use mathlib.Core.Bool.{true};
-ghost use mathlib.Core.List.{List, _++_, _∷_, [], foldl};
-ghost use Prim.Native.Nat.{ℕ, _≤_, _<_, _+_};
-ghost use lib.ListN.{length, take, drop, getD};
-ghost use Rattle.resolution.specs.Lists.{tabulate, addBy};
-ghost use Rattle.resolution.specs.Names.{Name, Parts};
-ghost use Rattle.resolution.specs.Table.{Urn, urn};
-ghost use Rattle.resolution.specs.Nodes.{sameUrn, number, addUrn};
+ghost use Prim.Native.Nat.{_≤_, _<_};
+ghost use lib.ListN.{length};
+ghost use Rattle.resolution.specs.Lists.{tabulate};
+ghost use Rattle.resolution.specs.Table.{urn};
+ghost use Rattle.resolution.specs.Nodes.{sameUrn, number};
 ghost use Rattle.alert_urn.specs.Text.{fields};
 ghost use Rattle.node_step.specs.Arrays.{stretch};
-ghost use Rattle.stored_table.specs.Held.{nodeUrn, pathUrn, Nodes, Numbered, AddedTo, AllAdded};
+ghost use Rattle.stored_table.specs.Held.{nodeUrn, pathUrn, AddsNode, AddsPath, AddsUrn, AllAdded};
 
 // The path of node i + 1.
 fn node_text<'a>(t: &'a [u8], at: &[u16; 64], len: &[u8; 64], i: usize) -> &'a [u8]
@@ -22,7 +19,15 @@ fn node_text<'a>(t: &'a [u8], at: &[u16; 64], len: &[u8; 64], i: usize) -> &'a [
 }
 
 // Node i + 1 has the category c and the path s.
-fn node_is(t: &[u8], c: u8, s: &[u8], i: usize, cats: &[u8; 64], at: &[u16; 64], len: &[u8; 64]) -> bool
+fn node_is(
+    t: &[u8],
+    c: u8,
+    s: &[u8],
+    i: usize,
+    cats: &[u8; 64],
+    at: &[u16; 64],
+    len: &[u8; 64],
+) -> bool
     requires { ⌜ i < 64 ⌝ }
     ensures { λ r. ⌜ r ≡ sameUrn (urn c (fields 58 (now (s .entry)))) (nodeUrn (now (t .entry)) (now (cats .entry)) (now (at .entry)) (now (len .entry)) i) ⌝ }
 {
@@ -34,7 +39,15 @@ fn node_is(t: &[u8], c: u8, s: &[u8], i: usize, cats: &[u8; 64], at: &[u16; 64],
 }
 
 // The number of the node of category c with the path s, from 1, or 0.
-fn find_node(t: &[u8], c: u8, s: &[u8], n: usize, cats: &[u8; 64], at: &[u16; 64], len: &[u8; 64]) -> usize
+fn find_node(
+    t: &[u8],
+    c: u8,
+    s: &[u8],
+    n: usize,
+    cats: &[u8; 64],
+    at: &[u16; 64],
+    len: &[u8; 64],
+) -> usize
     requires { ⌜ n ≤ 64 ⌝ }
     ensures { λ r. ⌜ (r ≡ number (tabulate (nodeUrn (now (t .entry)) (now (cats .entry)) (now (at .entry)) (now (len .entry))) n) c (fields 58 (now (s .entry)))) × (r ≤ n) ⌝ }
 {
@@ -55,9 +68,21 @@ pub struct Added {
 }
 
 // The node of category c with the path in the len bytes from `at`, under the node `parent`, is added unless it is there.
-fn add_node(t: &[u8], c: u8, from: usize, k: usize, parent: usize, n: usize, cats: &mut [u8; 64], parents: &mut [u8; 64], at: &mut [u16; 64], len: &mut [u8; 64]) -> Added
+fn add_node(
+    t: &[u8],
+    c: u8,
+    from: usize,
+    k: usize,
+    parent: usize,
+    n: usize,
+    cats: &mut [u8; 64],
+    parents: &mut [u8; 64],
+    at: &mut [u16; 64],
+    len: &mut [u8; 64],
+) -> Added
     requires { ⌜ (n ≤ 64) × (from < 65536) × (k < 256) × (parent ≤ 64) ⌝ }
-    ensures { λ r. ⌜ ((ns : List Urn) (p : Parts) (x : Name) → Nodes (now (t .entry)) (now (cats .entry)) (now (parents .entry)) (now (at .entry)) (now (len .entry)) n ns → fields 58 (take k (drop from (now (t .entry)))) ≡ p ++ x ∷ [] → Numbered ns c p parent → AddedTo (now (t .entry)) (now (cats .exit)) (now (parents .exit)) (now (at .exit)) (now (len .exit)) (addBy sameUrn ns (urn c (fields 58 (take k (drop from (now (t .entry))))))) c (fields 58 (take k (drop from (now (t .entry))))) r) ⌝ }
+    ensures { λ r. ⌜ AddsNode (now (t .entry)) c from k parent n (now (cats .entry)) (now (parents .entry)) (now (at .entry)) (now (len .entry))
+        (now (cats .exit)) (now (parents .exit)) (now (at .exit)) (now (len .exit)) r ⌝ }
     ensures few { λ r. ⌜ (r .node ≤ 64) × (r .count ≤ 64) ⌝ }
 {
     let m = find_node(t, c, alert_urn::text::part(t, from, k), n, cats, at, len);
@@ -70,15 +95,29 @@ fn add_node(t: &[u8], c: u8, from: usize, k: usize, parent: usize, n: usize, cat
         at[n] = crate::read::short(from);
         len[n] = crate::read::small(k);
         let next = n + 1;
-        return Added { node: next, count: next };
+        return Added {
+            node: next,
+            count: next,
+        };
     }
     Added { node: 0, count: n }
 }
 
 // The ancestors of a path and the path itself are added, shortest first.
-fn add_path(t: &[u8], c: u8, from: usize, k: usize, n: usize, cats: &mut [u8; 64], parents: &mut [u8; 64], at: &mut [u16; 64], len: &mut [u8; 64]) -> Added
+fn add_path(
+    t: &[u8],
+    c: u8,
+    from: usize,
+    k: usize,
+    n: usize,
+    cats: &mut [u8; 64],
+    parents: &mut [u8; 64],
+    at: &mut [u16; 64],
+    len: &mut [u8; 64],
+) -> Added
     requires { ⌜ (n ≤ 64) × (from < 65536) × (k < 256) ⌝ }
-    ensures { λ r. ⌜ ((ns : List Urn) → Nodes (now (t .entry)) (now (cats .entry)) (now (parents .entry)) (now (at .entry)) (now (len .entry)) n ns → AddedTo (now (t .entry)) (now (cats .exit)) (now (parents .exit)) (now (at .exit)) (now (len .exit)) (addUrn ns (urn c (fields 58 (take k (drop from (now (t .entry))))))) c (fields 58 (take k (drop from (now (t .entry))))) r) ⌝ }
+    ensures { λ r. ⌜ AddsPath (now (t .entry)) c from k n (now (cats .entry)) (now (parents .entry)) (now (at .entry)) (now (len .entry))
+        (now (cats .exit)) (now (parents .exit)) (now (at .exit)) (now (len .exit)) r ⌝ }
     ensures few { λ r. ⌜ (r .node ≤ 64) × (r .count ≤ 64) ⌝ }
 {
     let w = alert_urn::text::part(t, from, k);
@@ -97,9 +136,20 @@ fn add_path(t: &[u8], c: u8, from: usize, k: usize, n: usize, cats: &mut [u8; 64
 }
 
 // The nodes of one URN are added, unless its path is a node already: then its ancestors are nodes too.
-fn add_urn(t: &[u8], c: u8, from: usize, k: usize, n: usize, cats: &mut [u8; 64], parents: &mut [u8; 64], at: &mut [u16; 64], len: &mut [u8; 64]) -> Added
+fn add_urn(
+    t: &[u8],
+    c: u8,
+    from: usize,
+    k: usize,
+    n: usize,
+    cats: &mut [u8; 64],
+    parents: &mut [u8; 64],
+    at: &mut [u16; 64],
+    len: &mut [u8; 64],
+) -> Added
     requires { ⌜ (n ≤ 64) × (from < 65536) × (k < 256) ⌝ }
-    ensures { λ r. ⌜ ((us : List Urn) → Nodes (now (t .entry)) (now (cats .entry)) (now (parents .entry)) (now (at .entry)) (now (len .entry)) n (foldl addUrn [] us) → AddedTo (now (t .entry)) (now (cats .exit)) (now (parents .exit)) (now (at .exit)) (now (len .exit)) (addUrn (foldl addUrn [] us) (urn c (fields 58 (take k (drop from (now (t .entry))))))) c (fields 58 (take k (drop from (now (t .entry))))) r) ⌝ }
+    ensures { λ r. ⌜ AddsUrn (now (t .entry)) c from k n (now (cats .entry)) (now (parents .entry)) (now (at .entry)) (now (len .entry))
+        (now (cats .exit)) (now (parents .exit)) (now (at .exit)) (now (len .exit)) r ⌝ }
     ensures few { λ r. ⌜ (r .node ≤ 64) × (r .count ≤ 64) ⌝ }
 {
     let m = find_node(t, c, alert_urn::text::part(t, from, k), n, cats, at, len);
@@ -110,9 +160,21 @@ fn add_urn(t: &[u8], c: u8, from: usize, k: usize, n: usize, cats: &mut [u8; 64]
 }
 
 // The nodes of all URNs, and each URN's node; 65 if there are more than 64.
-pub fn add_all(t: &[u8], m: usize, category: &[u8; 256], path_at: &[u16; 256], path_len: &[u8; 256], node: &mut [u8; 256], cats: &mut [u8; 64], parents: &mut [u8; 64], at: &mut [u16; 64], len: &mut [u8; 64]) -> usize
+pub fn add_all(
+    t: &[u8],
+    m: usize,
+    category: &[u8; 256],
+    path_at: &[u16; 256],
+    path_len: &[u8; 256],
+    node: &mut [u8; 256],
+    cats: &mut [u8; 64],
+    parents: &mut [u8; 64],
+    at: &mut [u16; 64],
+    len: &mut [u8; 64],
+) -> usize
     requires { ⌜ (m ≤ 256) × (length (now node) ≡ 256) × (length (now cats) ≡ 64) × (length (now parents) ≡ 64) × (length (now at) ≡ 64) × (length (now len) ≡ 64) ⌝ }
-    ensures { λ r. ⌜ AllAdded (now (t .entry)) (pathUrn (now (t .entry)) (now (category .entry)) (now («path_at» .entry)) (now («path_len» .entry))) m (now (node .exit)) (now (cats .exit)) (now (parents .exit)) (now (at .exit)) (now (len .exit)) r ⌝ }
+    ensures { λ r. ⌜ AllAdded (now (t .entry)) (pathUrn (now (t .entry)) (now (category .entry)) (now («path_at» .entry)) (now («path_len» .entry))) m
+        (now (node .exit)) (now (cats .exit)) (now (parents .exit)) (now (at .exit)) (now (len .exit)) r ⌝ }
 {
     let mut n: usize = 0;
     let mut i = 0;

@@ -99,7 +99,15 @@ fn same_slot(t: &[u8], x: usize, y: usize, at: &[u16; 256], len: &[u8; 256]) -> 
 }
 
 // Signals a and b have the same places in n categories.
-fn same_places(t: &[u8], a: usize, b: usize, n: usize, slots: &[u16; 256], at: &[u16; 256], len: &[u8; 256]) -> bool
+fn same_places(
+    t: &[u8],
+    a: usize,
+    b: usize,
+    n: usize,
+    slots: &[u16; 256],
+    at: &[u16; 256],
+    len: &[u8; 256],
+) -> bool
     requires { ⌜ (a < 32) × (b < 32) × (n ≤ 8) × ((j : ℕ) → getD (now slots) j 0 ≤ 256) ⌝ }
     ensures { λ r. ⌜ r ≡ samePlacesAt (now (t .entry)) (now (slots .entry)) (now (at .entry)) (now (len .entry)) n a b ⌝ }
 {
@@ -117,7 +125,14 @@ fn same_places(t: &[u8], a: usize, b: usize, n: usize, slots: &[u16; 256], at: &
 }
 
 // Some signal before signal b has the same places.
-fn places_again(t: &[u8], b: usize, n: usize, slots: &[u16; 256], at: &[u16; 256], len: &[u8; 256]) -> bool
+fn places_again(
+    t: &[u8],
+    b: usize,
+    n: usize,
+    slots: &[u16; 256],
+    at: &[u16; 256],
+    len: &[u8; 256],
+) -> bool
     requires { ⌜ (b < 32) × (n ≤ 8) × ((j : ℕ) → getD (now slots) j 0 ≤ 256) ⌝ }
     ensures { λ r. ⌜ r ≡ any (λ a. samePlacesAt (now (t .entry)) (now (slots .entry)) (now (at .entry)) (now (len .entry)) n a b) (tabulate (λ a. a) b) ⌝ }
 {
@@ -132,7 +147,14 @@ fn places_again(t: &[u8], b: usize, n: usize, slots: &[u16; 256], at: &[u16; 256
 }
 
 // No two of `count` signals have the same places, by their texts.
-pub fn texts_distinct(t: &[u8], count: usize, n: usize, slots: &[u16; 256], at: &[u16; 256], len: &[u8; 256]) -> bool
+pub fn texts_distinct(
+    t: &[u8],
+    count: usize,
+    n: usize,
+    slots: &[u16; 256],
+    at: &[u16; 256],
+    len: &[u8; 256],
+) -> bool
     requires { ⌜ (count ≤ 32) × (n ≤ 8) × ((j : ℕ) → getD (now slots) j 0 ≤ 256) ⌝ }
     ensures { λ r. ⌜ r ≡ noTwo (samePlacesAt (now (t .entry)) (now (slots .entry)) (now (at .entry)) (now (len .entry)) n) (tabulate (λ a. a) count) ⌝ }
 {

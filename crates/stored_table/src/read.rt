@@ -101,9 +101,20 @@ fn read_names(t: &[u8], from: usize, n: usize, at: &mut [u16; 8], len: &mut [u8;
 }
 
 // The URNs of signal s, from a position on, put at `start` and up to before `end`.
-fn read_urns(t: &[u8], from: usize, s: u8, start: usize, end: usize, at: &mut [u16; 256], len: &mut [u8; 256], signal: &mut [u8; 256]) -> Reading
+fn read_urns(
+    t: &[u8],
+    from: usize,
+    s: u8,
+    start: usize,
+    end: usize,
+    at: &mut [u16; 256],
+    len: &mut [u8; 256],
+    signal: &mut [u8; 256],
+) -> Reading
     requires { ⌜ (start ≤ end) × (end ≤ 256) × (length (now t) ≤ 8192) × (length (now at) ≡ 256) × (length (now len) ≡ 256) × (length (now signal) ≡ 256) ⌝ }
-    ensures { λ r. ⌜ heldRead (urnAt (now (t .entry)) (now (signal .exit)) (now (at .exit)) (now (len .exit))) r ≡ mapRead (λ us. tabulate (urnAt (now (t .entry)) (now (signal .entry)) (now (at .entry)) (now (len .entry))) start ++ map (tag s) us) (times (text 255 (now (t .entry))) (end - start) from) ⌝ }
+    ensures { λ r. ⌜ heldRead (urnAt (now (t .entry)) (now (signal .exit)) (now (at .exit)) (now (len .exit))) r
+        ≡ mapRead (λ us. tabulate (urnAt (now (t .entry)) (now (signal .entry)) (now (at .entry)) (now (len .entry))) start ++ map (tag s) us)
+        (times (text 255 (now (t .entry))) (end - start) from) ⌝ }
     ensures few { λ r. ⌜ readUpTo r end × (length (now (at .exit)) ≡ 256) × (length (now (len .exit)) ≡ 256) × (length (now (signal .exit)) ≡ 256) ⌝ }
 {
     let mut i = start;
@@ -127,9 +138,19 @@ fn read_urns(t: &[u8], from: usize, s: u8, start: usize, end: usize, at: &mut [u
 }
 
 // Signal s: a count of URNs, and the URNs.
-fn read_signal(t: &[u8], from: usize, s: u8, start: usize, at: &mut [u16; 256], len: &mut [u8; 256], signal: &mut [u8; 256]) -> Reading
+fn read_signal(
+    t: &[u8],
+    from: usize,
+    s: u8,
+    start: usize,
+    at: &mut [u16; 256],
+    len: &mut [u8; 256],
+    signal: &mut [u8; 256],
+) -> Reading
     requires { ⌜ (start + 8 ≤ 256) × (length (now t) ≤ 8192) × (length (now at) ≡ 256) × (length (now len) ≡ 256) × (length (now signal) ≡ 256) ⌝ }
-    ensures { λ r. ⌜ heldRead (urnAt (now (t .entry)) (now (signal .exit)) (now (at .exit)) (now (len .exit))) r ≡ mapRead (λ us. tabulate (urnAt (now (t .entry)) (now (signal .entry)) (now (at .entry)) (now (len .entry))) start ++ map (tag s) us) (counted 0 8 (text 255 (now (t .entry))) (now (t .entry)) from) ⌝ }
+    ensures { λ r. ⌜ heldRead (urnAt (now (t .entry)) (now (signal .exit)) (now (at .exit)) (now (len .exit))) r
+        ≡ mapRead (λ us. tabulate (urnAt (now (t .entry)) (now (signal .entry)) (now (at .entry)) (now (len .entry))) start ++ map (tag s) us)
+        (counted 0 8 (text 255 (now (t .entry))) (now (t .entry)) from) ⌝ }
     ensures few { λ r. ⌜ readAtMost r (start + 8) × (length (now (at .exit)) ≡ 256) × (length (now (len .exit)) ≡ 256) × (length (now (signal .exit)) ≡ 256) ⌝ }
 {
     let got = byte_in(t, from, 0, 8);
@@ -140,7 +161,14 @@ fn read_signal(t: &[u8], from: usize, s: u8, start: usize, at: &mut [u16; 256], 
 }
 
 // n signals: the number of their URNs, and the position after them.
-fn read_signals(t: &[u8], from: usize, n: usize, at: &mut [u16; 256], len: &mut [u8; 256], signal: &mut [u8; 256]) -> Reading
+fn read_signals(
+    t: &[u8],
+    from: usize,
+    n: usize,
+    at: &mut [u16; 256],
+    len: &mut [u8; 256],
+    signal: &mut [u8; 256],
+) -> Reading
     requires { ⌜ (n ≤ 32) × (length (now t) ≤ 8192) × (length (now at) ≡ 256) × (length (now len) ≡ 256) × (length (now signal) ≡ 256) ⌝ }
     ensures { λ r. ⌜ heldRead (urnAt (now (t .entry)) (now (signal .exit)) (now (at .exit)) (now (len .exit))) r ≡ mapRead (taggedFrom 0) (times (counted 0 8 (text 255 (now (t .entry))) (now (t .entry))) n from) ⌝ }
     ensures few { λ r. ⌜ readAtMost r 256 ⌝ }
@@ -173,25 +201,55 @@ pub struct Counts {
     pub urns: usize,
 }
 
-
 // The section of the signals, with nothing behind it.
-fn read_rest(t: &[u8], from: usize, categories: usize, at: &mut [u16; 256], len: &mut [u8; 256], signal: &mut [u8; 256]) -> Counts
+fn read_rest(
+    t: &[u8],
+    from: usize,
+    categories: usize,
+    at: &mut [u16; 256],
+    len: &mut [u8; 256],
+    signal: &mut [u8; 256],
+) -> Counts
     requires { ⌜ (length (now t) ≤ 8192) × (length (now at) ≡ 256) × (length (now len) ≡ 256) × (length (now signal) ≡ 256) ⌝ }
     ensures { λ r. ⌜ ReadFrom (now (t .entry)) (now (at .exit)) (now (len .exit)) (now (signal .exit)) from r ⌝ }
     ensures names { λ r. ⌜ (r .ok ≡ true → r .categories ≡ categories) ⌝ }
 {
     let first = byte_in(t, from, 1, 32);
     match first {
-        Reading::Fault(k) => Counts { ok: false, fault: k, categories: 0, signals: 0, urns: 0 },
+        Reading::Fault(k) => Counts {
+            ok: false,
+            fault: k,
+            categories: 0,
+            signals: 0,
+            urns: 0,
+        },
         Reading::Got(n, p) => {
             let got = read_signals(t, p, n, at, len, signal);
             match got {
-                Reading::Fault(k) => Counts { ok: false, fault: k, categories: 0, signals: 0, urns: 0 },
+                Reading::Fault(k) => Counts {
+                    ok: false,
+                    fault: k,
+                    categories: 0,
+                    signals: 0,
+                    urns: 0,
+                },
                 Reading::Got(m, q) => {
                     if q < t.len() {
-                        return Counts { ok: false, fault: 5, categories: 0, signals: 0, urns: 0 };
+                        return Counts {
+                            ok: false,
+                            fault: 5,
+                            categories: 0,
+                            signals: 0,
+                            urns: 0,
+                        };
                     }
-                    Counts { ok: true, fault: 0, categories, signals: n, urns: m }
+                    Counts {
+                        ok: true,
+                        fault: 0,
+                        categories,
+                        signals: n,
+                        urns: m,
+                    }
                 }
             }
         }
@@ -212,13 +270,26 @@ fn read_categories(t: &[u8], at: &mut [u16; 8], len: &mut [u8; 8]) -> Reading
 }
 
 // The whole table: both sections, and nothing after them.
-pub fn read_table(t: &[u8], name_at: &mut [u16; 8], name_len: &mut [u8; 8], at: &mut [u16; 256], len: &mut [u8; 256], signal: &mut [u8; 256]) -> Counts
+pub fn read_table(
+    t: &[u8],
+    name_at: &mut [u16; 8],
+    name_len: &mut [u8; 8],
+    at: &mut [u16; 256],
+    len: &mut [u8; 256],
+    signal: &mut [u8; 256],
+) -> Counts
     requires { ⌜ (length (now t) ≤ 8192) × (length (now «name_at») ≡ 8) × (length (now «name_len») ≡ 8) × (length (now at) ≡ 256) × (length (now len) ≡ 256) × (length (now signal) ≡ 256) ⌝ }
     ensures { λ r. ⌜ Reads (now (t .entry)) (now («name_at» .exit)) (now («name_len» .exit)) (now (at .exit)) (now (len .exit)) (now (signal .exit)) r ⌝ }
 {
     let got = read_categories(t, name_at, name_len);
     match got {
-        Reading::Fault(k) => Counts { ok: false, fault: k, categories: 0, signals: 0, urns: 0 },
+        Reading::Fault(k) => Counts {
+            ok: false,
+            fault: k,
+            categories: 0,
+            signals: 0,
+            urns: 0,
+        },
         Reading::Got(n, p) => read_rest(t, p, n, at, len, signal),
     }
 }

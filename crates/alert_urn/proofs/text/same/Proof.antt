@@ -7,10 +7,6 @@ use Rattle.alert_urn.proofs.Turns.{words-more, words-less, same-lengths
 use borrow.Author.Needs.{needs}
 use Rattle.alert_urn.proofs.text.same.Statement.{statement}
 use Rattle.alert_urn.proofs.text.same.Tie as tie
-use Rattle.alert_urn.proofs.text.same.Reads as reads
-use Rattle.alert_urn.proofs.text.same.Lts as lts
-use Rattle.alert_urn.proofs.text.same_from.Reads as same-from-reads
-use Rattle.alert_urn.proofs.text.word_at.Reads as word-at-reads
 
 abbrev Inv-loop : tie.InvT-loop
 Inv-loop a b n i₀ i = (i ≤ length a) × (sameName a b ≡ sameName (drop i a) (drop i b))
@@ -18,47 +14,36 @@ Inv-loop a b n i₀ i = (i ≤ length a) × (sameName a b ≡ sameName (drop i a
 abbrev μ-loop : tie.MeasureT-loop
 μ-loop a b n i₀ i = length a - i
 
--- src/text.rt:167:9
 loop-holds : tie.Need-loop-holds Inv-loop μ-loop
 loop-holds c = (omega arith, refl)
 
--- src/text.rt:167:15
 add-loop : tie.Need-add-loop Inv-loop μ-loop
 add-loop c = omega arith
 
--- src/text.rt:168:16
 word-at-requires : tie.Need-word-at-requires Inv-loop μ-loop
 word-at-requires c κs = search needs
 
--- src/text.rt:168:33
 word-at-requires-2 : tie.Need-word-at-requires-2 Inv-loop μ-loop
 word-at-requires-2 c κs = search needs
 
--- src/text.rt:169:17
 add-i : tie.Need-add-i Inv-loop μ-loop
 add-i c = search needs
 
--- src/text.rt:167:9
 loop-less : tie.Need-loop-less Inv-loop μ-loop
 loop-less c = omega arith
 
--- src/text.rt:167:9
 loop-again : tie.Need-loop-again Inv-loop μ-loop
 loop-again c = (omega arith, words-more (c .before .before .before .before .before .before .before .before .args .a .now) (c .before .before .before .before .before .before .before .before .args .b .now) 8 (c .before .before .before .before .loop .i) (λ k. omega (arith, c .before .before .before .before .before .before .before .shared-slice-known .given k)) (λ k. omega (arith, c .before .before .before .before .before .before .shared-slice-known2 .given k)) (c .before .before .before .before .loop .inv .1) (c .before .before .before .loop-test .taken) (omega arith) (sym (c .before .before .word-at .ensures) ∙ c .if2 .taken ∙ c .before .word-at2 .ensures))
 
--- src/text.rt:171:17
 returns : tie.Need-returns Inv-loop μ-loop
 returns c = words-less (c .before .before .before .before .before .before .before .before .args .a .now) (c .before .before .before .before .before .before .before .before .args .b .now) (c .before .before .before .before .loop .i) 8 (c .before .before .word-at .ensures) (c .before .word-at2 .ensures) (c .if2 .left)
 
--- src/text.rt:174:9
 same-from-requires : tie.Need-same-from-requires Inv-loop μ-loop
 same-from-requires c κs = (omega arith, omega arith)
 
--- src/text.rt:174:9
 returns-2 : tie.Need-returns-2 Inv-loop μ-loop
 returns-2 c = c .same-from .ensures ∙ sym (c .before .before .loop .inv .1)
 
--- src/text.rt:161:1
 returns-3 : tie.Need-returns-3 Inv-loop μ-loop
 returns-3 c = same-lengths (c .before .before .before .args .a .now) (c .before .before .before .args .b .now) (c .if1 .left)
 

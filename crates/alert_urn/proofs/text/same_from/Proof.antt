@@ -7,8 +7,6 @@ use Rattle.alert_urn.proofs.Turns.{same-more, same-less, same-end}
 use borrow.Author.Needs.{needs}
 use Rattle.alert_urn.proofs.text.same_from.Statement.{statement}
 use Rattle.alert_urn.proofs.text.same_from.Tie as tie
-use Rattle.alert_urn.proofs.text.same_from.Reads as reads
-use Rattle.alert_urn.proofs.text.same_from.Lts as lts
 
 abbrev Inv-loop : tie.InvT-loop
 Inv-loop a b from n i₀ i = (i ≤ length a) × (sameName (drop from a) (drop from b) ≡ sameName (drop i a) (drop i b))
@@ -16,35 +14,27 @@ Inv-loop a b from n i₀ i = (i ≤ length a) × (sameName (drop from a) (drop f
 abbrev μ-loop : tie.MeasureT-loop
 μ-loop a b from n i₀ i = length a - i
 
--- src/text.rt:150:5
 loop-holds : tie.Need-loop-holds Inv-loop μ-loop
 loop-holds c = (omega arith, refl)
 
--- src/text.rt:151:12
 shared-slice-read-if1 : tie.Need-shared-slice-read-if1 Inv-loop μ-loop
 shared-slice-read-if1 c = search needs
 
--- src/text.rt:151:20
 shared-slice-read-if1-2 : tie.Need-shared-slice-read-if1-2 Inv-loop μ-loop
 shared-slice-read-if1-2 c = search needs
 
--- src/text.rt:152:13
 add-i : tie.Need-add-i Inv-loop μ-loop
 add-i c = search needs
 
--- src/text.rt:150:5
 loop-less : tie.Need-loop-less Inv-loop μ-loop
 loop-less c = omega arith
 
--- src/text.rt:150:5
 loop-again : tie.Need-loop-again Inv-loop μ-loop
 loop-again c = (omega arith, same-more (c .before .before .before .before .before .args .a .now) (c .before .before .before .before .before .args .b .now) (c .before .before .before .before .loop .i) (c .before .before .before .before .loop .inv .1) (c .before .before .before .loop-test .taken) (omega arith) (c .if1 .taken))
 
--- src/text.rt:154:13
 returns : tie.Need-returns Inv-loop μ-loop
 returns c = same-less (c .before .before .before .before .before .args .a .now) (c .before .before .before .before .before .args .b .now) (c .before .before .before .before .loop .i) (c .before .before .before .before .loop .inv .1) (c .before .before .before .loop-test .taken) (omega arith) (c .if1 .left)
 
--- src/text.rt:144:1
 returns-2 : tie.Need-returns-2 Inv-loop μ-loop
 returns-2 c = same-end (c .before .before .args .a .now) (c .before .before .args .b .now) (c .before .loop .i) (c .before .loop .inv .1) (c .loop-test .left) (omega arith)
 
