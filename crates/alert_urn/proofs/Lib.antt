@@ -1,3 +1,2 @@
-mod Alike
 pub mod Fields
 pub mod Turns

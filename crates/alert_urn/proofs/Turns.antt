@@ -1,5 +1,5 @@
 -- Laws of the text definitions at a turn of a loop: one byte or one name further.
-use Prim.Native.Nat.{ℕ, suc, _+_, _-_, _≤_, _<_}
+use Prim.Native.Nat.{ℕ, suc, zero, _+_, _*_, _-_, _≤_, _<_}
 use mathlib.Core.Path.{_≡_, refl, ap, sym, _∙_}
 use mathlib.Core.Bool.{Bool, true, false, cond, not, _&&_, _||_, and-false, and-true, and-eq-true-iff}
 use mathlib.Core.List.{List, [], _∷_}
@@ -12,7 +12,8 @@ use lib.Dec.{eqb, leb, ltb}
 use borrow.Author.Tests.{lt-leb, le-leb, eq-eqb, ne-eqb, leb-true, leb-false}
 use Rattle.resolution.specs.Lists.{sameList}
 use Rattle.resolution.specs.Names.{sameName}
-use Rattle.alert_urn.specs.Text.{all, within, upTo, past, fields, nameOk, labelOk, covers}
+use Rattle.resolution.proofs.Names.{name-exact}
+use Rattle.alert_urn.specs.Text.{all, within, upTo, past, fields, nameOk, labelOk, covers, wordOf}
 use Rattle.alert_urn.specs.Urn.{bytes, bytesFrom, lower, begins, namesIn, restOk, alertUrn, urnOk}
 use Rattle.alert_urn.proofs.Fields.{byTest, upTo-take, upTo-le, past-drop, past-at, part-upTo, part-end, fields-first, fields-more, fields-last, coversBytes, covers-fields}
 
@@ -73,6 +74,49 @@ part-none t at len n h e = simp (sub-self, drop-of-length-le t {i = at} h, take-
 pub part-all : (t : List ℕ) (at len : ℕ) → length t - at ≤ len → take (length t - at) (drop at t) ≡ take len (drop at t)
 part-all t at len h =
     take-all (length t - at) (drop at t) (omega (arith, length-drop at t)) ∙ sym (take-all len (drop at t) (omega (arith, length-drop at t)))
+
+-- two texts, one byte further
+module _ (a b : List ℕ) (i : ℕ) {x : Bool} (v : x ≡ sameName (drop i a) (drop i b)) where
+  pub same-more : i < length a → i < length b → getD a i 0 ≡ getD b i 0 → x ≡ sameName (drop (i + 1) a) (drop (i + 1) b)
+  same-more h k e = v ∙ rw (add-one, drop-cons a i 0 h, drop-cons b i 0 k, eq-eqb (getD a i 0) (getD b i 0) e)
+
+  pub same-less : i < length a → i < length b → (getD a i 0 ≡ getD b i 0 → ⊥) → false ≡ x
+  same-less h k e = sym (v ∙ rw (drop-cons a i 0 h, drop-cons b i 0 k, ne-eqb (getD a i 0) (getD b i 0) e))
+
+  pub same-end : length a ≤ i → length b ≤ i → true ≡ x
+  same-end h k = sym (v ∙ rw (drop-of-length-le a {i = i} h, drop-of-length-le b {i = i} k))
+
+pub same-lengths : (a b : List ℕ) → (length a ≡ length b → ⊥) → false ≡ sameName a b
+same-lengths a b n = byTest (sameName a b) (λ e. absurd (n (ap length (name-exact .to a b e)))) (λ e. sym e)
+
+-- eight bytes at once
+pub word-bytes : (s : List ℕ) (i : ℕ) {a b c d e f g h : ℕ} → a ≡ getD s i 0 → b ≡ getD s (i + 1) 0 → c ≡ getD s (i + 2) 0 → d ≡ getD s (i + 3) 0
+    → e ≡ getD s (i + 4) 0 → f ≡ getD s (i + 5) 0 → g ≡ getD s (i + 6) 0 → h ≡ getD s (i + 7) 0
+    → a + 256 * (b + 256 * (c + 256 * (d + 256 * (e + 256 * (f + 256 * (g + 256 * h)))))) ≡ wordOf s i 8
+word-bytes s i e₀ e₁ e₂ e₃ e₄ e₅ e₆ e₇ =
+    let k₂ : i + 2 ≡ i + 1 + 1 = omega arith in
+    let k₃ : i + 3 ≡ i + 1 + 1 + 1 = omega arith in
+    let k₄ : i + 4 ≡ i + 1 + 1 + 1 + 1 = omega arith in
+    let k₅ : i + 5 ≡ i + 1 + 1 + 1 + 1 + 1 = omega arith in
+    let k₆ : i + 6 ≡ i + 1 + 1 + 1 + 1 + 1 + 1 = omega arith in
+    let k₇ : i + 7 ≡ i + 1 + 1 + 1 + 1 + 1 + 1 + 1 = omega arith in
+    let at : ℕ → ℕ = λ k. getD s k 0 in
+    omega (arith, e₀, e₁, e₂ ∙ ap at k₂, e₃ ∙ ap at k₃, e₄ ∙ ap at k₄, e₅ ∙ ap at k₅, e₆ ∙ ap at k₆, e₇ ∙ ap at k₇)
+
+pub words-more : (a b : List ℕ) (n i : ℕ) {x : Bool} → ((k : ℕ) → getD a k 0 < 256) → ((k : ℕ) → getD b k 0 < 256) → x ≡ sameName (drop i a) (drop i b)
+    → i + n ≤ length a → i + n ≤ length b → wordOf a i n ≡ wordOf b i n → x ≡ sameName (drop (i + n) a) (drop (i + n) b)
+words-more a b zero i p q v h k e = let z : i + 0 ≡ i = omega arith in rw z v
+words-more a b (suc n) i p q v h k e =
+    let x = p i in
+    let y = q i in
+    let first : getD a i 0 ≡ getD b i 0 = omega arith in
+    let rest : wordOf a (i + 1) n ≡ wordOf b (i + 1) n = omega arith in
+    let z : i + suc n ≡ i + 1 + n = omega arith in
+    rw z (words-more a b n (i + 1) p q (same-more a b i v (omega arith) (omega arith) first) (omega arith) (omega arith) rest)
+
+pub words-less : (a b : List ℕ) (i n : ℕ) {x y : ℕ} → x ≡ wordOf a i n → y ≡ wordOf b i n → (x ≡ y → ⊥) → false ≡ sameName a b
+words-less a b i n e f m =
+    byTest (sameName a b) (λ t. absurd (m (e ∙ ap (λ (s : List ℕ). wordOf s i n) (name-exact .to a b t) ∙ sym f))) (λ t. sym t)
 
 -- the bytes before and after the first c, as the code lends them
 pub before-end : (c : ℕ) (s : List ℕ) (k : ℕ) → k ≡ length (upTo c s) → take (k - 0) s ≡ upTo c s

@@ -1,5 +1,5 @@
 -- Labels, names and the texts between colons, as bytes.
-use Prim.Native.Nat.{ℕ, _-_}
+use Prim.Native.Nat.{ℕ, zero, suc, _+_, _*_, _-_}
 use mathlib.Core.Bool.{Bool, true, false, cond, not, _&&_, _||_}
 use mathlib.Core.Option.{Option, none, some}
 use mathlib.Core.List.{List, [], _∷_}
@@ -59,3 +59,8 @@ someBelow (some r) = true
 -- the path that p says is the path that w says, or an ancestor of it
 unfoldable pub covers : List ℕ → List ℕ → Bool
 covers p w = someBelow (below (fields 58 p) (fields 58 w))
+
+-- n bytes from i on as one number, the first lowest
+abbrev pub wordOf : List ℕ → ℕ → ℕ → ℕ
+wordOf s i zero = 0
+wordOf s i (suc n) = getD s i 0 + 256 * wordOf s (i + 1) n

@@ -1,7 +1,8 @@
 ghost use mathlib.Core.Path.{_≡_};
-ghost use lib.ListN.{length, take, drop};
+ghost use Prim.Native.Nat.{_≤_, _<_, _+_};
+ghost use lib.ListN.{length, take, drop, getD};
 ghost use Rattle.resolution.specs.Names.{sameName};
-ghost use Rattle.alert_urn.specs.Text.{within, labelByte, all, labelOk, upTo, past, nameOk, covers};
+ghost use Rattle.alert_urn.specs.Text.{within, labelByte, all, labelOk, upTo, past, nameOk, covers, wordOf};
 
 // lo ≤ x ≤ hi
 pub fn in_range(x: u8, lo: u8, hi: u8) -> bool
@@ -115,27 +116,64 @@ pub fn part(t: &[u8], at: usize, len: usize) -> &[u8]
     &t[at..end]
 }
 
-// Two texts are equal. They are compared from both ends, since texts of one table often begin alike.
+// A byte as a wide number.
+fn byte_at(s: &[u8], i: usize) -> u64
+    requires { ⌜ i < length (now s) ⌝ }
+    ensures { λ r. ⌜ (r ≡ getD (now (s .entry)) i 0) × (r < 256) ⌝ }
+{
+    s[i] as u64
+}
+
+// Eight bytes from i on as one number: they are compared at once.
+fn word_at(s: &[u8], i: usize) -> u64
+    requires { ⌜ i + 8 ≤ length (now s) ⌝ }
+    ensures { λ r. ⌜ r ≡ wordOf (now (s .entry)) i 8 ⌝ }
+{
+    let a = byte_at(s, i);
+    let b = byte_at(s, i + 1);
+    let c = byte_at(s, i + 2);
+    let d = byte_at(s, i + 3);
+    let e = byte_at(s, i + 4);
+    let f = byte_at(s, i + 5);
+    let g = byte_at(s, i + 6);
+    let h = byte_at(s, i + 7);
+    a + 256 * (b + 256 * (c + 256 * (d + 256 * (e + 256 * (f + 256 * (g + 256 * h))))))
+}
+
+// Two texts of one length are equal from a byte on.
+fn same_from(a: &[u8], b: &[u8], from: usize) -> bool
+    requires { ⌜ (length (now a) ≡ length (now b)) × (from ≤ length (now a)) ⌝ }
+    ensures { λ r. ⌜ r ≡ sameName (drop from (now (a .entry))) (drop from (now (b .entry))) ⌝ }
+{
+    let n = a.len();
+    let mut i = from;
+    while i < n {
+        if a[i] == b[i] {
+            i += 1;
+        } else {
+            return false;
+        }
+    }
+    true
+}
+
+// Two texts are equal.
 pub fn same(a: &[u8], b: &[u8]) -> bool
     ensures { λ r. ⌜ r ≡ sameName (now (a .entry)) (now (b .entry)) ⌝ }
 {
     let n = a.len();
-    if n != b.len() {
-        return false;
-    }
-    let mut i = 0;
-    let mut end = n;
-    while i < end {
-        end -= 1;
-        if a[i] != b[i] {
-            return false;
+    if n == b.len() {
+        let mut i = 0;
+        while i + 8 <= n {
+            if word_at(a, i) == word_at(b, i) {
+                i += 8;
+            } else {
+                return false;
+            }
         }
-        if a[end] != b[end] {
-            return false;
-        }
-        i += 1;
+        return same_from(a, b, i);
     }
-    true
+    false
 }
 
 // The text p is w or stands at its beginning, before a colon.

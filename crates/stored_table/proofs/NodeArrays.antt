@@ -20,7 +20,7 @@ use Rattle.resolution.proofs.Lists.{tabulate-length, tabulate-at, tabulate-same
 use Rattle.resolution.proofs.Nodes.{urn-exact}
 use Rattle.resolution.proofs.Numbers.{number-node, ancestor-node}
 use Rattle.node_step.specs.Arrays.{stretch}
-use Rattle.stored_table.specs.Held.{nodeUrn, pathUrn, Nodes, Numbered, AddedTo, AllAdded}
+use Rattle.stored_table.specs.Held.{nodeUrn, pathUrn, Nodes, Numbered, AddedTo, AddsNode, AllAdded}
 use Rattle.stored_table.specs.declared.nodes.Added.{Added}
 use Rattle.stored_table.proofs.Tabulated.{tab-suc, tab-split, tab-same-end, index-hit}
 use Rattle.stored_table.proofs.Readings.{stretch-set, stretch-keep}
@@ -196,12 +196,6 @@ front t w from k i e h =
     shorter (suc i) (suc k) [] h = refl
     shorter (suc i) (suc k) (y ∷ x) h = ap (λ (l : List ℕ). y ∷ l) (shorter i k x (omega arith))
 
--- what adding a node promises
-abbrev pub Adds : (t : List ℕ) (c from i q n : ℕ) (cats parents at len cats₁ parents₁ at₁ len₁ : List ℕ) → Added → Type 0
-Adds t c from i q n cats parents at len cats₁ parents₁ at₁ len₁ r =
-    (ns : List Urn) (p : Parts) (x : Name) → Nodes t cats parents at len n ns → fields 58 (take i (drop from t)) ≡ p ++ x ∷ [] → Numbered ns c p q
-    → AddedTo t cats₁ parents₁ at₁ len₁ (addBy sameUrn ns (urn c (fields 58 (take i (drop from t))))) c (fields 58 (take i (drop from t))) r
-
 -- the prefixes of w that end in its first i bytes have been added to ns
 pub record PathDone (t w : List ℕ) (c : ℕ) (ns : List Urn) (cats parents at len : List ℕ) (i : ℕ) (r : Added) : Type 0 where
   pub done : List Urn
@@ -210,7 +204,7 @@ pub record PathDone (t w : List ℕ) (c : ℕ) (ns : List Urn) (cats parents at 
 
 module _ (t w : List ℕ) (c from k : ℕ) (y : w ≡ take k (drop from t)) (ns : List Urn) where
   pub path-start : {cats parents at len cats₁ parents₁ at₁ len₁ : List ℕ} (n i : ℕ) {r : Added} → i ≡ length (upTo 58 w)
-      → Adds t c from i 0 n cats parents at len cats₁ parents₁ at₁ len₁ r → Nodes t cats parents at len n ns → PathDone t w c ns cats₁ parents₁ at₁ len₁ i r
+      → AddsNode t c from i 0 n cats parents at len cats₁ parents₁ at₁ len₁ r → Nodes t cats parents at len n ns → PathDone t w c ns cats₁ parents₁ at₁ len₁ i r
   path-start {cats} {parents} {at} {len} {cats₁} {parents₁} {at₁} {len₁} n i {r} e A N =
       let h : i ≤ length w = omega (arith, e, upTo-le 58 w) in
       let f : take i w ≡ take i (drop from t) = front t w from k i y h in
@@ -226,7 +220,7 @@ module _ (t w : List ℕ) (c from k : ℕ) (y : w ≡ take k (drop from t)) (ns 
   module _ {cats parents at len : List ℕ} (i : ℕ) {r : Added} (D : PathDone t w c ns cats parents at len i r) where
     pub path-more : {cats₁ parents₁ at₁ len₁ : List ℕ} (j : ℕ) {r₁ : Added} → i < length w → getD w i 0 ≡ 58
         → j ≡ length (upTo 58 (take (length w - (i + 1)) (drop (i + 1) w))) → (r .node ≡ 0 → ⊥)
-        → Adds t c from (i + 1 + j) (r .node) (r .count) cats parents at len cats₁ parents₁ at₁ len₁ r₁ → PathDone t w c ns cats₁ parents₁ at₁ len₁ (i + 1 + j) r₁
+        → AddsNode t c from (i + 1 + j) (r .node) (r .count) cats parents at len cats₁ parents₁ at₁ len₁ r₁ → PathDone t w c ns cats₁ parents₁ at₁ len₁ (i + 1 + j) r₁
     path-more {cats₁} {parents₁} {at₁} {len₁} j {r₁} h e d z A =
         let q : j ≡ length (upTo 58 (drop (i + 1) w)) = rw part-end at d in
         let l : i + 1 + j ≤ length w = omega (arith, q, upTo-le 58 (drop (i + 1) w), length-drop (i + 1) w) in

@@ -6,10 +6,10 @@ use mathlib.Core.Logic.{_⊎_}
 use mathlib.Core.List.{List, [], _∷_, _++_, map, foldl}
 use lib.ListN.{length, getD, take, drop}
 use lib.Dec.{eqb}
-use Rattle.resolution.specs.Lists.{tabulate, indexBy}
+use Rattle.resolution.specs.Lists.{tabulate, indexBy, addBy}
 use Rattle.resolution.specs.Names.{Name, Parts, sameName}
 use Rattle.resolution.specs.Table.{Urn, urn}
-use Rattle.resolution.specs.Nodes.{nodeAt, addUrn}
+use Rattle.resolution.specs.Nodes.{sameUrn, nodeAt, addUrn}
 use Rattle.alert_urn.specs.Text.{all, fields}
 use Rattle.alert_urn.specs.Urn.{categoryOf, pathOf}
 use Rattle.node_step.specs.Arrays.{stretch}
@@ -85,6 +85,24 @@ pub record Nodes (t cats parents at len : List ℕ) (n : ℕ) (ns : List Urn) : 
 pub record AddedTo (t cats parents at len : List ℕ) (new : List Urn) (c : ℕ) (p : Parts) (r : Added) : Type 0 where
   pub over : r .node ≡ 0 → 64 < length new
   pub kept : 0 < r .node → Nodes t cats parents at len (r .count) new × Numbered new c p (r .node)
+
+-- what adding a node promises, whatever nodes the arrays held: the path in k bytes is put under the node `parent`
+abbrev pub AddsNode : (t : List ℕ) (c from k parent n : ℕ) (cats parents at len cats₁ parents₁ at₁ len₁ : List ℕ) → Added → Type 0
+AddsNode t c from k parent n cats parents at len cats₁ parents₁ at₁ len₁ r =
+    (ns : List Urn) (p : Parts) (x : Name) → Nodes t cats parents at len n ns → fields 58 (take k (drop from t)) ≡ p ++ x ∷ [] → Numbered ns c p parent
+    → AddedTo t cats₁ parents₁ at₁ len₁ (addBy sameUrn ns (urn c (fields 58 (take k (drop from t))))) c (fields 58 (take k (drop from t))) r
+
+-- what adding a path with its ancestors promises
+abbrev pub AddsPath : (t : List ℕ) (c from k n : ℕ) (cats parents at len cats₁ parents₁ at₁ len₁ : List ℕ) → Added → Type 0
+AddsPath t c from k n cats parents at len cats₁ parents₁ at₁ len₁ r =
+    (ns : List Urn) → Nodes t cats parents at len n ns
+    → AddedTo t cats₁ parents₁ at₁ len₁ (addUrn ns (urn c (fields 58 (take k (drop from t))))) c (fields 58 (take k (drop from t))) r
+
+-- what adding a URN to the nodes of others promises
+abbrev pub AddsUrn : (t : List ℕ) (c from k n : ℕ) (cats parents at len cats₁ parents₁ at₁ len₁ : List ℕ) → Added → Type 0
+AddsUrn t c from k n cats parents at len cats₁ parents₁ at₁ len₁ r =
+    (us : List Urn) → Nodes t cats parents at len n (foldl addUrn [] us)
+    → AddedTo t cats₁ parents₁ at₁ len₁ (addUrn (foldl addUrn [] us) (urn c (fields 58 (take k (drop from t))))) c (fields 58 (take k (drop from t))) r
 
 -- the nodes of m URNs, and the number of each URN's node; or there are too many
 pub record AllAdded (t : List ℕ) (f : ℕ → Urn) (m : ℕ) (node cats parents at len : List ℕ) (r : ℕ) : Type 0 where

@@ -66,8 +66,11 @@ pub fn index_urns(
     path_len: &mut [u8; 256],
 ) -> bool
     requires { ⌜ (n ≤ 8) × (m ≤ 256) × (length (now t) ≤ 8192) × (length (now category) ≡ 256) × (length (now «path_at») ≡ 256) × (length (now «path_len») ≡ 256) ⌝ }
-    ensures { λ r. ⌜ r ≡ all (isListed (tabulate (stretch (now (t .entry)) (now («name_at» .entry)) (now («name_len» .entry))) n)) (tabulate (stretch (now (t .entry)) (now (at .entry)) (now (len .entry))) m) ⌝ }
-    ensures indexed { λ r. ⌜ (r ≡ true → Indexed (now (t .entry)) (tabulate (stretch (now (t .entry)) (now («name_at» .entry)) (now («name_len» .entry))) n) (now (at .entry)) (now (len .entry)) m (now (category .exit)) (now («path_at» .exit)) (now («path_len» .exit))) ⌝ }
+    ensures { λ r. ⌜ r ≡ all (isListed (tabulate (stretch (now (t .entry)) (now («name_at» .entry)) (now («name_len» .entry))) n))
+        (tabulate (stretch (now (t .entry)) (now (at .entry)) (now (len .entry))) m) ⌝ }
+    ensures indexed { λ r. ⌜ (r ≡ true → Indexed (now (t .entry))
+        (tabulate (stretch (now (t .entry)) (now («name_at» .entry)) (now («name_len» .entry))) n) (now (at .entry)) (now (len .entry)) m
+        (now (category .exit)) (now («path_at» .exit)) (now («path_len» .exit))) ⌝ }
 {
     let mut i = 0;
     while i < m {

@@ -1,15 +1,12 @@
 ghost use mathlib.Core.Path.{_≡_};
-ghost use mathlib.Core.Bool.{true};
-ghost use mathlib.Core.List.{List, _++_, _∷_, [], foldl};
-ghost use Prim.Native.Nat.{ℕ, _≤_, _<_, _+_};
-ghost use lib.ListN.{length, take, drop, getD};
-ghost use Rattle.resolution.specs.Lists.{tabulate, addBy};
-ghost use Rattle.resolution.specs.Names.{Name, Parts};
-ghost use Rattle.resolution.specs.Table.{Urn, urn};
-ghost use Rattle.resolution.specs.Nodes.{sameUrn, number, addUrn};
+ghost use Prim.Native.Nat.{_≤_, _<_};
+ghost use lib.ListN.{length};
+ghost use Rattle.resolution.specs.Lists.{tabulate};
+ghost use Rattle.resolution.specs.Table.{urn};
+ghost use Rattle.resolution.specs.Nodes.{sameUrn, number};
 ghost use Rattle.alert_urn.specs.Text.{fields};
 ghost use Rattle.node_step.specs.Arrays.{stretch};
-ghost use Rattle.stored_table.specs.Held.{nodeUrn, pathUrn, Nodes, Numbered, AddedTo, AllAdded};
+ghost use Rattle.stored_table.specs.Held.{nodeUrn, pathUrn, AddsNode, AddsPath, AddsUrn, AllAdded};
 
 // The path of node i + 1.
 fn node_text<'a>(t: &'a [u8], at: &[u16; 64], len: &[u8; 64], i: usize) -> &'a [u8]
@@ -84,7 +81,8 @@ fn add_node(
     len: &mut [u8; 64],
 ) -> Added
     requires { ⌜ (n ≤ 64) × (from < 65536) × (k < 256) × (parent ≤ 64) ⌝ }
-    ensures { λ r. ⌜ ((ns : List Urn) (p : Parts) (x : Name) → Nodes (now (t .entry)) (now (cats .entry)) (now (parents .entry)) (now (at .entry)) (now (len .entry)) n ns → fields 58 (take k (drop from (now (t .entry)))) ≡ p ++ x ∷ [] → Numbered ns c p parent → AddedTo (now (t .entry)) (now (cats .exit)) (now (parents .exit)) (now (at .exit)) (now (len .exit)) (addBy sameUrn ns (urn c (fields 58 (take k (drop from (now (t .entry))))))) c (fields 58 (take k (drop from (now (t .entry))))) r) ⌝ }
+    ensures { λ r. ⌜ AddsNode (now (t .entry)) c from k parent n (now (cats .entry)) (now (parents .entry)) (now (at .entry)) (now (len .entry))
+        (now (cats .exit)) (now (parents .exit)) (now (at .exit)) (now (len .exit)) r ⌝ }
     ensures few { λ r. ⌜ (r .node ≤ 64) × (r .count ≤ 64) ⌝ }
 {
     let m = find_node(t, c, alert_urn::text::part(t, from, k), n, cats, at, len);
@@ -118,7 +116,8 @@ fn add_path(
     len: &mut [u8; 64],
 ) -> Added
     requires { ⌜ (n ≤ 64) × (from < 65536) × (k < 256) ⌝ }
-    ensures { λ r. ⌜ ((ns : List Urn) → Nodes (now (t .entry)) (now (cats .entry)) (now (parents .entry)) (now (at .entry)) (now (len .entry)) n ns → AddedTo (now (t .entry)) (now (cats .exit)) (now (parents .exit)) (now (at .exit)) (now (len .exit)) (addUrn ns (urn c (fields 58 (take k (drop from (now (t .entry))))))) c (fields 58 (take k (drop from (now (t .entry))))) r) ⌝ }
+    ensures { λ r. ⌜ AddsPath (now (t .entry)) c from k n (now (cats .entry)) (now (parents .entry)) (now (at .entry)) (now (len .entry))
+        (now (cats .exit)) (now (parents .exit)) (now (at .exit)) (now (len .exit)) r ⌝ }
     ensures few { λ r. ⌜ (r .node ≤ 64) × (r .count ≤ 64) ⌝ }
 {
     let w = alert_urn::text::part(t, from, k);
@@ -149,7 +148,8 @@ fn add_urn(
     len: &mut [u8; 64],
 ) -> Added
     requires { ⌜ (n ≤ 64) × (from < 65536) × (k < 256) ⌝ }
-    ensures { λ r. ⌜ ((us : List Urn) → Nodes (now (t .entry)) (now (cats .entry)) (now (parents .entry)) (now (at .entry)) (now (len .entry)) n (foldl addUrn [] us) → AddedTo (now (t .entry)) (now (cats .exit)) (now (parents .exit)) (now (at .exit)) (now (len .exit)) (addUrn (foldl addUrn [] us) (urn c (fields 58 (take k (drop from (now (t .entry))))))) c (fields 58 (take k (drop from (now (t .entry))))) r) ⌝ }
+    ensures { λ r. ⌜ AddsUrn (now (t .entry)) c from k n (now (cats .entry)) (now (parents .entry)) (now (at .entry)) (now (len .entry))
+        (now (cats .exit)) (now (parents .exit)) (now (at .exit)) (now (len .exit)) r ⌝ }
     ensures few { λ r. ⌜ (r .node ≤ 64) × (r .count ≤ 64) ⌝ }
 {
     let m = find_node(t, c, alert_urn::text::part(t, from, k), n, cats, at, len);
@@ -173,7 +173,8 @@ pub fn add_all(
     len: &mut [u8; 64],
 ) -> usize
     requires { ⌜ (m ≤ 256) × (length (now node) ≡ 256) × (length (now cats) ≡ 64) × (length (now parents) ≡ 64) × (length (now at) ≡ 64) × (length (now len) ≡ 64) ⌝ }
-    ensures { λ r. ⌜ AllAdded (now (t .entry)) (pathUrn (now (t .entry)) (now (category .entry)) (now («path_at» .entry)) (now («path_len» .entry))) m (now (node .exit)) (now (cats .exit)) (now (parents .exit)) (now (at .exit)) (now (len .exit)) r ⌝ }
+    ensures { λ r. ⌜ AllAdded (now (t .entry)) (pathUrn (now (t .entry)) (now (category .entry)) (now («path_at» .entry)) (now («path_len» .entry))) m
+        (now (node .exit)) (now (cats .exit)) (now (parents .exit)) (now (at .exit)) (now (len .exit)) r ⌝ }
 {
     let mut n: usize = 0;
     let mut i = 0;

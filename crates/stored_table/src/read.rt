@@ -112,7 +112,9 @@ fn read_urns(
     signal: &mut [u8; 256],
 ) -> Reading
     requires { ⌜ (start ≤ end) × (end ≤ 256) × (length (now t) ≤ 8192) × (length (now at) ≡ 256) × (length (now len) ≡ 256) × (length (now signal) ≡ 256) ⌝ }
-    ensures { λ r. ⌜ heldRead (urnAt (now (t .entry)) (now (signal .exit)) (now (at .exit)) (now (len .exit))) r ≡ mapRead (λ us. tabulate (urnAt (now (t .entry)) (now (signal .entry)) (now (at .entry)) (now (len .entry))) start ++ map (tag s) us) (times (text 255 (now (t .entry))) (end - start) from) ⌝ }
+    ensures { λ r. ⌜ heldRead (urnAt (now (t .entry)) (now (signal .exit)) (now (at .exit)) (now (len .exit))) r
+        ≡ mapRead (λ us. tabulate (urnAt (now (t .entry)) (now (signal .entry)) (now (at .entry)) (now (len .entry))) start ++ map (tag s) us)
+        (times (text 255 (now (t .entry))) (end - start) from) ⌝ }
     ensures few { λ r. ⌜ readUpTo r end × (length (now (at .exit)) ≡ 256) × (length (now (len .exit)) ≡ 256) × (length (now (signal .exit)) ≡ 256) ⌝ }
 {
     let mut i = start;
@@ -146,7 +148,9 @@ fn read_signal(
     signal: &mut [u8; 256],
 ) -> Reading
     requires { ⌜ (start + 8 ≤ 256) × (length (now t) ≤ 8192) × (length (now at) ≡ 256) × (length (now len) ≡ 256) × (length (now signal) ≡ 256) ⌝ }
-    ensures { λ r. ⌜ heldRead (urnAt (now (t .entry)) (now (signal .exit)) (now (at .exit)) (now (len .exit))) r ≡ mapRead (λ us. tabulate (urnAt (now (t .entry)) (now (signal .entry)) (now (at .entry)) (now (len .entry))) start ++ map (tag s) us) (counted 0 8 (text 255 (now (t .entry))) (now (t .entry)) from) ⌝ }
+    ensures { λ r. ⌜ heldRead (urnAt (now (t .entry)) (now (signal .exit)) (now (at .exit)) (now (len .exit))) r
+        ≡ mapRead (λ us. tabulate (urnAt (now (t .entry)) (now (signal .entry)) (now (at .entry)) (now (len .entry))) start ++ map (tag s) us)
+        (counted 0 8 (text 255 (now (t .entry))) (now (t .entry)) from) ⌝ }
     ensures few { λ r. ⌜ readAtMost r (start + 8) × (length (now (at .exit)) ≡ 256) × (length (now (len .exit)) ≡ 256) × (length (now (signal .exit)) ≡ 256) ⌝ }
 {
     let got = byte_in(t, from, 0, 8);

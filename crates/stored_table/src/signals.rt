@@ -14,9 +14,12 @@ pub fn fill_slots(
     category: &[u8; 256],
     slots: &mut [u16; 256],
 ) -> bool
-    requires { ⌜ (m ≤ 256) × (length (now slots) ≡ 256) × ((k : ℕ) → getD (now slots) k 0 ≡ 0) × ((i : ℕ) → i < m → getD (now signal) i 0 < 32) × ((i : ℕ) → i < m → getD (now category) i 0 < 8) ⌝ }
+    requires { ⌜ (m ≤ 256) × (length (now slots) ≡ 256)
+        × ((k : ℕ) → getD (now slots) k 0 ≡ 0)
+        × ((i : ℕ) → i < m → getD (now signal) i 0 < 32) × ((i : ℕ) → i < m → getD (now category) i 0 < 8) ⌝ }
     ensures { λ r. ⌜ r ≡ noTwo sameKey (tabulate (keyAt (now (signal .entry)) (now (category .entry))) m) ⌝ }
-    ensures filled { λ r. ⌜ (r ≡ true → (s c : ℕ) → c < 8 → getD (now (slots .exit)) (8 * s + c) 0 ≡ slotIn (keyAt (now (signal .entry)) (now (category .entry))) s c m) ⌝ }
+    ensures filled { λ r. ⌜ (r ≡ true → (s c : ℕ) → c < 8
+        → getD (now (slots .exit)) (8 * s + c) 0 ≡ slotIn (keyAt (now (signal .entry)) (now (category .entry))) s c m) ⌝ }
 {
     let mut i = 0;
     while i < m {

@@ -3,42 +3,28 @@ use Rattle.stored_table.proofs.Judging.{means-refused, names-unformed, 
 use borrow.Author.Needs.{needs}
 use Rattle.stored_table.proofs.formed.Statement.{statement}
 use Rattle.stored_table.proofs.formed.Tie as tie
-use Rattle.stored_table.proofs.formed.Reads as reads
-use Rattle.stored_table.proofs.formed.Lts as lts
-use Rattle.stored_table.proofs.forms.names_formed.Reads as names-formed-reads
-use Rattle.stored_table.proofs.forms.urns_formed.Reads as urns-formed-reads
-use Rattle.stored_table.proofs.listed.Reads as listed-reads
-use Rattle.stored_table.proofs.refused.Reads as refused-reads
 
--- src/lib.rt:106:8
 names-formed-requires : tie.Need-names-formed-requires
 names-formed-requires c κs = search needs
 
--- src/lib.rt:107:12
 urns-formed-requires : tie.Need-urns-formed-requires
 urns-formed-requires c κs = search needs
 
--- src/lib.rt:108:13
 listed-requires : tie.Need-listed-requires
 listed-requires c κs = let a = c .before .before .before .before .before .args in all-formed (a .t .now) (a .name-at .now) (a .name-len .now) (a .at .now) (a .len .now) (a .signal .now) (a .l) (c .before .before .before .before .before .pre .0) (c .before .before .before .before .before .pre .1) (c .before .before .before .names-formed .ensures) (c .before .before .if1 .taken) (c .before .urns-formed .ensures) (c .if2 .taken)
 
--- src/lib.rt:108:13
 returns : tie.Need-returns
 returns c = search needs
 
--- src/lib.rt:110:9
 refused-requires : tie.Need-refused-requires
 refused-requires c κs = search needs
 
--- src/lib.rt:110:9
 returns-2 : tie.Need-returns-2
 returns-2 c = let a = c .before .before .before .before .before .before .args in means-refused (a .t .now) 7 (c .refused .ensures) (urns-unformed (a .t .now) (a .name-at .now) (a .name-len .now) (a .at .now) (a .len .now) (a .signal .now) (a .l) (c .before .before .before .before .before .before .pre .0) (c .before .before .before .before .before .before .pre .1) (c .before .before .before .before .names-formed .ensures) (c .before .before .urns-formed .ensures) (c .before .if2 .left)) (λ z. omega arith)
 
--- src/lib.rt:112:5
 refused-requires-2 : tie.Need-refused-requires-2
 refused-requires-2 c κs = search needs
 
--- src/lib.rt:102:1
 returns-3 : tie.Need-returns-3
 returns-3 c = let a = c .before .before .before .before .args in means-refused (a .t .now) 7 (c .refused2 .ensures) (names-unformed (a .t .now) (a .name-at .now) (a .name-len .now) (a .at .now) (a .len .now) (a .signal .now) (a .l) (c .before .before .before .before .pre .0) (c .before .before .before .before .pre .1) (c .before .before .names-formed .ensures) (c .before .if1 .left)) (λ z. omega arith)
 

@@ -3,55 +3,37 @@ use Rattle.stored_table.proofs.Judging.{means-refused, names-twice, urn
 use borrow.Author.Needs.{needs}
 use Rattle.stored_table.proofs.listed.Statement.{statement}
 use Rattle.stored_table.proofs.listed.Tie as tie
-use Rattle.stored_table.proofs.listed.Reads as reads
-use Rattle.stored_table.proofs.listed.Lts as lts
-use Rattle.stored_table.proofs.categories.all_used.Reads as all-used-reads
-use Rattle.stored_table.proofs.categories.index_urns.Reads as index-urns-reads
-use Rattle.stored_table.proofs.categories.names_distinct.Reads as names-distinct-reads
-use Rattle.stored_table.proofs.refused.Reads as refused-reads
-use Rattle.stored_table.proofs.slotted.Reads as slotted-reads
 
--- src/lib.rt:89:8
 names-distinct-requires : tie.Need-names-distinct-requires
 names-distinct-requires c κs = search needs
 
--- src/lib.rt:90:12
 index-urns-requires : tie.Need-index-urns-requires
 index-urns-requires c κs = search needs
 
--- src/lib.rt:91:16
 all-used-requires : tie.Need-all-used-requires
 all-used-requires c κs = search needs
 
--- src/lib.rt:92:17
 slotted-requires : tie.Need-slotted-requires
 slotted-requires c κs = let a = c .before .before .before .before .before .before .before .before .before .before .before .before .before .before .args in listed-as (a .t .now) (a .name-at .now) (a .name-len .now) (a .at .now) (a .len .now) (a .signal .now) (a .l) (c .before .before .before .before .before .before .before .before .before .before .before .before .before .before .pre) (c .before .before .before .before .before .before .before .index-urns .ensures .1 (c .before .before .before .before .before .before .if2 .taken)) (c .before .before .before .before .before .before .before .before .before .before .before .before .names-distinct .ensures) (c .before .before .before .before .before .before .before .before .before .before .before .if1 .taken) (c .before .before .before .before .all-used .ensures) (c .before .before .before .if3 .taken) (c .before .before .before .before .before .before .before .index-urns .ensures .0) (c .before .before .before .before .before .before .if2 .taken)
 
--- src/lib.rt:92:17
 returns : tie.Need-returns
 returns c = search needs
 
--- src/lib.rt:94:13
 refused-requires : tie.Need-refused-requires
 refused-requires c κs = search needs
 
--- src/lib.rt:94:13
 returns-2 : tie.Need-returns-2
 returns-2 c = let a = c .before .before .before .before .before .before .before .before .before .before .before .before .args in means-refused (a .t .now) 8 (c .refused .ensures) (names-unused (a .t .now) (a .name-at .now) (a .name-len .now) (a .at .now) (a .len .now) (a .signal .now) (a .l) (c .before .before .before .before .before .before .before .before .before .before .before .before .pre) (c .before .before .before .before .before .index-urns .ensures .1 (c .before .before .before .before .if2 .taken)) (c .before .before .before .before .before .before .before .before .before .before .names-distinct .ensures) (c .before .before .before .before .before .before .before .before .before .if1 .taken) (c .before .before .all-used .ensures) (c .before .if3 .left)) (λ z. omega arith)
 
--- src/lib.rt:96:9
 refused-requires-2 : tie.Need-refused-requires-2
 refused-requires-2 c κs = search needs
 
--- src/lib.rt:96:9
 returns-3 : tie.Need-returns-3
 returns-3 c = let a = c .before .before .before .before .before .before .before .before .before .args in means-refused (a .t .now) 8 (c .refused2 .ensures) (urns-strange (a .t .now) (a .name-at .now) (a .name-len .now) (a .at .now) (a .len .now) (a .signal .now) (a .l) (c .before .before .before .before .before .before .before .before .before .pre) (c .before .before .index-urns .ensures .0) (c .before .if2 .left)) (λ z. omega arith)
 
--- src/lib.rt:98:5
 refused-requires-3 : tie.Need-refused-requires-3
 refused-requires-3 c κs = search needs
 
--- src/lib.rt:82:1
 returns-4 : tie.Need-returns-4
 returns-4 c = let a = c .before .before .before .before .args in means-refused (a .t .now) 8 (c .refused3 .ensures) (names-twice (a .t .now) (a .name-at .now) (a .name-len .now) (a .at .now) (a .len .now) (a .signal .now) (a .l) (c .before .before .before .before .pre) (c .before .before .names-distinct .ensures) (c .before .if1 .left)) (λ z. omega arith)
 

@@ -5,55 +5,37 @@ use Rattle.stored_table.proofs.Placing.{texts-eleven, twelve, rows-elev
 use borrow.Author.Needs.{needs}
 use Rattle.stored_table.proofs.placed.Statement.{statement}
 use Rattle.stored_table.proofs.placed.Tie as tie
-use Rattle.stored_table.proofs.placed.Reads as reads
-use Rattle.stored_table.proofs.placed.Lts as lts
-use Rattle.stored_table.proofs.nodes.add_all.Reads as add-all-reads
-use Rattle.stored_table.proofs.places.fill_rows.Reads as fill-rows-reads
-use Rattle.stored_table.proofs.places.rows_distinct.Reads as rows-distinct-reads
-use Rattle.stored_table.proofs.places.texts_distinct.Reads as texts-distinct-reads
-use Rattle.stored_table.proofs.refused.Reads as refused-reads
 
--- src/lib.rt:49:9
 add-all-requires : tie.Need-add-all-requires
 add-all-requires c κs = search needs
 
--- src/lib.rt:51:12
 texts-distinct-requires : tie.Need-texts-distinct-requires
 texts-distinct-requires c κs = let a = c .before .before .before .before .before .before .before .before .args in (c .before .before .before .before .before .before .before .before .pre .listed .few-signals, c .before .before .before .before .before .before .before .before .pre .listed .few-categories, slots-few (a .t .now) (a .name-at .now) (a .name-len .now) (a .signal .now) (a .category .now) (a .path-at .now) (a .path-len .now) (a .slots .now) (a .l) (c .before .before .before .before .before .before .before .before .pre))
 
--- src/lib.rt:52:13
 refused-requires : tie.Need-refused-requires
 refused-requires c κs = search needs
 
--- src/lib.rt:52:13
 returns : tie.Need-returns
 returns c = let a = c .before .before .before .before .before .before .before .before .before .before .before .args in means-refused (a .t .now) 12 (c .refused .ensures) (twelve (a .t .now) (a .name-at .now) (a .name-len .now) (a .signal .now) (a .category .now) (a .path-at .now) (a .path-len .now) (a .slots .now) (a .l) (c .before .before .before .before .before .before .before .before .before .before .before .pre) (c .before .before .before .before .add-all .ensures) (c .before .before .before .if1 .taken) (c .before .before .texts-distinct .ensures) (c .before .if2 .taken)) (λ z. omega arith)
 
--- src/lib.rt:54:9
 refused-requires-2 : tie.Need-refused-requires-2
 refused-requires-2 c κs = search needs
 
--- src/lib.rt:54:9
 returns-2 : tie.Need-returns-2
 returns-2 c = let a = c .before .before .before .before .before .before .before .before .before .before .before .args in means-refused (a .t .now) 11 (c .refused2 .ensures) (texts-eleven (a .t .now) (a .name-at .now) (a .name-len .now) (a .signal .now) (a .category .now) (a .path-at .now) (a .path-len .now) (a .slots .now) (a .l) (c .before .before .before .before .before .before .before .before .before .before .before .pre) (c .before .before .texts-distinct .ensures) (c .before .if2 .left)) (λ z. omega arith)
 
--- src/lib.rt:57:5
 fill-rows-requires : tie.Need-fill-rows-requires
 fill-rows-requires c κs = let a = c .before .before .before .before .before .before .before .before .before .before .args in (c .before .before .before .before .before .before .before .before .before .before .pre .listed .few-signals, refl, slots-few (a .t .now) (a .name-at .now) (a .name-len .now) (a .signal .now) (a .category .now) (a .path-at .now) (a .path-len .now) (a .slots .now) (a .l) (c .before .before .before .before .before .before .before .before .before .before .pre))
 
--- src/lib.rt:58:8
 rows-distinct-requires : tie.Need-rows-distinct-requires
 rows-distinct-requires c κs = search needs
 
--- src/lib.rt:61:9
 returns-3 : tie.Need-returns-3
 returns-3 c = let a = c .before .before .before .before .before .before .before .before .before .before .before .before .before .before .before .before .args in means-accepted (a .t .now) (a .name-at .now) (a .name-len .now) (a .signal .now) (a .category .now) (a .path-at .now) (a .path-len .now) (a .slots .now) (a .l) (c .before .before .before .before .before .before .before .before .before .before .before .before .before .before .before .before .pre) (c .before .before .before .before .before .before .before .before .before .add-all .ensures) (c .before .before .before .before .before .before .before .before .if1 .left) _ (c .before .before .before .before .before .fill-rows .ensures) (c .before .before .before .rows-distinct .ensures) (c .before .before .if3 .taken)
 
--- src/lib.rt:63:5
 refused-requires-3 : tie.Need-refused-requires-3
 refused-requires-3 c κs = search needs
 
--- src/lib.rt:40:1
 returns-4 : tie.Need-returns-4
 returns-4 c = let a = c .before .before .before .before .before .before .before .before .before .before .before .before .before .before .before .args in means-refused (a .t .now) 11 (c .refused3 .ensures) (rows-eleven (a .t .now) (a .name-at .now) (a .name-len .now) (a .signal .now) (a .category .now) (a .path-at .now) (a .path-len .now) (a .slots .now) (a .l) (c .before .before .before .before .before .before .before .before .before .before .before .before .before .before .before .pre) (c .before .before .before .before .before .before .before .before .add-all .ensures) (c .before .before .before .before .before .before .before .if1 .left) (c .before .before .before .before .fill-rows .last .1 .1 .1 .0) (c .before .before .before .before .fill-rows .ensures) (c .before .before .rows-distinct .ensures) (c .before .if3 .left)) (λ z. omega arith)
 

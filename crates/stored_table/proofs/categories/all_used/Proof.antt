@@ -11,9 +11,6 @@ use Rattle.stored_table.proofs.Tabulated.{all-start, all-next, all-fail
 use borrow.Author.Needs.{needs}
 use Rattle.stored_table.proofs.categories.all_used.Statement.{statement}
 use Rattle.stored_table.proofs.categories.all_used.Tie as tie
-use Rattle.stored_table.proofs.categories.all_used.Reads as reads
-use Rattle.stored_table.proofs.categories.all_used.Lts as lts
-use Rattle.stored_table.proofs.categories.has_category.Reads as has-category-reads
 
 abbrev Inv-loop : tie.InvT-loop
 Inv-loop category m n c₀ c = (c ≤ n) × (all (λ c. any (λ x. eqb x c) (tabulate (λ j. getD category j 0) m)) (tabulate (λ c. c) c) ≡ true)
@@ -21,31 +18,24 @@ Inv-loop category m n c₀ c = (c ≤ n) × (all (λ c. any (λ x. eqb x c) (tab
 abbrev μ-loop : tie.MeasureT-loop
 μ-loop category m n c₀ c = n - c
 
--- src/categories.rt:101:5
 loop-holds : tie.Need-loop-holds Inv-loop μ-loop
 loop-holds c = (omega arith, all-start _ _)
 
--- src/categories.rt:102:12
 has-category-requires : tie.Need-has-category-requires Inv-loop μ-loop
 has-category-requires c κs = search needs
 
--- src/categories.rt:103:13
 add-c : tie.Need-add-c Inv-loop μ-loop
 add-c c = search needs
 
--- src/categories.rt:101:5
 loop-less : tie.Need-loop-less Inv-loop μ-loop
 loop-less c = omega arith
 
--- src/categories.rt:101:5
 loop-again : tie.Need-loop-again Inv-loop μ-loop
 loop-again c = (omega arith, all-next _ _ _ (c .before .before .before .loop .inv .1) (c .before .has-category .ensures) (c .if1 .taken))
 
--- src/categories.rt:105:13
 returns : tie.Need-returns Inv-loop μ-loop
 returns c = all-fails _ _ _ _ (c .before .before .loop-test .taken) (c .before .has-category .ensures) (c .if1 .left)
 
--- src/categories.rt:96:1
 returns-2 : tie.Need-returns-2 Inv-loop μ-loop
 returns-2 c = all-ends _ _ _ _ (c .before .loop .inv .1) (c .before .loop .inv .0) (c .loop-test .left)
 

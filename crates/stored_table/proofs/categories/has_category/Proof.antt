@@ -11,9 +11,6 @@ use Rattle.stored_table.proofs.Tabulated.{any-start, any-next, any-foun
 use borrow.Author.Needs.{needs}
 use Rattle.stored_table.proofs.categories.has_category.Statement.{statement}
 use Rattle.stored_table.proofs.categories.has_category.Tie as tie
-use Rattle.stored_table.proofs.categories.has_category.Reads as reads
-use Rattle.stored_table.proofs.categories.has_category.Lts as lts
-use Rattle.stored_table.proofs.read.wide.Reads as wide-reads
 
 abbrev Inv-loop : tie.InvT-loop
 Inv-loop category m c i₀ i = (i ≤ m) × (any (λ x. eqb x c) (tabulate (λ j. getD category j 0) i) ≡ false)
@@ -21,35 +18,27 @@ Inv-loop category m c i₀ i = (i ≤ m) × (any (λ x. eqb x c) (tabulate (λ j
 abbrev μ-loop : tie.MeasureT-loop
 μ-loop category m c i₀ i = m - i
 
--- src/categories.rt:86:5
 loop-holds : tie.Need-loop-holds Inv-loop μ-loop
 loop-holds c = (omega arith, any-start _ _)
 
--- src/categories.rt:87:30
 element-copy-out-wide : tie.Need-element-copy-out-wide Inv-loop μ-loop
 element-copy-out-wide c = search needs
 
--- src/categories.rt:87:12
 wide-requires : tie.Need-wide-requires Inv-loop μ-loop
 wide-requires c κs = search needs
 
--- src/categories.rt:88:13
 returns : tie.Need-returns Inv-loop μ-loop
 returns c = any-found _ _ _ _ (c .before .before .before .before .loop .inv .1) (c .before .before .before .loop-test .taken) (eq-eqb _ _ (sym (c .before .wide .ensures .0) ∙ c .if1 .taken))
 
--- src/categories.rt:90:9
 add-i : tie.Need-add-i Inv-loop μ-loop
 add-i c = search needs
 
--- src/categories.rt:86:5
 loop-less : tie.Need-loop-less Inv-loop μ-loop
 loop-less c = omega arith
 
--- src/categories.rt:86:5
 loop-again : tie.Need-loop-again Inv-loop μ-loop
 loop-again c = (omega arith, any-next _ _ _ (c .before .before .before .before .loop .inv .1) (ne-eqb _ _ (λ e. c .if1 .left (c .before .wide .ensures .0 ∙ e))))
 
--- src/categories.rt:81:1
 returns-2 : tie.Need-returns-2 Inv-loop μ-loop
 returns-2 c = any-ends _ _ _ _ (c .before .loop .inv .1) (c .before .loop .inv .0) (c .loop-test .left)
 

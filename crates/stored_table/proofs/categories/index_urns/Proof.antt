@@ -16,15 +16,6 @@ use Rattle.stored_table.proofs.Indexing.{part-inside, indexed-start, ur
 use borrow.Author.Needs.{needs}
 use Rattle.stored_table.proofs.categories.index_urns.Statement.{statement}
 use Rattle.stored_table.proofs.categories.index_urns.Tie as tie
-use Rattle.stored_table.proofs.categories.index_urns.Reads as reads
-use Rattle.stored_table.proofs.categories.index_urns.Lts as lts
-use Rattle.alert_urn.proofs.text.find.Reads as find-reads
-use Rattle.stored_table.proofs.categories.name_index.Reads as name-index-reads
-use Rattle.stored_table.proofs.categories.path_start.Reads as path-start-reads
-use Rattle.stored_table.proofs.forms.urn_text.Reads as urn-text-reads
-use Rattle.stored_table.proofs.read.short.Reads as short-reads
-use Rattle.stored_table.proofs.read.small.Reads as small-reads
-use Rattle.stored_table.proofs.read.wider.Reads as wider-reads
 
 abbrev Inv-loop : tie.InvT-loop
 Inv-loop t n name-at name-len m at len category₀ path-at₀ path-len₀ i₀ category path-at path-len i =
@@ -35,95 +26,72 @@ abbrev μ-loop : tie.MeasureT-loop
 μ-loop t n name-at name-len m at len category₀ path-at₀ path-len₀ i₀ category path-at path-len i =
     m - i
 
--- src/categories.rt:62:5
 loop-holds : tie.Need-loop-holds Inv-loop μ-loop
 loop-holds c = (omega arith, omega arith, omega arith, omega arith, all-start _ _, indexed-start _ _ _ _ _ _ _)
 
--- src/categories.rt:63:13
 urn-text-requires : tie.Need-urn-text-requires Inv-loop μ-loop
 urn-text-requires c κs = search needs
 
--- src/categories.rt:65:13
 find-requires : tie.Need-find-requires Inv-loop μ-loop
 find-requires c κs = search needs
 
--- src/categories.rt:66:31
 sub-name-index : tie.Need-sub-name-index Inv-loop μ-loop
 sub-name-index c = search needs
 
--- src/categories.rt:66:31
 part-name-index-start : tie.Need-part-name-index-start Inv-loop μ-loop
 part-name-index-start c = search needs
 
--- src/categories.rt:66:31
 part-name-index-end : tie.Need-part-name-index-end Inv-loop μ-loop
 part-name-index-end c = omega (arith, c .find .ensures, upTo-le 58 (c .before .urn-text .result .now))
 
--- src/categories.rt:66:13
 name-index-requires : tie.Need-name-index-requires Inv-loop μ-loop
 name-index-requires c κs = search needs
 
--- src/categories.rt:68:17
 path-start-requires : tie.Need-path-start-requires Inv-loop μ-loop
 path-start-requires c κs = search needs
 
--- src/categories.rt:69:27
 small-requires : tie.Need-small-requires Inv-loop μ-loop
 small-requires c κs = search needs
 
--- src/categories.rt:69:13
 element-write-category : tie.Need-element-write-category Inv-loop μ-loop
 element-write-category c = search needs
 
--- src/categories.rt:70:64
 mul-wider : tie.Need-mul-wider Inv-loop μ-loop
 mul-wider c = search needs
 
--- src/categories.rt:70:64
 element-copy-out-wider : tie.Need-element-copy-out-wider Inv-loop μ-loop
 element-copy-out-wider c = search needs
 
--- src/categories.rt:70:45
 wider-requires : tie.Need-wider-requires Inv-loop μ-loop
 wider-requires c κs = search needs
 
--- src/categories.rt:70:45
 add-short : tie.Need-add-short Inv-loop μ-loop
 add-short c = omega (arith, c .wider .ensures .1, c .before .before .before .before .before .before .before .before .urn-text .ensures .1, c .before .before .before .path-start .ensures .0)
 
--- src/categories.rt:70:26
 short-requires : tie.Need-short-requires Inv-loop μ-loop
 short-requires c κs = let a = c .before .before .before .before .before .before .before .before .before .before .before .before .args in part-inside (a .t .now) (c .wider .result) (getD (a .len .now) (c .before .before .before .before .before .before .before .before .before .before .loop .i) 0) (c .before .before .before .path-start .result) (c .before .before .before .before .before .before .before .before .urn-text .ensures .0 ∙ at-stretch (a .t .now) (a .at .now) (a .len .now) (c .before .before .before .before .before .before .before .before .before .before .loop .i) (c .wider .ensures .0)) (c .before .before .before .path-start .ensures .0) (c .before .before .before .before .before .before .before .before .before .before .before .before .pre .2) (c .wider .ensures .1)
 
--- src/categories.rt:70:13
 mul-path-at : tie.Need-mul-path-at Inv-loop μ-loop
 mul-path-at c = search needs
 
--- src/categories.rt:70:13
 element-write-path-at : tie.Need-element-write-path-at Inv-loop μ-loop
 element-write-path-at c = search needs
 
--- src/categories.rt:71:46
 sub-small : tie.Need-sub-small Inv-loop μ-loop
 sub-small c = search needs
 
--- src/categories.rt:71:27
 small-requires-2 : tie.Need-small-requires-2 Inv-loop μ-loop
 small-requires-2 c κs = omega (arith, c .before .before .before .before .before .before .before .before .before .urn-text .ensures .1)
 
--- src/categories.rt:71:13
 element-write-path-len : tie.Need-element-write-path-len Inv-loop μ-loop
 element-write-path-len c = search needs
 
--- src/categories.rt:72:13
 add-i : tie.Need-add-i Inv-loop μ-loop
 add-i c = search needs
 
--- src/categories.rt:62:5
 loop-less : tie.Need-loop-less Inv-loop μ-loop
 loop-less c = omega arith
 
--- src/categories.rt:62:5
 loop-again : tie.Need-loop-again Inv-loop μ-loop
 loop-again c = let l = c .before .before .before .before .before .before .before .before .before .before .before .before .loop in
     let a = c .before .before .before .before .before .before .before .before .before .before .before .before .before .before .args in
@@ -138,14 +106,12 @@ loop-again c = let l = c .before .before .before .before .before .before .before
           (c .before .before .before .before .before .before .before .before .before .find .ensures) (c .before .before .before .before .before .before .before .name-index .ensures .0) (c .before .before .before .before .before .before .before .before .before .before .urn-text .ensures .0) h (c .before .before .before .before .before .path-start .ensures) (c .before .before .before .before .small .ensures) (c .before .before .wider .ensures .0) (c .before .short .ensures) (c .small2 .ensures),
     )
 
--- src/categories.rt:74:13
 returns : tie.Need-returns Inv-loop μ-loop
 returns c = let a = c .before .before .before .before .before .before .before .before .args in
     let names = tabulate (stretch (a .t .now) (a .name-at .now) (a .name-len .now)) (a .n) in
     let h : length names ≤ c .before .name-index .result = omega (arith, c .if1 .left, tabulate-length (stretch (a .t .now) (a .name-at .now) (a .name-len .now)) (a .n)) in
     (all-fails _ _ _ _ (c .before .before .before .before .before .loop-test .taken) (sym (urn-strange names (c .before .before .before .find .ensures) (c .before .name-index .ensures .0) (c .before .before .before .before .urn-text .ensures .0) h)) refl, λ e. absurd (false≢true e))
 
--- src/categories.rt:56:1
 returns-2 : tie.Need-returns-2 Inv-loop μ-loop
 returns-2 c = (all-ends _ _ _ _ (c .before .loop .inv .4) (c .before .loop .inv .0) (c .loop-test .left), λ _. indexed-end (c .before .loop .i) _ (c .before .loop .inv .5) (c .before .loop .inv .0) (c .loop-test .left))
 

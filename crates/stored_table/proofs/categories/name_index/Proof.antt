@@ -9,10 +9,6 @@ use Rattle.stored_table.proofs.Tabulated.{index-start, index-hit, index
 use borrow.Author.Needs.{needs}
 use Rattle.stored_table.proofs.categories.name_index.Statement.{statement}
 use Rattle.stored_table.proofs.categories.name_index.Tie as tie
-use Rattle.stored_table.proofs.categories.name_index.Reads as reads
-use Rattle.stored_table.proofs.categories.name_index.Lts as lts
-use Rattle.alert_urn.proofs.text.same.Reads as same-reads
-use Rattle.stored_table.proofs.forms.name_text.Reads as name-text-reads
 
 abbrev Inv-loop : tie.InvT-loop
 Inv-loop t s n at len i₀ i = (i ≤ n) × (memberBy sameName s (tabulate (stretch t at len) i) ≡ false)
@@ -20,35 +16,27 @@ Inv-loop t s n at len i₀ i = (i ≤ n) × (memberBy sameName s (tabulate (stre
 abbrev μ-loop : tie.MeasureT-loop
 μ-loop t s n at len i₀ i = n - i
 
--- src/categories.rt:21:5
 loop-holds : tie.Need-loop-holds Inv-loop μ-loop
 loop-holds c = (omega arith, index-start _ _ _)
 
--- src/categories.rt:22:37
 name-text-requires : tie.Need-name-text-requires Inv-loop μ-loop
 name-text-requires c κs = search needs
 
--- src/categories.rt:22:12
 same-requires : tie.Need-same-requires Inv-loop μ-loop
 same-requires c κs = search needs
 
--- src/categories.rt:23:13
 returns : tie.Need-returns Inv-loop μ-loop
 returns c = (index-hit _ _ _ _ _ (c .before .before .before .before .loop .inv .1) (c .before .before .before .loop-test .taken) (c .before .same .ensures ∙ ap (sameName (c .before .before .before .before .before .before .before .args .s .now)) (c .before .before .name-text .ensures)) (c .if1 .taken), omega arith)
 
--- src/categories.rt:25:9
 add-i : tie.Need-add-i Inv-loop μ-loop
 add-i c = search needs
 
--- src/categories.rt:21:5
 loop-less : tie.Need-loop-less Inv-loop μ-loop
 loop-less c = omega arith
 
--- src/categories.rt:21:5
 loop-again : tie.Need-loop-again Inv-loop μ-loop
 loop-again c = (omega arith, index-next _ _ _ _ (c .before .before .before .before .before .before .before .args .n) (c .before .before .before .before .loop .inv .1) (c .before .same .ensures ∙ ap (sameName (c .before .before .before .before .before .before .before .args .s .now)) (c .before .before .name-text .ensures)) (c .if1 .left))
 
--- src/categories.rt:16:1
 returns-2 : tie.Need-returns-2 Inv-loop μ-loop
 returns-2 c = (index-none _ _ _ _ _ (c .before .loop .inv .1) (c .before .loop .inv .0) (c .loop-test .left), omega arith)
 

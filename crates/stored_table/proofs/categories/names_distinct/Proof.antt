@@ -10,10 +10,6 @@ use Rattle.stored_table.proofs.Tabulated.{two-start, name-twice, name-o
 use borrow.Author.Needs.{needs}
 use Rattle.stored_table.proofs.categories.names_distinct.Statement.{statement}
 use Rattle.stored_table.proofs.categories.names_distinct.Tie as tie
-use Rattle.stored_table.proofs.categories.names_distinct.Reads as reads
-use Rattle.stored_table.proofs.categories.names_distinct.Lts as lts
-use Rattle.stored_table.proofs.categories.name_index.Reads as name-index-reads
-use Rattle.stored_table.proofs.forms.name_text.Reads as name-text-reads
 
 abbrev Inv-loop : tie.InvT-loop
 Inv-loop t n at len i₀ i = (i ≤ n) × (noTwo sameName (tabulate (stretch t at len) i) ≡ true)
@@ -21,35 +17,27 @@ Inv-loop t n at len i₀ i = (i ≤ n) × (noTwo sameName (tabulate (stretch t a
 abbrev μ-loop : tie.MeasureT-loop
 μ-loop t n at len i₀ i = n - i
 
--- src/categories.rt:36:5
 loop-holds : tie.Need-loop-holds Inv-loop μ-loop
 loop-holds c = (omega arith, two-start _ _)
 
--- src/categories.rt:37:26
 name-text-requires : tie.Need-name-text-requires Inv-loop μ-loop
 name-text-requires c κs = search needs
 
--- src/categories.rt:37:12
 name-index-requires : tie.Need-name-index-requires Inv-loop μ-loop
 name-index-requires c κs = search needs
 
--- src/categories.rt:38:13
 returns : tie.Need-returns Inv-loop μ-loop
 returns c = name-twice _ _ _ (c .before .before .name-text .ensures) (c .before .name-index .ensures .0) (c .before .before .before .loop-test .taken) (c .if1 .taken)
 
--- src/categories.rt:40:9
 add-i : tie.Need-add-i Inv-loop μ-loop
 add-i c = search needs
 
--- src/categories.rt:36:5
 loop-less : tie.Need-loop-less Inv-loop μ-loop
 loop-less c = omega arith
 
--- src/categories.rt:36:5
 loop-again : tie.Need-loop-again Inv-loop μ-loop
 loop-again c = (omega arith, name-once _ _ (c .before .before .before .before .before .before .args .n) (c .before .before .name-text .ensures) (c .before .name-index .ensures .0) (c .before .before .before .before .loop .inv .1) (c .if1 .left))
 
--- src/categories.rt:31:1
 returns-2 : tie.Need-returns-2 Inv-loop μ-loop
 returns-2 c = two-ends _ _ _ _ (c .before .loop .inv .1) (c .before .loop .inv .0) (c .loop-test .left)
 

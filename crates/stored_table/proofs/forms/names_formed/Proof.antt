@@ -9,10 +9,6 @@ use Rattle.stored_table.proofs.Tabulated.{all-start, all-next, all-fail
 use borrow.Author.Needs.{needs}
 use Rattle.stored_table.proofs.forms.names_formed.Statement.{statement}
 use Rattle.stored_table.proofs.forms.names_formed.Tie as tie
-use Rattle.stored_table.proofs.forms.names_formed.Reads as reads
-use Rattle.stored_table.proofs.forms.names_formed.Lts as lts
-use Rattle.alert_urn.proofs.text.name.Reads as name-reads
-use Rattle.stored_table.proofs.forms.name_text.Reads as name-text-reads
 
 abbrev Inv-loop : tie.InvT-loop
 Inv-loop t n at len i₀ i = (i ≤ n) × (all nameOk (tabulate (stretch t at len) i) ≡ true)
@@ -20,35 +16,27 @@ Inv-loop t n at len i₀ i = (i ≤ n) × (all nameOk (tabulate (stretch t at le
 abbrev μ-loop : tie.MeasureT-loop
 μ-loop t n at len i₀ i = n - i
 
--- src/forms.rt:35:5
 loop-holds : tie.Need-loop-holds Inv-loop μ-loop
 loop-holds c = (omega arith, all-start _ _)
 
--- src/forms.rt:36:34
 name-text-requires : tie.Need-name-text-requires Inv-loop μ-loop
 name-text-requires c κs = search needs
 
--- src/forms.rt:36:12
 name-requires : tie.Need-name-requires Inv-loop μ-loop
 name-requires c κs = search needs
 
--- src/forms.rt:37:13
 add-i : tie.Need-add-i Inv-loop μ-loop
 add-i c = search needs
 
--- src/forms.rt:35:5
 loop-less : tie.Need-loop-less Inv-loop μ-loop
 loop-less c = omega arith
 
--- src/forms.rt:35:5
 loop-again : tie.Need-loop-again Inv-loop μ-loop
 loop-again c = (omega arith, all-next _ _ _ (c .before .before .before .before .loop .inv .1) (c .before .name .ensures ∙ ap nameOk (c .before .before .name-text .ensures)) (c .if1 .taken))
 
--- src/forms.rt:39:13
 returns : tie.Need-returns Inv-loop μ-loop
 returns c = all-fails _ _ _ _ (c .before .before .before .loop-test .taken) (c .before .name .ensures ∙ ap nameOk (c .before .before .name-text .ensures)) (c .if1 .left)
 
--- src/forms.rt:30:1
 returns-2 : tie.Need-returns-2 Inv-loop μ-loop
 returns-2 c = all-ends _ _ _ _ (c .before .loop .inv .1) (c .before .loop .inv .0) (c .loop-test .left)
 

@@ -4,37 +4,25 @@ use Rattle.stored_table.proofs.Indexing.{short-part}
 use borrow.Author.Needs.{needs}
 use Rattle.stored_table.proofs.forms.urn_text.Statement.{statement}
 use Rattle.stored_table.proofs.forms.urn_text.Tie as tie
-use Rattle.stored_table.proofs.forms.urn_text.Reads as reads
-use Rattle.stored_table.proofs.forms.urn_text.Lts as lts
-use Rattle.alert_urn.proofs.text.part.Reads as part-reads
-use Rattle.stored_table.proofs.read.wide.Reads as wide-reads
-use Rattle.stored_table.proofs.read.wider.Reads as wider-reads
 
--- src/forms.rt:24:32
 mul-wider : tie.Need-mul-wider
 mul-wider c = search needs
 
--- src/forms.rt:24:32
 element-copy-out-wider : tie.Need-element-copy-out-wider
 element-copy-out-wider c = search needs
 
--- src/forms.rt:24:9
 wider-requires : tie.Need-wider-requires
 wider-requires c κs = search needs
 
--- src/forms.rt:25:31
 element-copy-out-wide : tie.Need-element-copy-out-wide
 element-copy-out-wide c = search needs
 
--- src/forms.rt:25:9
 wide-requires : tie.Need-wide-requires
 wide-requires c κs = search needs
 
--- src/forms.rt:26:5
 part-requires : tie.Need-part-requires
 part-requires c κs = search needs
 
--- src/forms.rt:20:1
 returns : tie.Need-returns
 returns c = (c .part .ensures ∙ ap₂ (λ a n. take n (drop a (c .before .before .before .before .before .before .args .t .now))) (c .before .before .before .wider .ensures .0) (c .before .wide .ensures .0), short-part (c .before .before .before .before .before .before .args .t .now) (c .before .before .before .wider .result) (c .before .wide .result) (c .part .ensures) (c .before .wide .ensures .1))
 

@@ -10,10 +10,6 @@ use Rattle.stored_table.proofs.Tabulated.{all-start, all-next, all-fail
 use borrow.Author.Needs.{needs}
 use Rattle.stored_table.proofs.forms.urns_formed.Statement.{statement}
 use Rattle.stored_table.proofs.forms.urns_formed.Tie as tie
-use Rattle.stored_table.proofs.forms.urns_formed.Reads as reads
-use Rattle.stored_table.proofs.forms.urns_formed.Lts as lts
-use Rattle.alert_urn.proofs.urn.urn_formed.Reads as urn-formed-reads
-use Rattle.stored_table.proofs.forms.urn_text.Reads as urn-text-reads
 
 abbrev Inv-loop : tie.InvT-loop
 Inv-loop t m at len i₀ i = (i ≤ m) × (all urnOk (tabulate (stretch t at len) i) ≡ true)
@@ -21,35 +17,27 @@ Inv-loop t m at len i₀ i = (i ≤ m) × (all urnOk (tabulate (stretch t at len
 abbrev μ-loop : tie.MeasureT-loop
 μ-loop t m at len i₀ i = m - i
 
--- src/forms.rt:51:5
 loop-holds : tie.Need-loop-holds Inv-loop μ-loop
 loop-holds c = (omega arith, all-start _ _)
 
--- src/forms.rt:52:39
 urn-text-requires : tie.Need-urn-text-requires Inv-loop μ-loop
 urn-text-requires c κs = search needs
 
--- src/forms.rt:52:12
 urn-formed-requires : tie.Need-urn-formed-requires Inv-loop μ-loop
 urn-formed-requires c κs = search needs
 
--- src/forms.rt:53:13
 add-i : tie.Need-add-i Inv-loop μ-loop
 add-i c = search needs
 
--- src/forms.rt:51:5
 loop-less : tie.Need-loop-less Inv-loop μ-loop
 loop-less c = omega arith
 
--- src/forms.rt:51:5
 loop-again : tie.Need-loop-again Inv-loop μ-loop
 loop-again c = (omega arith, all-next _ _ _ (c .before .before .before .before .loop .inv .1) (c .before .urn-formed .ensures ∙ ap urnOk (c .before .before .urn-text .ensures .0)) (c .if1 .taken))
 
--- src/forms.rt:55:13
 returns : tie.Need-returns Inv-loop μ-loop
 returns c = all-fails _ _ _ _ (c .before .before .before .loop-test .taken) (c .before .urn-formed .ensures ∙ ap urnOk (c .before .before .urn-text .ensures .0)) (c .if1 .left)
 
--- src/forms.rt:46:1
 returns-2 : tie.Need-returns-2 Inv-loop μ-loop
 returns-2 c = all-ends _ _ _ _ (c .before .loop .inv .1) (c .before .loop .inv .0) (c .loop-test .left)
 

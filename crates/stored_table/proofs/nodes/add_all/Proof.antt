@@ -13,12 +13,6 @@ use Rattle.stored_table.proofs.NodeArrays.{all-over, all-nodes, all-num
 use borrow.Author.Needs.{needs}
 use Rattle.stored_table.proofs.nodes.add_all.Statement.{statement}
 use Rattle.stored_table.proofs.nodes.add_all.Tie as tie
-use Rattle.stored_table.proofs.nodes.add_all.Reads as reads
-use Rattle.stored_table.proofs.nodes.add_all.Lts as lts
-use Rattle.stored_table.proofs.nodes.add_urn.Reads as add-urn-reads
-use Rattle.stored_table.proofs.read.small.Reads as small-reads
-use Rattle.stored_table.proofs.read.wide.Reads as wide-reads
-use Rattle.stored_table.proofs.read.wider.Reads as wider-reads
 
 abbrev Inv-loop : tie.InvT-loop
 Inv-loop t m category path-at path-len node₀ cats₀ parents₀ at₀ len₀ n₀ i₀ node cats parents at len n i =
@@ -29,62 +23,48 @@ abbrev μ-loop : tie.MeasureT-loop
 μ-loop t m category path-at path-len node₀ cats₀ parents₀ at₀ len₀ n₀ i₀ node cats parents at len n i =
     m - i
 
--- src/nodes.rt:119:5
 loop-holds : tie.Need-loop-holds Inv-loop μ-loop
 loop-holds c = let a = c .before .args in (omega arith, omega arith, omega arith, nodes-none (a .t .now) (a .cats .now) (a .parents .now) (a .at .now) (a .len .now) (pathUrn (a .t .now) (a .category .now) (a .path-at .now) (a .path-len .now)) (omega arith) (omega arith) (omega arith) (omega arith), λ j h. absurd (omega arith))
 
--- src/nodes.rt:120:39
 mul-wider : tie.Need-mul-wider Inv-loop μ-loop
 mul-wider c = search needs
 
--- src/nodes.rt:120:39
 element-copy-out-wider : tie.Need-element-copy-out-wider Inv-loop μ-loop
 element-copy-out-wider c = search needs
 
--- src/nodes.rt:120:13
 wider-requires : tie.Need-wider-requires Inv-loop μ-loop
 wider-requires c κs = search needs
 
--- src/nodes.rt:121:35
 element-copy-out-wide : tie.Need-element-copy-out-wide Inv-loop μ-loop
 element-copy-out-wide c = search needs
 
--- src/nodes.rt:121:13
 wide-requires : tie.Need-wide-requires Inv-loop μ-loop
 wide-requires c κs = search needs
 
--- src/nodes.rt:122:28
 element-copy-out-add-urn : tie.Need-element-copy-out-add-urn Inv-loop μ-loop
 element-copy-out-add-urn c = search needs
 
--- src/nodes.rt:122:13
 add-urn-requires : tie.Need-add-urn-requires Inv-loop μ-loop
 add-urn-requires c κs = (c .before .before .before .before .before .before .before .before .before .before .loop .inv .1, c .before .before .before .before .before .before .before .wider .ensures .1, c .before .before .before .before .before .wide .ensures .1)
 
--- src/nodes.rt:124:13
 returns : tie.Need-returns Inv-loop μ-loop
 returns c = let a = c .before .before .before .before .before .before .before .before .before .before .before .before .before .before .before .args in
     let f = pathUrn (a .t .now) (a .category .now) (a .path-at .now) (a .path-len .now) in
     let l = c .before .before .before .before .before .before .before .before .before .before .before .before .before .loop in
     record { over = λ _. all-over (a .t .now) f (l .i) (ap₂ (λ x y. urn (getD (a .category .now) (l .i) 0) (fields 58 (take y (drop x (a .t .now))))) (c .before .before .before .before .before .before .before .before .before .before .wider .ensures .0) (c .before .before .before .before .before .before .before .before .wide .ensures .0)) (c .before .before .add-urn .ensures .0 (tabulate f (l .i)) (l .inv .3)) (a .m) (c .before .before .before .before .before .before .before .before .before .before .before .before .loop-test .taken) (c .if1 .taken); kept = λ z. absurd (omega arith); numbered = λ z. absurd (omega arith) }
 
--- src/nodes.rt:126:19
 small-requires : tie.Need-small-requires Inv-loop μ-loop
 small-requires c κs = omega (arith, c .before .before .add-urn .ensures .1 .0)
 
--- src/nodes.rt:126:9
 element-write-node : tie.Need-element-write-node Inv-loop μ-loop
 element-write-node c = search needs
 
--- src/nodes.rt:128:9
 add-i : tie.Need-add-i Inv-loop μ-loop
 add-i c = search needs
 
--- src/nodes.rt:119:5
 loop-less : tie.Need-loop-less Inv-loop μ-loop
 loop-less c = omega arith
 
--- src/nodes.rt:119:5
 loop-again : tie.Need-loop-again Inv-loop μ-loop
 loop-again c = let a = c .before .before .before .before .before .before .before .before .before .before .before .before .before .before .before .before .args in
     let f = pathUrn (a .t .now) (a .category .now) (a .path-at .now) (a .path-len .now) in
@@ -99,7 +79,6 @@ loop-again c = let a = c .before .before .before .before .before .before .before
       all-numbered (a .t .now) f (l .i) e A (l .node) (l .inv .4) (c .before .if1 .left) h (c .small .ensures),
     )
 
--- src/nodes.rt:113:1
 returns-2 : tie.Need-returns-2 Inv-loop μ-loop
 returns-2 c = let a = c .before .before .before .args in
     all-end {t = a .t .now} {f = pathUrn (a .t .now) (a .category .now) (a .path-at .now) (a .path-len .now)} (c .before .loop .i) (a .m) (c .before .loop .inv .0) (c .loop-test .left) (c .before .loop .inv .1) (c .before .loop .inv .3) (c .before .loop .inv .4)

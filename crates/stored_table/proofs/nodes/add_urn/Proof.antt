@@ -9,31 +9,21 @@ use Rattle.stored_table.proofs.NodeArrays.{whole-found}
 use borrow.Author.Needs.{needs}
 use Rattle.stored_table.proofs.nodes.add_urn.Statement.{statement}
 use Rattle.stored_table.proofs.nodes.add_urn.Tie as tie
-use Rattle.stored_table.proofs.nodes.add_urn.Reads as reads
-use Rattle.stored_table.proofs.nodes.add_urn.Lts as lts
-use Rattle.alert_urn.proofs.text.part.Reads as part-reads
-use Rattle.stored_table.proofs.nodes.add_path.Reads as add-path-reads
-use Rattle.stored_table.proofs.nodes.find_node.Reads as find-node-reads
 
--- src/nodes.rt:105:29
 part-requires : tie.Need-part-requires
 part-requires c κs = search needs
 
--- src/nodes.rt:105:9
 find-node-requires : tie.Need-find-node-requires
 find-node-requires c κs = search needs
 
--- src/nodes.rt:107:9
 returns : tie.Need-returns
 returns c = let a = c .before .before .before .before .before .before .before .args in
     let e = c .before .find-node .ensures .0 ∙ ap (λ s. number (tabulate (nodeUrn (a .t .now) (a .cats .now) (a .at .now) (a .len .now)) (a .n)) (a .c) (fields 58 s)) (c .before .before .before .before .before .part .ensures) in
     ((λ us N. whole-found (a .t .now) (a .cats .now) (a .parents .now) (a .at .now) (a .len .now) (a .n) us N (a .c) _ _ e (c .if1 .taken)), (omega (arith, c .before .find-node .ensures .1), omega arith))
 
--- src/nodes.rt:109:5
 add-path-requires : tie.Need-add-path-requires
 add-path-requires c κs = search needs
 
--- src/nodes.rt:100:1
 returns-2 : tie.Need-returns-2
 returns-2 c = ((λ us N. c .add-path .ensures .0 (foldl addUrn [] us) N), c .add-path .ensures .1)
 

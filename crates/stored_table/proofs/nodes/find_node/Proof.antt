@@ -12,9 +12,6 @@ use Rattle.stored_table.proofs.NodeArrays.{number-hit, number-none}
 use borrow.Author.Needs.{needs}
 use Rattle.stored_table.proofs.nodes.find_node.Statement.{statement}
 use Rattle.stored_table.proofs.nodes.find_node.Tie as tie
-use Rattle.stored_table.proofs.nodes.find_node.Reads as reads
-use Rattle.stored_table.proofs.nodes.find_node.Lts as lts
-use Rattle.stored_table.proofs.nodes.node_is.Reads as node-is-reads
 
 abbrev Inv-loop : tie.InvT-loop
 Inv-loop t c s n cats at len i₀ i = (i ≤ n) × (memberBy sameUrn (urn c (fields 58 s)) (tabulate (nodeUrn t cats at len) i) ≡ false)
@@ -22,35 +19,27 @@ Inv-loop t c s n cats at len i₀ i = (i ≤ n) × (memberBy sameUrn (urn c (fie
 abbrev μ-loop : tie.MeasureT-loop
 μ-loop t c s n cats at len i₀ i = n - i
 
--- src/nodes.rt:42:5
 loop-holds : tie.Need-loop-holds Inv-loop μ-loop
 loop-holds c = (omega arith, index-start _ _ _)
 
--- src/nodes.rt:43:12
 node-is-requires : tie.Need-node-is-requires Inv-loop μ-loop
 node-is-requires c κs = search needs
 
--- src/nodes.rt:44:20
 add-result : tie.Need-add-result Inv-loop μ-loop
 add-result c = search needs
 
--- src/nodes.rt:44:13
 returns : tie.Need-returns Inv-loop μ-loop
 returns c = (number-hit _ _ _ _ _ (c .before .before .before .loop .inv .1) (c .before .before .loop-test .taken) (c .before .node-is .ensures) (c .if1 .taken), omega arith)
 
--- src/nodes.rt:46:9
 add-i : tie.Need-add-i Inv-loop μ-loop
 add-i c = search needs
 
--- src/nodes.rt:42:5
 loop-less : tie.Need-loop-less Inv-loop μ-loop
 loop-less c = omega arith
 
--- src/nodes.rt:42:5
 loop-again : tie.Need-loop-again Inv-loop μ-loop
 loop-again c = (omega arith, index-next _ _ _ _ (c .before .before .before .before .before .before .args .n) (c .before .before .before .loop .inv .1) (c .before .node-is .ensures) (c .if1 .left))
 
--- src/nodes.rt:37:1
 returns-2 : tie.Need-returns-2 Inv-loop μ-loop
 returns-2 c = (number-none _ _ _ _ _ (c .before .loop .inv .1) (c .before .loop .inv .0) (c .loop-test .left), omega arith)
 

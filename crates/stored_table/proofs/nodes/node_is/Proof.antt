@@ -2,28 +2,19 @@ use Rattle.stored_table.proofs.NodeArrays.{node-same, node-other}
 use borrow.Author.Needs.{needs}
 use Rattle.stored_table.proofs.nodes.node_is.Statement.{statement}
 use Rattle.stored_table.proofs.nodes.node_is.Tie as tie
-use Rattle.stored_table.proofs.nodes.node_is.Reads as reads
-use Rattle.stored_table.proofs.nodes.node_is.Lts as lts
-use Rattle.alert_urn.proofs.text.same.Reads as same-reads
-use Rattle.stored_table.proofs.nodes.node_text.Reads as node-text-reads
 
--- src/nodes.rt:29:13
 element-copy-out-x : tie.Need-element-copy-out-x
 element-copy-out-x c = search needs
 
--- src/nodes.rt:31:41
 node-text-requires : tie.Need-node-text-requires
 node-text-requires c κs = search needs
 
--- src/nodes.rt:31:9
 same-requires : tie.Need-same-requires
 same-requires c κs = search needs
 
--- src/nodes.rt:31:9
 returns : tie.Need-returns
 returns c = let a = c .before .before .before .before .before .before .args in node-same (a .t .now) (a .cats .now) (a .at .now) (a .len .now) (a .i) (a .c) (a .s .now) (c .before .before .if1 .taken) (c .same .ensures) (c .before .node-text .ensures)
 
--- src/nodes.rt:25:1
 returns-2 : tie.Need-returns-2
 returns-2 c = let a = c .before .before .before .before .args in node-other (a .t .now) (a .cats .now) (a .at .now) (a .len .now) (a .i) (a .c) (a .s .now) (c .if1 .left)
 

@@ -7,9 +7,6 @@ use Rattle.stored_table.proofs.RowLaws.{row-put}
 use borrow.Author.Needs.{needs}
 use Rattle.stored_table.proofs.places.fill_rows.Statement.{statement}
 use Rattle.stored_table.proofs.places.fill_rows.Tie as tie
-use Rattle.stored_table.proofs.places.fill_rows.Reads as reads
-use Rattle.stored_table.proofs.places.fill_rows.Lts as lts
-use Rattle.stored_table.proofs.places.row_at.Reads as row-at-reads
 
 abbrev Inv-loop : tie.InvT-loop
 Inv-loop n slots node rows₀ s₀ rows s = (s ≤ n) × (length rows ≡ 32) × ((j : ℕ) → j < s → getD rows j 0 ≡ packedFrom (placeNumber slots node) (8 * j) 8)
@@ -17,40 +14,31 @@ Inv-loop n slots node rows₀ s₀ rows s = (s ≤ n) × (length rows ≡ 32) ×
 abbrev μ-loop : tie.MeasureT-loop
 μ-loop n slots node rows₀ s₀ rows s = n - s
 
--- src/places.rt:47:5
 loop-holds : tie.Need-loop-holds Inv-loop μ-loop
 loop-holds c = (omega arith, omega arith, λ j h. absurd (omega arith))
 
--- src/places.rt:48:39
 mul-row-at : tie.Need-mul-row-at Inv-loop μ-loop
 mul-row-at c = search needs
 
--- src/places.rt:48:19
 row-at-requires : tie.Need-row-at-requires Inv-loop μ-loop
 row-at-requires c κs = search needs
 
--- src/places.rt:48:9
 mul-rows : tie.Need-mul-rows Inv-loop μ-loop
 mul-rows c = search needs
 
--- src/places.rt:48:9
 element-write-rows : tie.Need-element-write-rows Inv-loop μ-loop
 element-write-rows c = search needs
 
--- src/places.rt:49:9
 add-s : tie.Need-add-s Inv-loop μ-loop
 add-s c = search needs
 
--- src/places.rt:47:5
 loop-less : tie.Need-loop-less Inv-loop μ-loop
 loop-less c = omega arith
 
--- src/places.rt:47:5
 loop-again : tie.Need-loop-again Inv-loop μ-loop
 loop-again c = let l = c .before .before .loop in
     (omega arith, length-set (l .rows) (l .s) (c .row-at .result) ∙ l .inv .1, row-put (λ j. packedFrom (placeNumber (c .before .before .before .args .slots .now) (c .before .before .before .args .node .now)) (8 * j) 8) (l .rows) (l .s) (l .inv .2) (omega (arith, l .inv .1)) (c .row-at .ensures))
 
--- src/places.rt:42:1
 returns : tie.Need-returns Inv-loop μ-loop
 returns c = λ s h. c .before .loop .inv .2 s (omega (arith, c .loop-test .left))
 

@@ -4,40 +4,28 @@ use Rattle.stored_table.proofs.RowLaws.{place-none, place-some}
 use borrow.Author.Needs.{needs}
 use Rattle.stored_table.proofs.places.place_number.Statement.{statement}
 use Rattle.stored_table.proofs.places.place_number.Tie as tie
-use Rattle.stored_table.proofs.places.place_number.Reads as reads
-use Rattle.stored_table.proofs.places.place_number.Lts as lts
-use Rattle.stored_table.proofs.read.wide.Reads as wide-reads
-use Rattle.stored_table.proofs.read.wider.Reads as wider-reads
 
--- src/places.rt:17:32
 mul-wider : tie.Need-mul-wider
 mul-wider c = search needs
 
--- src/places.rt:17:32
 element-copy-out-wider : tie.Need-element-copy-out-wider
 element-copy-out-wider c = search needs
 
--- src/places.rt:17:9
 wider-requires : tie.Need-wider-requires
 wider-requires c κs = search needs
 
--- src/places.rt:19:9
 returns : tie.Need-returns
 returns c = (place-none _ _ _ (c .before .wider .ensures .0) (c .if1 .taken), omega arith)
 
--- src/places.rt:21:13
 sub-i : tie.Need-sub-i
 sub-i c = search needs
 
--- src/places.rt:22:23
 element-copy-out-wide : tie.Need-element-copy-out-wide
 element-copy-out-wide c = omega (arith, c .before .wider .ensures .0, c .before .before .before .pre .1 (c .before .before .before .args .k))
 
--- src/places.rt:22:5
 wide-requires : tie.Need-wide-requires
 wide-requires c κs = search needs
 
--- src/places.rt:13:1
 returns-2 : tie.Need-returns-2
 returns-2 c = (place-some _ _ _ (c .before .before .before .wider .ensures .0) (c .before .before .if1 .left) (c .wide .ensures .0), c .wide .ensures .1)
 

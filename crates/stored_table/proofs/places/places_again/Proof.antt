@@ -9,9 +9,6 @@ use Rattle.stored_table.proofs.Tabulated.{any-start, any-next, any-foun
 use borrow.Author.Needs.{needs}
 use Rattle.stored_table.proofs.places.places_again.Statement.{statement}
 use Rattle.stored_table.proofs.places.places_again.Tie as tie
-use Rattle.stored_table.proofs.places.places_again.Reads as reads
-use Rattle.stored_table.proofs.places.places_again.Lts as lts
-use Rattle.stored_table.proofs.places.same_places.Reads as same-places-reads
 
 abbrev Inv-loop : tie.InvT-loop
 Inv-loop t b n slots at len a₀ a = (a ≤ b) × (any (λ a. samePlacesAt t slots at len n a b) (tabulate (λ a. a) a) ≡ false)
@@ -19,31 +16,24 @@ Inv-loop t b n slots at len a₀ a = (a ≤ b) × (any (λ a. samePlacesAt t slo
 abbrev μ-loop : tie.MeasureT-loop
 μ-loop t b n slots at len a₀ a = b - a
 
--- src/places.rt:125:5
 loop-holds : tie.Need-loop-holds Inv-loop μ-loop
 loop-holds c = (omega arith, any-start _ _)
 
--- src/places.rt:126:12
 same-places-requires : tie.Need-same-places-requires Inv-loop μ-loop
 same-places-requires c κs = search needs
 
--- src/places.rt:127:13
 returns : tie.Need-returns Inv-loop μ-loop
 returns c = any-found _ _ _ _ (c .before .before .before .loop .inv .1) (c .before .before .loop-test .taken) (sym (c .before .same-places .ensures) ∙ c .if1 .taken)
 
--- src/places.rt:129:9
 add-a : tie.Need-add-a Inv-loop μ-loop
 add-a c = search needs
 
--- src/places.rt:125:5
 loop-less : tie.Need-loop-less Inv-loop μ-loop
 loop-less c = omega arith
 
--- src/places.rt:125:5
 loop-again : tie.Need-loop-again Inv-loop μ-loop
 loop-again c = (omega arith, any-next _ _ _ (c .before .before .before .loop .inv .1) (sym (c .before .same-places .ensures) ∙ c .if1 .left))
 
--- src/places.rt:120:1
 returns-2 : tie.Need-returns-2 Inv-loop μ-loop
 returns-2 c = any-ends _ _ _ _ (c .before .loop .inv .1) (c .before .loop .inv .0) (c .loop-test .left)
 

@@ -11,8 +11,6 @@ use Rattle.stored_table.proofs.Tabulated.{any-start, any-next, any-foun
 use borrow.Author.Needs.{needs}
 use Rattle.stored_table.proofs.places.row_again.Statement.{statement}
 use Rattle.stored_table.proofs.places.row_again.Tie as tie
-use Rattle.stored_table.proofs.places.row_again.Reads as reads
-use Rattle.stored_table.proofs.places.row_again.Lts as lts
 
 abbrev Inv-loop : tie.InvT-loop
 Inv-loop rows i x j₀ j = (j ≤ i) × (any (λ x. eqb x (getD rows i 0)) (tabulate (λ s. getD rows s 0) j) ≡ false)
@@ -20,43 +18,33 @@ Inv-loop rows i x j₀ j = (j ≤ i) × (any (λ x. eqb x (getD rows i 0)) (tabu
 abbrev μ-loop : tie.MeasureT-loop
 μ-loop rows i x j₀ j = i - j
 
--- src/places.rt:58:13
 mul-x : tie.Need-mul-x Inv-loop μ-loop
 mul-x c = search needs
 
--- src/places.rt:58:13
 element-copy-out-x : tie.Need-element-copy-out-x Inv-loop μ-loop
 element-copy-out-x c = search needs
 
--- src/places.rt:60:5
 loop-holds : tie.Need-loop-holds Inv-loop μ-loop
 loop-holds c = (omega arith, any-start _ _)
 
--- src/places.rt:61:17
 mul-y : tie.Need-mul-y Inv-loop μ-loop
 mul-y c = search needs
 
--- src/places.rt:61:17
 element-copy-out-y : tie.Need-element-copy-out-y Inv-loop μ-loop
 element-copy-out-y c = search needs
 
--- src/places.rt:63:13
 returns : tie.Need-returns Inv-loop μ-loop
 returns c = any-found _ _ _ _ (c .before .before .before .loop .inv .1) (c .before .before .loop-test .taken) (eq-eqb _ _ (c .if1 .taken))
 
--- src/places.rt:65:9
 add-j : tie.Need-add-j Inv-loop μ-loop
 add-j c = search needs
 
--- src/places.rt:60:5
 loop-less : tie.Need-loop-less Inv-loop μ-loop
 loop-less c = omega arith
 
--- src/places.rt:60:5
 loop-again : tie.Need-loop-again Inv-loop μ-loop
 loop-again c = (omega arith, any-next _ _ _ (c .before .before .before .loop .inv .1) (ne-eqb _ _ (c .if1 .left)))
 
--- src/places.rt:54:1
 returns-2 : tie.Need-returns-2 Inv-loop μ-loop
 returns-2 c = any-ends _ _ _ _ (c .before .loop .inv .1) (c .before .loop .inv .0) (c .loop-test .left)
 

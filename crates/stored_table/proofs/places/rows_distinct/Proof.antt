@@ -10,9 +10,6 @@ use Rattle.stored_table.proofs.Tabulated.{two-start, two-next, two-fail
 use borrow.Author.Needs.{needs}
 use Rattle.stored_table.proofs.places.rows_distinct.Statement.{statement}
 use Rattle.stored_table.proofs.places.rows_distinct.Tie as tie
-use Rattle.stored_table.proofs.places.rows_distinct.Reads as reads
-use Rattle.stored_table.proofs.places.rows_distinct.Lts as lts
-use Rattle.stored_table.proofs.places.row_again.Reads as row-again-reads
 
 abbrev Inv-loop : tie.InvT-loop
 Inv-loop n rows i₀ i = (i ≤ n) × (noTwo eqb (tabulate (λ s. getD rows s 0) i) ≡ true)
@@ -20,31 +17,24 @@ Inv-loop n rows i₀ i = (i ≤ n) × (noTwo eqb (tabulate (λ s. getD rows s 0)
 abbrev μ-loop : tie.MeasureT-loop
 μ-loop n rows i₀ i = n - i
 
--- src/places.rt:76:5
 loop-holds : tie.Need-loop-holds Inv-loop μ-loop
 loop-holds c = (omega arith, two-start _ _)
 
--- src/places.rt:77:12
 row-again-requires : tie.Need-row-again-requires Inv-loop μ-loop
 row-again-requires c κs = search needs
 
--- src/places.rt:78:13
 returns : tie.Need-returns Inv-loop μ-loop
 returns c = two-fails _ _ _ _ (c .before .before .loop-test .taken) (sym (c .before .row-again .ensures) ∙ c .if1 .taken)
 
--- src/places.rt:80:9
 add-i : tie.Need-add-i Inv-loop μ-loop
 add-i c = search needs
 
--- src/places.rt:76:5
 loop-less : tie.Need-loop-less Inv-loop μ-loop
 loop-less c = omega arith
 
--- src/places.rt:76:5
 loop-again : tie.Need-loop-again Inv-loop μ-loop
 loop-again c = (omega arith, two-next _ _ _ (c .before .before .before .before .args .n) (c .before .before .before .loop .inv .1) (sym (c .before .row-again .ensures) ∙ c .if1 .left))
 
--- src/places.rt:71:1
 returns-2 : tie.Need-returns-2 Inv-loop μ-loop
 returns-2 c = two-ends _ _ _ _ (c .before .loop .inv .1) (c .before .loop .inv .0) (c .loop-test .left)
 

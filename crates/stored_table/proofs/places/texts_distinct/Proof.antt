@@ -9,9 +9,6 @@ use Rattle.stored_table.proofs.Tabulated.{two-start, two-next, two-fail
 use borrow.Author.Needs.{needs}
 use Rattle.stored_table.proofs.places.texts_distinct.Statement.{statement}
 use Rattle.stored_table.proofs.places.texts_distinct.Tie as tie
-use Rattle.stored_table.proofs.places.texts_distinct.Reads as reads
-use Rattle.stored_table.proofs.places.texts_distinct.Lts as lts
-use Rattle.stored_table.proofs.places.places_again.Reads as places-again-reads
 
 abbrev Inv-loop : tie.InvT-loop
 Inv-loop t count n slots at len b₀ b = (b ≤ count) × (noTwo (samePlacesAt t slots at len n) (tabulate (λ a. a) b) ≡ true)
@@ -19,31 +16,24 @@ Inv-loop t count n slots at len b₀ b = (b ≤ count) × (noTwo (samePlacesAt t
 abbrev μ-loop : tie.MeasureT-loop
 μ-loop t count n slots at len b₀ b = count - b
 
--- src/places.rt:140:5
 loop-holds : tie.Need-loop-holds Inv-loop μ-loop
 loop-holds c = (omega arith, two-start _ _)
 
--- src/places.rt:141:12
 places-again-requires : tie.Need-places-again-requires Inv-loop μ-loop
 places-again-requires c κs = search needs
 
--- src/places.rt:142:13
 returns : tie.Need-returns Inv-loop μ-loop
 returns c = two-fails _ _ _ _ (c .before .before .loop-test .taken) (sym (c .before .places-again .ensures) ∙ c .if1 .taken)
 
--- src/places.rt:144:9
 add-b : tie.Need-add-b Inv-loop μ-loop
 add-b c = search needs
 
--- src/places.rt:140:5
 loop-less : tie.Need-loop-less Inv-loop μ-loop
 loop-less c = omega arith
 
--- src/places.rt:140:5
 loop-again : tie.Need-loop-again Inv-loop μ-loop
 loop-again c = (omega arith, two-next _ _ _ (c .before .before .before .before .before .args .count) (c .before .before .before .loop .inv .1) (sym (c .before .places-again .ensures) ∙ c .if1 .left))
 
--- src/places.rt:135:1
 returns-2 : tie.Need-returns-2 Inv-loop μ-loop
 returns-2 c = two-ends _ _ _ _ (c .before .loop .inv .1) (c .before .loop .inv .0) (c .loop-test .left)
 

@@ -3,32 +3,22 @@ use Rattle.stored_table.proofs.Readings.{byte-of, number-fault, number-
 use borrow.Author.Needs.{needs}
 use Rattle.stored_table.proofs.read.read_categories.Statement.{statement}
 use Rattle.stored_table.proofs.read.read_categories.Tie as tie
-use Rattle.stored_table.proofs.read.read_categories.Reads as reads
-use Rattle.stored_table.proofs.read.read_categories.Lts as lts
-use Rattle.stored_table.proofs.read.byte_in.Reads as byte-in-reads
-use Rattle.stored_table.proofs.read.read_names.Reads as read-names-reads
 
--- src/read.rt:207:9
 byte-in-requires : tie.Need-byte-in-requires
 byte-in-requires c κs = search needs
 
--- src/read.rt:209:24
 enum-known-got : tie.Need-enum-known-got
 enum-known-got c = search needs
 
--- src/read.rt:210:22
 enum-known-got-2 : tie.Need-enum-known-got-2
 enum-known-got-2 c = search needs
 
--- src/read.rt:210:31
 read-names-requires : tie.Need-read-names-requires
 read-names-requires c κs = let b = byte-of 1 8 (c .before .before .before .before .before .before .before .args .t .now) _ _ _ (c .before .before .before .before .before .byte-in .ensures) (c .before .before .before .got2 .given .1) in (b .high, omega arith, omega arith, omega arith)
 
--- src/read.rt:202:1
 returns : tie.Need-returns
 returns c = (categories-fault _ _ _ (number-fault _ (c .before .before .before .byte-in .ensures) (c .before .got .given .1)), tt)
 
--- src/read.rt:202:1
 returns-2 : tie.Need-returns-2
 returns-2 c = let b = byte-of 1 8 (c .before .before .before .before .before .before .before .before .args .t .now) _ _ _ (c .before .before .before .before .before .before .byte-in .ensures) (c .before .before .before .before .got2 .given .1) in
     (categories-more _ _ _ _ (number-got _ _ (c .before .before .before .before .before .before .byte-in .ensures) (c .before .before .before .before .got2 .given .1)) (c .read-names .ensures .0), at-most-up (c .read-names .result) _ _ (c .read-names .ensures .1) (b .high))

@@ -9,11 +9,6 @@ use Rattle.stored_table.proofs.Readings.{after, run-start, run-more, ru
 use borrow.Author.Needs.{needs}
 use Rattle.stored_table.proofs.read.read_names.Statement.{statement}
 use Rattle.stored_table.proofs.read.read_names.Tie as tie
-use Rattle.stored_table.proofs.read.read_names.Reads as reads
-use Rattle.stored_table.proofs.read.read_names.Lts as lts
-use Rattle.stored_table.proofs.read.read_text.Reads as read-text-reads
-use Rattle.stored_table.proofs.read.short.Reads as short-reads
-use Rattle.stored_table.proofs.read.small.Reads as small-reads
 
 abbrev Inv-loop : tie.InvT-loop
 Inv-loop t from n at₀ len₀ i₀ p₀ at len i p = (i ≤ n) × (length at ≡ 8) × (length len ≡ 8) × (times (text 55 t) n from ≡ after (tabulate (stretch t at len) i) (λ x. x) (times (text 55 t) (n - i) p))
@@ -21,59 +16,45 @@ Inv-loop t from n at₀ len₀ i₀ p₀ at len i p = (i ≤ n) × (length at �
 abbrev μ-loop : tie.MeasureT-loop
 μ-loop t from n at₀ len₀ i₀ p₀ at len i p = n - i
 
--- src/read.rt:86:5
 loop-holds : tie.Need-loop-holds Inv-loop μ-loop
 loop-holds c = (omega arith, omega arith, omega arith, run-start _ _ _ _)
 
--- src/read.rt:87:13
 read-text-requires : tie.Need-read-text-requires Inv-loop μ-loop
 read-text-requires c κs = search needs
 
--- src/read.rt:89:28
 enum-known-got : tie.Need-enum-known-got Inv-loop μ-loop
 enum-known-got c = search needs
 
--- src/read.rt:90:17
 returns : tie.Need-returns Inv-loop μ-loop
 returns c = (run-stop _ _ _ _ _ _ _ (c .before .before .before .before .before .loop .inv .3) _ (c .before .before .before .before .loop-test .taken) (text-was-fault _ _ (c .before .before .before .read-text .ensures .0) (c .before .got .given .1)), tt)
 
--- src/read.rt:92:26
 enum-known-got-2 : tie.Need-enum-known-got-2 Inv-loop μ-loop
 enum-known-got-2 c = search needs
 
--- src/read.rt:93:31
 sub-short : tie.Need-sub-short Inv-loop μ-loop
 sub-short c = text-inside _ _ (c .before .before .before .read-text .ensures .1) (c .before .got2 .given .1) .1
 
--- src/read.rt:93:25
 short-requires : tie.Need-short-requires Inv-loop μ-loop
 short-requires c κs = let b = text-inside _ _ (c .before .before .before .read-text .ensures .1) (c .before .got2 .given .1) in omega (arith, b .2)
 
--- src/read.rt:93:17
 mul-at : tie.Need-mul-at Inv-loop μ-loop
 mul-at c = search needs
 
--- src/read.rt:93:17
 element-write-at : tie.Need-element-write-at Inv-loop μ-loop
 element-write-at c = search needs
 
--- src/read.rt:94:26
 small-requires : tie.Need-small-requires Inv-loop μ-loop
 small-requires c κs = let b = text-inside _ _ (c .before .before .before .before .read-text .ensures .1) (c .before .before .got2 .given .1) in omega (arith, b .0)
 
--- src/read.rt:94:17
 element-write-len : tie.Need-element-write-len Inv-loop μ-loop
 element-write-len c = search needs
 
--- src/read.rt:96:17
 add-i : tie.Need-add-i Inv-loop μ-loop
 add-i c = search needs
 
--- src/read.rt:86:5
 loop-less : tie.Need-loop-less Inv-loop μ-loop
 loop-less c = omega arith
 
--- src/read.rt:86:5
 loop-again : tie.Need-loop-again Inv-loop μ-loop
 loop-again c = let at = c .before .before .before .before .before .before .before .loop .at in
     let len = c .before .before .before .before .before .before .before .loop .len in
@@ -86,7 +67,6 @@ loop-again c = let at = c .before .before .before .before .before .before .befor
       run-more _ _ _ _ _ _ _ (c .before .before .before .before .before .before .before .loop .inv .3) _ _ _ (c .before .before .before .before .before .before .loop-test .taken) (text-was _ _ _ (c .before .before .before .before .before .read-text .ensures .0) (c .before .before .before .got2 .given .1)) (λ j l. stretch-keep _ at len i _ _ j l) (stored-text _ at len i _ _ (c .before .short .ensures) (c .small .ensures) h k),
     )
 
--- src/read.rt:79:1
 returns-2 : tie.Need-returns-2 Inv-loop μ-loop
 returns-2 c = (run-done _ _ _ _ _ _ _ (c .before .loop .inv .3) (c .loop-test .left), omega arith)
 

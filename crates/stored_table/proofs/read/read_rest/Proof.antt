@@ -5,48 +5,34 @@ use Rattle.stored_table.proofs.Readings.{byte-of, number-fault, number-
 use borrow.Author.Needs.{needs}
 use Rattle.stored_table.proofs.read.read_rest.Statement.{statement}
 use Rattle.stored_table.proofs.read.read_rest.Tie as tie
-use Rattle.stored_table.proofs.read.read_rest.Reads as reads
-use Rattle.stored_table.proofs.read.read_rest.Lts as lts
-use Rattle.stored_table.proofs.read.byte_in.Reads as byte-in-reads
-use Rattle.stored_table.proofs.read.read_signals.Reads as read-signals-reads
 
--- src/read.rt:183:9
 byte-in-requires : tie.Need-byte-in-requires
 byte-in-requires c κs = search needs
 
--- src/read.rt:185:24
 enum-known-first : tie.Need-enum-known-first
 enum-known-first c = search needs
 
--- src/read.rt:186:22
 enum-known-first-2 : tie.Need-enum-known-first-2
 enum-known-first-2 c = search needs
 
--- src/read.rt:187:17
 read-signals-requires : tie.Need-read-signals-requires
 read-signals-requires c κs = let b = byte-of 1 32 (c .before .before .before .before .before .before .before .before .args .t .now) _ _ _ (c .before .before .before .before .before .before .byte-in .ensures) (c .before .before .before .before .first2 .given .1) in (b .high, omega arith, omega arith, omega arith, omega arith)
 
--- src/read.rt:189:32
 enum-known-got : tie.Need-enum-known-got
 enum-known-got c = search needs
 
--- src/read.rt:190:30
 enum-known-got-2 : tie.Need-enum-known-got-2
 enum-known-got-2 c = search needs
 
--- src/read.rt:192:25
 returns : tie.Need-returns
 returns c = (record { faulty = λ e. rest-more _ _ _ _ (number-got _ _ (c .before .before .before .before .before .before .before .before .before .before .before .byte-in .ensures) (c .before .before .before .before .before .before .before .before .before .first2 .given .1)) _ (c .before .before .before .before .read-signals .ensures .0) _ _ (c .before .before .got2 .given .1) (c .if1 .taken); holds = λ e. absurd (false≢true e) }, λ e. absurd (false≢true e))
 
--- src/read.rt:178:1
 returns-2 : tie.Need-returns-2
 returns-2 c = (record { faulty = λ e. rest-fault _ _ _ (number-fault _ (c .before .before .before .byte-in .ensures) (c .before .first .given .1)); holds = λ e. absurd (false≢true e) }, λ e. absurd (false≢true e))
 
--- src/read.rt:178:1
 returns-3 : tie.Need-returns-3
 returns-3 c = (record { faulty = λ e. rest-bad _ _ _ _ (number-got _ _ (c .before .before .before .before .before .before .before .before .before .before .byte-in .ensures) (c .before .before .before .before .before .before .before .before .first2 .given .1)) _ (c .before .before .before .read-signals .ensures .0) _ (c .before .got .given .1); holds = λ e. absurd (false≢true e) }, λ e. absurd (false≢true e))
 
--- src/read.rt:178:1
 returns-4 : tie.Need-returns-4
 returns-4 c = let g = rest-good _ _ _ _ (number-got _ _ (c .before .before .before .before .before .before .before .before .before .before .before .byte-in .ensures) (c .before .before .before .before .before .before .before .before .before .first2 .given .1)) _ (c .before .before .before .before .read-signals .ensures .0) _ _ (c .before .before .got2 .given .1) (c .if1 .left) in
     let b = byte-of 1 32 (c .before .before .before .before .before .before .before .before .before .before .before .before .before .args .t .now) _ _ _ (c .before .before .before .before .before .before .before .before .before .before .before .byte-in .ensures) (c .before .before .before .before .before .before .before .before .before .first2 .given .1) in

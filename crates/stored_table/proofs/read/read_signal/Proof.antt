@@ -4,36 +4,25 @@ use Rattle.stored_table.proofs.Readings.{byte-of, number-fault, number-
 use borrow.Author.Needs.{needs}
 use Rattle.stored_table.proofs.read.read_signal.Statement.{statement}
 use Rattle.stored_table.proofs.read.read_signal.Tie as tie
-use Rattle.stored_table.proofs.read.read_signal.Reads as reads
-use Rattle.stored_table.proofs.read.read_signal.Lts as lts
-use Rattle.stored_table.proofs.read.byte_in.Reads as byte-in-reads
-use Rattle.stored_table.proofs.read.read_urns.Reads as read-urns-reads
 
--- src/read.rt:135:9
 byte-in-requires : tie.Need-byte-in-requires
 byte-in-requires c κs = search needs
 
--- src/read.rt:137:24
 enum-known-got : tie.Need-enum-known-got
 enum-known-got c = search needs
 
--- src/read.rt:138:22
 enum-known-got-2 : tie.Need-enum-known-got-2
 enum-known-got-2 c = search needs
 
--- src/read.rt:138:57
 add-read-urns : tie.Need-add-read-urns
 add-read-urns c = let b = byte-of 0 8 (c .before .before .before .before .before .args .t .now) _ _ _ (c .before .before .before .byte-in .ensures) (c .before .got2 .given .1) in omega (arith, b .high)
 
--- src/read.rt:138:31
 read-urns-requires : tie.Need-read-urns-requires
 read-urns-requires c κs = let b = byte-of 0 8 (c .before .before .before .before .before .before .before .before .args .t .now) _ _ _ (c .before .before .before .before .before .before .byte-in .ensures) (c .before .before .before .before .got2 .given .1) in (omega arith, omega (arith, b .high), omega arith, omega arith, omega arith, omega arith)
 
--- src/read.rt:130:1
 returns : tie.Need-returns
 returns c = (signal-fault _ _ _ _ (number-fault _ (c .before .before .before .byte-in .ensures) (c .before .got .given .1)), (tt, omega arith, omega arith, omega arith))
 
--- src/read.rt:130:1
 returns-2 : tie.Need-returns-2
 returns-2 c = let b = byte-of 0 8 (c .before .before .before .before .before .before .before .before .before .args .t .now) _ _ _ (c .before .before .before .before .before .before .before .byte-in .ensures) (c .before .before .before .before .before .got2 .given .1) in
     (signal-more _ _ _ _ _ (c .before .before .before .before .before .before .before .before .before .args .start) (number-got _ _ (c .before .before .before .before .before .before .before .byte-in .ensures) (c .before .before .before .before .before .got2 .given .1)) (c .read-urns .ensures .0), (at-most (c .read-urns .result) (c .before .before .before .before .before .before .before .before .before .args .start) _ _ (c .read-urns .ensures .1 .0) (b .high), c .read-urns .ensures .1 .1, c .read-urns .ensures .1 .2, c .read-urns .ensures .1 .3))

@@ -10,10 +10,6 @@ use Rattle.stored_table.proofs.Readings.{signals-start, signals-more, s
 use borrow.Author.Needs.{needs}
 use Rattle.stored_table.proofs.read.read_signals.Statement.{statement}
 use Rattle.stored_table.proofs.read.read_signals.Tie as tie
-use Rattle.stored_table.proofs.read.read_signals.Reads as reads
-use Rattle.stored_table.proofs.read.read_signals.Lts as lts
-use Rattle.stored_table.proofs.read.read_signal.Reads as read-signal-reads
-use Rattle.stored_table.proofs.read.small.Reads as small-reads
 
 abbrev Inv-loop : tie.InvT-loop
 Inv-loop t from n at₀ len₀ signal₀ s₀ m₀ p₀ at len signal s m p = (s ≤ n) × (m ≤ 8 * s) × (length at ≡ 256) × (length len ≡ 256) × (length signal ≡ 256) × (mapRead (taggedFrom 0) (times (counted 0 8 (text 255 t) t) n from) ≡ mapRead (λ ss. tabulate (urnAt t signal at len) m ++ taggedFrom s ss) (times (counted 0 8 (text 255 t) t) (n - s) p))
@@ -21,39 +17,30 @@ Inv-loop t from n at₀ len₀ signal₀ s₀ m₀ p₀ at len signal s m p = (s
 abbrev μ-loop : tie.MeasureT-loop
 μ-loop t from n at₀ len₀ signal₀ s₀ m₀ p₀ at len signal s m p = n - s
 
--- src/read.rt:151:5
 loop-holds : tie.Need-loop-holds Inv-loop μ-loop
 loop-holds c = (omega arith, omega arith, omega arith, omega arith, omega arith, signals-start _ _ _ _)
 
--- src/read.rt:152:37
 small-requires : tie.Need-small-requires Inv-loop μ-loop
 small-requires c κs = search needs
 
--- src/read.rt:152:13
 read-signal-requires : tie.Need-read-signal-requires Inv-loop μ-loop
 read-signal-requires c κs = (omega arith, omega arith, c .before .before .before .before .before .loop .inv .2, c .before .before .before .before .before .loop .inv .3, c .before .before .before .before .before .loop .inv .4)
 
--- src/read.rt:154:28
 enum-known-got : tie.Need-enum-known-got Inv-loop μ-loop
 enum-known-got c = search needs
 
--- src/read.rt:155:17
 returns : tie.Need-returns Inv-loop μ-loop
 returns c = (signals-stop _ _ _ _ _ _ _ (c .before .before .before .before .before .before .before .before .before .loop .inv .5) _ _ _ (c .before .before .before .before .before .before .before .before .loop-test .taken) (c .before .before .before .read-signal .ensures .0) (c .before .got .given .1), tt)
 
--- src/read.rt:157:26
 enum-known-got-2 : tie.Need-enum-known-got-2 Inv-loop μ-loop
 enum-known-got-2 c = search needs
 
--- src/read.rt:160:17
 add-s : tie.Need-add-s Inv-loop μ-loop
 add-s c = search needs
 
--- src/read.rt:151:5
 loop-less : tie.Need-loop-less Inv-loop μ-loop
 loop-less c = omega arith
 
--- src/read.rt:151:5
 loop-again : tie.Need-loop-again Inv-loop μ-loop
 loop-again c = let k = at-most-got _ _ (c .before .before .before .read-signal .ensures .1 .0) (c .before .got2 .given .1) in (
   omega arith,
@@ -64,7 +51,6 @@ loop-again c = let k = at-most-got _ _ (c .before .before .before .read-signal .
   signals-more _ _ _ _ _ _ _ (c .before .before .before .before .before .before .before .before .before .loop .inv .5) _ _ _ (c .before .before .before .before .before .before .before .before .loop-test .taken) (c .before .before .before .before .before .before .before .small .ensures) (c .before .before .before .read-signal .ensures .0) (c .before .got2 .given .1),
 )
 
--- src/read.rt:143:1
 returns-2 : tie.Need-returns-2 Inv-loop μ-loop
 returns-2 c = (signals-done _ _ _ _ _ _ _ (c .before .loop .inv .5) (c .loop-test .left), omega arith)
 

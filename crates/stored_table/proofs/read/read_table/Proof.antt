@@ -4,32 +4,22 @@ use Rattle.stored_table.proofs.Readings.{stored-fault, stored-read, sto
 use borrow.Author.Needs.{needs}
 use Rattle.stored_table.proofs.read.read_table.Statement.{statement}
 use Rattle.stored_table.proofs.read.read_table.Tie as tie
-use Rattle.stored_table.proofs.read.read_table.Reads as reads
-use Rattle.stored_table.proofs.read.read_table.Lts as lts
-use Rattle.stored_table.proofs.read.read_categories.Reads as read-categories-reads
-use Rattle.stored_table.proofs.read.read_rest.Reads as read-rest-reads
 
--- src/read.rt:219:9
 read-categories-requires : tie.Need-read-categories-requires
 read-categories-requires c κs = search needs
 
--- src/read.rt:221:24
 enum-known-got : tie.Need-enum-known-got
 enum-known-got c = search needs
 
--- src/read.rt:222:22
 enum-known-got-2 : tie.Need-enum-known-got-2
 enum-known-got-2 c = search needs
 
--- src/read.rt:222:31
 read-rest-requires : tie.Need-read-rest-requires
 read-rest-requires c κs = search needs
 
--- src/read.rt:215:1
 returns : tie.Need-returns
 returns c = record { faulty = λ e. stored-fault _ _ (c .before .before .before .read-categories .ensures .0) _ (c .before .got .given .1); holds = λ e. absurd (false≢true e) }
 
--- src/read.rt:215:1
 returns-2 : tie.Need-returns-2
 returns-2 c = record { faulty = λ e. stored-not _ (c .before .before .before .before .before .before .before .read-categories .last .1 .0) (c .before .before .before .before .before .before .before .read-categories .last .1 .1 .0) (c .before .before .before .before .before .before .before .read-categories .ensures .0) _ _ (c .before .before .before .before .before .got2 .given .1) (c .read-rest .ensures .0) e; holds = λ e. stored-read _ (c .before .before .before .before .before .before .before .read-categories .last .1 .0) (c .before .before .before .before .before .before .before .read-categories .last .1 .1 .0) (c .before .before .before .before .before .before .before .read-categories .ensures .0) _ _ (c .before .before .before .before .before .got2 .given .1) (c .read-rest .ensures .0) (c .read-rest .ensures .1) (at-most-got _ _ (c .before .before .before .before .before .before .before .read-categories .ensures .1) (c .before .before .before .before .before .got2 .given .1)) e }
 

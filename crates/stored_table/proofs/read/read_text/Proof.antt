@@ -3,40 +3,29 @@ use Rattle.stored_table.proofs.Readings.{number-fault, number-got, byte
 use borrow.Author.Needs.{needs}
 use Rattle.stored_table.proofs.read.read_text.Statement.{statement}
 use Rattle.stored_table.proofs.read.read_text.Tie as tie
-use Rattle.stored_table.proofs.read.read_text.Reads as reads
-use Rattle.stored_table.proofs.read.read_text.Lts as lts
-use Rattle.stored_table.proofs.read.byte_in.Reads as byte-in-reads
 
--- src/read.rt:65:9
 byte-in-requires : tie.Need-byte-in-requires
 byte-in-requires c κs = search needs
 
--- src/read.rt:67:24
 enum-known-got : tie.Need-enum-known-got
 enum-known-got c = search needs
 
--- src/read.rt:68:22
 enum-known-got-2 : tie.Need-enum-known-got-2
 enum-known-got-2 c = search needs
 
--- src/read.rt:69:21
 sub-if1 : tie.Need-sub-if1
 sub-if1 c = let b = byte-of 1 _ (c .before .before .before .before .before .args .t .now) _ _ _ (c .before .before .before .byte-in .ensures) (c .before .got2 .given .1) in omega (arith, b .next, b .here)
 
--- src/read.rt:70:33
 add-t13 : tie.Need-add-t13
 add-t13 c = search needs
 
--- src/read.rt:61:1
 returns : tie.Need-returns
 returns c = (text-fault _ _ _ _ (number-fault _ (c .before .before .before .byte-in .ensures) (c .before .got .given .1)), tt)
 
--- src/read.rt:61:1
 returns-2 : tie.Need-returns-2
 returns-2 c = let b = byte-of 1 _ (c .before .before .before .before .before .before .args .t .now) _ _ _ (c .before .before .before .before .byte-in .ensures) (c .before .before .got2 .given .1) in
     (text-good _ _ _ (c .before .before .got2 .given .0 .0) (c .before .before .got2 .given .0 .1 .0) (number-got _ _ (c .before .before .before .before .byte-in .ensures) (c .before .before .got2 .given .1)) (c .if1 .taken), (b .high, omega arith, omega (arith, b .next, b .here)))
 
--- src/read.rt:61:1
 returns-3 : tie.Need-returns-3
 returns-3 c = (text-short _ _ _ _ _ (number-got _ _ (c .before .before .before .before .byte-in .ensures) (c .before .before .got2 .given .1)) (c .if1 .left), tt)
 

@@ -9,11 +9,6 @@ use Rattle.stored_table.proofs.Readings.{after, run-more, run-stop, run
 use borrow.Author.Needs.{needs}
 use Rattle.stored_table.proofs.read.read_urns.Statement.{statement}
 use Rattle.stored_table.proofs.read.read_urns.Tie as tie
-use Rattle.stored_table.proofs.read.read_urns.Reads as reads
-use Rattle.stored_table.proofs.read.read_urns.Lts as lts
-use Rattle.stored_table.proofs.read.read_text.Reads as read-text-reads
-use Rattle.stored_table.proofs.read.short.Reads as short-reads
-use Rattle.stored_table.proofs.read.small.Reads as small-reads
 
 abbrev Inv-loop : tie.InvT-loop
 Inv-loop t from s start end at₀ len₀ signal₀ i₀ p₀ at len signal i p = (i ≤ end) × (length at ≡ 256) × (length len ≡ 256) × (length signal ≡ 256) × (after (tabulate (urnAt t signal₀ at₀ len₀) start) (tag s) (times (text 255 t) (end - start) from) ≡ after (tabulate (urnAt t signal at len) i) (tag s) (times (text 255 t) (end - i) p))
@@ -21,63 +16,48 @@ Inv-loop t from s start end at₀ len₀ signal₀ i₀ p₀ at len signal i p =
 abbrev μ-loop : tie.MeasureT-loop
 μ-loop t from s start end at₀ len₀ signal₀ i₀ p₀ at len signal i p = end - i
 
--- src/read.rt:111:5
 loop-holds : tie.Need-loop-holds Inv-loop μ-loop
 loop-holds c = (omega arith, omega arith, omega arith, omega arith, refl)
 
--- src/read.rt:112:13
 read-text-requires : tie.Need-read-text-requires Inv-loop μ-loop
 read-text-requires c κs = search needs
 
--- src/read.rt:114:28
 enum-known-got : tie.Need-enum-known-got Inv-loop μ-loop
 enum-known-got c = search needs
 
--- src/read.rt:115:17
 returns : tie.Need-returns Inv-loop μ-loop
 returns c = (run-stop _ _ _ _ _ _ _ (c .before .before .before .before .before .loop .inv .4) _ (c .before .before .before .before .loop-test .taken) (text-was-fault _ _ (c .before .before .before .read-text .ensures .0) (c .before .got .given .1)), (tt, c .before .before .before .before .before .loop .inv .1, c .before .before .before .before .before .loop .inv .2, c .before .before .before .before .before .loop .inv .3))
 
--- src/read.rt:117:26
 enum-known-got-2 : tie.Need-enum-known-got-2 Inv-loop μ-loop
 enum-known-got-2 c = search needs
 
--- src/read.rt:118:31
 sub-short : tie.Need-sub-short Inv-loop μ-loop
 sub-short c = text-inside _ _ (c .before .before .before .read-text .ensures .1) (c .before .got2 .given .1) .1
 
--- src/read.rt:118:25
 short-requires : tie.Need-short-requires Inv-loop μ-loop
 short-requires c κs = let b = text-inside _ _ (c .before .before .before .read-text .ensures .1) (c .before .got2 .given .1) in omega (arith, b .2)
 
--- src/read.rt:118:17
 mul-at : tie.Need-mul-at Inv-loop μ-loop
 mul-at c = search needs
 
--- src/read.rt:118:17
 element-write-at : tie.Need-element-write-at Inv-loop μ-loop
 element-write-at c = search needs
 
--- src/read.rt:119:26
 small-requires : tie.Need-small-requires Inv-loop μ-loop
 small-requires c κs = let b = text-inside _ _ (c .before .before .before .before .read-text .ensures .1) (c .before .before .got2 .given .1) in omega (arith, b .0)
 
--- src/read.rt:119:17
 element-write-len : tie.Need-element-write-len Inv-loop μ-loop
 element-write-len c = search needs
 
--- src/read.rt:120:17
 element-write-signal : tie.Need-element-write-signal Inv-loop μ-loop
 element-write-signal c = search needs
 
--- src/read.rt:122:17
 add-i : tie.Need-add-i Inv-loop μ-loop
 add-i c = search needs
 
--- src/read.rt:111:5
 loop-less : tie.Need-loop-less Inv-loop μ-loop
 loop-less c = omega arith
 
--- src/read.rt:111:5
 loop-again : tie.Need-loop-again Inv-loop μ-loop
 loop-again c = let at = c .before .before .before .before .before .before .before .loop .at in
     let len = c .before .before .before .before .before .before .before .loop .len in
@@ -93,7 +73,6 @@ loop-again c = let at = c .before .before .before .before .before .before .befor
       run-more _ _ _ _ _ _ _ (c .before .before .before .before .before .before .before .loop .inv .4) _ _ _ (c .before .before .before .before .before .before .loop-test .taken) (text-was _ _ _ (c .before .before .before .before .before .read-text .ensures .0) (c .before .before .before .got2 .given .1)) (λ j l. urn-keep _ signal at len i _ _ _ j l) (stored-urn _ signal at len i _ _ _ (c .before .short .ensures) (c .small .ensures) l h k),
     )
 
--- src/read.rt:104:1
 returns-2 : tie.Need-returns-2 Inv-loop μ-loop
 returns-2 c = (run-done _ _ _ _ _ _ _ (c .before .loop .inv .4) (c .loop-test .left), (omega arith, c .before .loop .inv .1, c .before .loop .inv .2, c .before .loop .inv .3))
 

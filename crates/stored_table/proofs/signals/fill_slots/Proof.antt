@@ -11,10 +11,6 @@ use Rattle.stored_table.proofs.Indexing.{slot-start, slot-twice, slot-o
 use borrow.Author.Needs.{needs}
 use Rattle.stored_table.proofs.signals.fill_slots.Statement.{statement}
 use Rattle.stored_table.proofs.signals.fill_slots.Tie as tie
-use Rattle.stored_table.proofs.signals.fill_slots.Reads as reads
-use Rattle.stored_table.proofs.signals.fill_slots.Lts as lts
-use Rattle.stored_table.proofs.read.short.Reads as short-reads
-use Rattle.stored_table.proofs.read.wide.Reads as wide-reads
 
 abbrev Inv-loop : tie.InvT-loop
 Inv-loop m signal category slots₀ i₀ slots i = (i ≤ m) × (length slots ≡ 256) × (noTwo sameKey (tabulate (keyAt signal category) i) ≡ true) × ((s c : ℕ) → c < 8 → getD slots (8 * s + c) 0 ≡ slotIn (keyAt signal category) s c i)
@@ -22,63 +18,48 @@ Inv-loop m signal category slots₀ i₀ slots i = (i ≤ m) × (length slots �
 abbrev μ-loop : tie.MeasureT-loop
 μ-loop m signal category slots₀ i₀ slots i = m - i
 
--- src/signals.rt:17:5
 loop-holds : tie.Need-loop-holds Inv-loop μ-loop
 loop-holds c = (omega arith, omega arith, two-start _ _, slot-start (c .args .signal .now) (c .args .category .now) (c .args .slots .now) (c .pre .2))
 
--- src/signals.rt:18:39
 element-copy-out-wide : tie.Need-element-copy-out-wide Inv-loop μ-loop
 element-copy-out-wide c = search needs
 
--- src/signals.rt:18:21
 wide-requires : tie.Need-wide-requires Inv-loop μ-loop
 wide-requires c κs = search needs
 
--- src/signals.rt:18:17
 mul-k : tie.Need-mul-k Inv-loop μ-loop
 mul-k c = omega (arith, c .wide .ensures .0, c .before .before .before .before .pre .3 _ (c .before .before .loop-test .taken))
 
--- src/signals.rt:18:70
 element-copy-out-wide-2 : tie.Need-element-copy-out-wide-2 Inv-loop μ-loop
 element-copy-out-wide-2 c = search needs
 
--- src/signals.rt:18:52
 wide-requires-2 : tie.Need-wide-requires-2 Inv-loop μ-loop
 wide-requires-2 c κs = search needs
 
--- src/signals.rt:18:17
 add-k : tie.Need-add-k Inv-loop μ-loop
 add-k c = omega (arith, c .before .before .wide .ensures .0, c .before .before .before .before .before .before .pre .3 _ (c .before .before .before .before .loop-test .taken), c .wide2 .ensures .0, c .before .before .before .before .before .before .pre .4 _ (c .before .before .before .before .loop-test .taken))
 
--- src/signals.rt:19:12
 mul-if1 : tie.Need-mul-if1 Inv-loop μ-loop
 mul-if1 c = omega (arith, c .before .before .wide .ensures .0, c .before .before .before .before .before .before .pre .3 _ (c .before .before .before .before .loop-test .taken), c .wide2 .ensures .0, c .before .before .before .before .before .before .pre .4 _ (c .before .before .before .before .loop-test .taken))
 
--- src/signals.rt:19:12
 element-copy-out-if1 : tie.Need-element-copy-out-if1 Inv-loop μ-loop
 element-copy-out-if1 c = omega (arith, c .before .before .wide .ensures .0, c .before .before .before .before .before .before .pre .3 _ (c .before .before .before .before .loop-test .taken), c .wide2 .ensures .0, c .before .before .before .before .before .before .pre .4 _ (c .before .before .before .before .loop-test .taken))
 
--- src/signals.rt:20:13
 add-i : tie.Need-add-i Inv-loop μ-loop
 add-i c = search needs
 
--- src/signals.rt:21:24
 short-requires : tie.Need-short-requires Inv-loop μ-loop
 short-requires c κs = search needs
 
--- src/signals.rt:21:13
 mul-slots : tie.Need-mul-slots Inv-loop μ-loop
 mul-slots c = omega (arith, c .before .before .before .before .before .wide .ensures .0, c .before .before .before .before .before .before .before .before .before .pre .3 _ (c .before .before .before .before .before .before .before .loop-test .taken), c .before .before .before .wide2 .ensures .0, c .before .before .before .before .before .before .before .before .before .pre .4 _ (c .before .before .before .before .before .before .before .loop-test .taken))
 
--- src/signals.rt:21:13
 element-write-slots : tie.Need-element-write-slots Inv-loop μ-loop
 element-write-slots c = omega (arith, c .before .before .before .before .before .wide .ensures .0, c .before .before .before .before .before .before .before .before .before .pre .3 _ (c .before .before .before .before .before .before .before .loop-test .taken), c .before .before .before .wide2 .ensures .0, c .before .before .before .before .before .before .before .before .before .pre .4 _ (c .before .before .before .before .before .before .before .loop-test .taken))
 
--- src/signals.rt:17:5
 loop-less : tie.Need-loop-less Inv-loop μ-loop
 loop-less c = omega arith
 
--- src/signals.rt:17:5
 loop-again : tie.Need-loop-again Inv-loop μ-loop
 loop-again c = let a = c .before .before .before .before .before .before .before .before .before .args in
     let x = c .before .before .before .before .before .wide .result in
@@ -92,14 +73,12 @@ loop-again c = let a = c .before .before .before .before .before .before .before
       slot-put (a .signal .now) (a .category .now) (l .slots) (l .i) (a .m) x y (c .before .before .before .before .before .wide .ensures .0) (c .before .before .before .wide2 .ensures .0) h (l .inv .3) _ (c .short .ensures) k,
     )
 
--- src/signals.rt:23:13
 returns : tie.Need-returns Inv-loop μ-loop
 returns c = let a = c .before .before .before .before .before .before .before .before .args in
     let l = c .before .before .before .before .before .before .before .loop in
     let h : c .before .before .wide2 .result < 8 = omega (arith, c .before .before .wide2 .ensures .0, c .before .before .before .before .before .before .before .before .pre .4 _ (c .before .before .before .before .before .before .loop-test .taken)) in
     (slot-twice (a .signal .now) (a .category .now) (l .slots) (l .i) (a .m) _ _ (c .before .before .before .before .wide .ensures .0) (c .before .before .wide2 .ensures .0) h (l .inv .3) (c .before .before .before .before .before .before .loop-test .taken) (c .if1 .left), λ e. absurd (false≢true e))
 
--- src/signals.rt:11:1
 returns-2 : tie.Need-returns-2 Inv-loop μ-loop
 returns-2 c = let e : c .before .loop .i ≡ c .before .before .args .m = omega arith in
     (two-ends _ _ _ _ (c .before .loop .inv .2) (c .before .loop .inv .0) (c .loop-test .left), λ _ s k h. c .before .loop .inv .3 s k h ∙ ap (slotIn (keyAt (c .before .before .args .signal .now) (c .before .before .args .category .now)) s k) e)

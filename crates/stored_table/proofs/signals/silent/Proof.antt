@@ -3,18 +3,13 @@ use mathlib.Core.Path.{refl}
 use borrow.Author.Needs.{needs}
 use Rattle.stored_table.proofs.signals.silent.Statement.{statement}
 use Rattle.stored_table.proofs.signals.silent.Tie as tie
-use Rattle.stored_table.proofs.signals.silent.Reads as reads
-use Rattle.stored_table.proofs.signals.silent.Lts as lts
 
--- src/signals.rt:34:20
 element-copy-out-result : tie.Need-element-copy-out-result
 element-copy-out-result c = search needs
 
--- src/signals.rt:34:9
 returns : tie.Need-returns
 returns c = (λ e. absurd (omega (arith, c .before .if1 .taken)), λ _. refl)
 
--- src/signals.rt:30:1
 returns-2 : tie.Need-returns-2
 returns-2 c = (λ _. refl, λ e. absurd (omega (arith, c .if1 .left)))
 
