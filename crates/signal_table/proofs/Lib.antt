@@ -13,3 +13,4 @@ pub mod CheckRight
 pub mod NumberRight
 pub mod TableRight
 pub mod Examples
+pub mod Claims
