@@ -7,9 +7,6 @@ use lib.Dec.{eqb}
 use borrow.Author.Tests.{eq-eqb, ne-eqb}
 use lib.ListN.{length, replicate}
 use native.Mathlib.Omega.{arith}
-use Rattle.resolution.specs.Names.{Parts}
-use Rattle.resolution.specs.Nodes.{nodes, isNode}
-use Rattle.resolution.proofs.Nodes.{urn-node}
 use Rattle.resolution.specs.Table.{Table}
 use Rattle.resolution.proofs.SymbolCount.{few-symbols}
 use Rattle.machine_image.specs.Refusals.{bufferOf, checkOf}
@@ -22,6 +19,7 @@ use Rattle.signal_table.specs.Built.{refused, builtOf, builtFrom, buffer
 use Rattle.signal_table.specs.Listed.{tripleLists, fewer, Listed, SymbolsIn}
 use Rattle.signal_table.specs.States.{nextPair, builtBy, bufferBy}
 use Rattle.signal_table.specs.Checks.{checkBy}
+use Rattle.signal_table.proofs.Claims.{all-used}
 use Rattle.signal_table.proofs.SymbolsRight.{symbols-in}
 use Rattle.signal_table.proofs.BuildRight.{built-right, buffer-right}
 use Rattle.signal_table.proofs.CheckRight.{check-right}
@@ -59,16 +57,10 @@ module _ (t : List ℕ) (r : Decoded) (m : Means t r) where
     all-well : Accepted (tableOf t)
     all-well = accepted t well
 
-    -- each category has a node
-    all-used : (c : ℕ) → c < tableOf t .cats → (p : Parts) × (isNode (nodes (tableOf t)) c p ≡ true)
-    all-used c h =
-        let w = all-well .used c h in
-        (w .2 .path, ap (λ z. isNode (nodes (tableOf t)) z (w .2 .path)) (sym (w .4)) ∙ urn-node (tableOf t) (w .0) (w .2) (w .1) (w .3) (all-well .some-part (w .0) (w .1) (w .2) (w .3)))
-
     pub table-symbols : SymbolsIn (tableOf t) sy count
     table-symbols =
         symbols-in t (r .category) (r .at) (r .len) (r .nodes) (tableOf t) (held .nodes) (r .rows) (r .parent) (r .signals) (held .numbers) sy count
-        (omega (arith, few-symbols (tableOf t) all-used, all-well .few-nodes))
+        (omega (arith, few-symbols (tableOf t) (all-used t well), all-well .few-nodes))
         (subst (λ (k : ℕ). Listed sy count (tripleLists (r .category) (r .parent) (fewer (r .nodes) 64) (fewer k 8))) (held .categories) v)
 
     pub table-built : (room : ℕ) → builtBy (nextPair (r .rows) (r .parent) (r .signals) sy) count room ≡ builtFrom t room

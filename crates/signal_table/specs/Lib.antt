@@ -2,3 +2,4 @@ pub mod Built
 pub mod Listed
 pub mod States
 pub mod Checks
+pub mod Claims

@@ -1,0 +1,33 @@
+-- What holds of every build and of every image that the checker accepts.
+use Prim.Native.Nat.{ℕ, _-_, _≤_}
+use mathlib.Core.Path.{_≡_}
+use mathlib.Core.Bool.{true}
+use mathlib.Core.List.{List, _++_}
+use lib.ListN.{length, replicate}
+use Rattle.resolution.specs.Machine.{Accepted}
+use Rattle.stored_table.specs.Tables.{tableOf, tableRefusal}
+use Rattle.machine_image.specs.Image.{machineImage, machineIn}
+use Rattle.machine_image.specs.Refusals.{formOf}
+use Rattle.signal_table.specs.Built.{accepted, builtFrom, bufferFrom, checkFrom}
+
+-- of a well-formed table with at most 256 reachable states
+pub record Builds (t : List ℕ) : Type 0 where
+  -- its machine's image is no longer than 33,667 bytes
+  pub short : length (machineImage (tableOf t)) ≤ 33667
+  -- wherever there is room for it the build succeeds, and leaves the image and zeros after it
+  pub built : (room : ℕ) → length (machineImage (tableOf t)) ≤ room → builtFrom t room ≡ accepted (length (machineImage (tableOf t)))
+  pub written : (room : ℕ) → length (machineImage (tableOf t)) ≤ room
+      → bufferFrom t room ≡ machineImage (tableOf t) ++ replicate (room - length (machineImage (tableOf t))) 0
+  -- the checker accepts it
+  pub checked : checkFrom t (machineImage (tableOf t)) ≡ 0
+
+-- of a refused build: its length is 0, and the buffer is all zero
+pub record RefusedBuild (t : List ℕ) (room : ℕ) : Type 0 where
+  pub no-length : builtFrom t room .len ≡ 0
+  pub cleared : bufferFrom t room ≡ replicate room 0
+
+-- the table is well-formed, and the image's form, its start and every row of every state are right for it
+pub record RightImage (t im : List ℕ) : Type 0 where
+  pub well-formed : tableRefusal t ≡ 0
+  pub form : formOf (tableOf t) im ≡ true
+  pub right : Accepted (tableOf t) (machineIn (tableOf t) im)
