@@ -148,12 +148,13 @@ module _ (t : List ℕ) (ok : tableRefusal t ≡ 0) where
   unfolding builtFrom bufferFrom
   builds few room h =
       let b = build-fits (tableOf t) room (few-found (tableOf t) few) h in
-      simp (eq-eqb (tableRefusal t) 0 ok)
-      (b .0,
-      ap₂ (λ n l. checkFrom t (take n l)) (b .1) (b .2)
-      ∙ ap (checkFrom t) (take-at (machineImage (tableOf t)) (replicate (room - length (machineImage (tableOf t))) 0) (length (machineImage (tableOf t))) refl)
-      ∙ check-image (machineImage (tableOf t))
-      ∙ reachable-accepted (tableOf t) (accepted t ok .well) few)
+      simp (eq-eqb (tableRefusal t) 0 ok) (
+        b .0,
+        ap₂ (λ n l. checkFrom t (take n l)) (b .1) (b .2)
+            ∙ ap (checkFrom t) (take-at (machineImage (tableOf t)) (replicate (room - length (machineImage (tableOf t))) 0) (length (machineImage (tableOf t))) refl)
+            ∙ check-image (machineImage (tableOf t))
+            ∙ reachable-accepted (tableOf t) (accepted t ok .well) few,
+      )
 
 pub demand-three : DemandThree
 demand-three t ok few = record { builds = builds t ok few; walks = walk-claim t ok; alike = alike t ok; answers = answers t ok }

@@ -20,7 +20,7 @@ use Rattle.alert_urn.proofs.Fields.{byTest, fields-first}
 use Rattle.node_step.specs.Arrays.{NamesIn, NodesIn}
 use Rattle.node_step.specs.Uses.{usedUrn, useOf}
 use Rattle.node_step.specs.declared.uses.Use.{Use}
-use Rattle.node_step.specs.declared.uses.Use.the-variants.{Skipped} 
+use Rattle.node_step.specs.declared.uses.Use.the-variants.{Skipped}
 use Rattle.node_step.proofs.UseRight.{uses-right}
 use Rattle.stored_table.specs.Tables.{tableOf, categoryNames}
 use Rattle.stored_table.specs.Decoded.{Holds}

@@ -41,4 +41,4 @@ module _ (t : List ℕ) (d : Decoded) (h : Holds t (tableOf t) d) (m : Machine) 
   plain-right v short formed =
       ap (λ (x : State). resolvedFrom t d m (Direct x) v) (sym (coded-start (tableOf t .cats)))
       ∙ resolved-right t (tableOf t) d h m v short formed (Valid (envOf (tableOf t)) (tableOf t .cats) (nodes (tableOf t))) (step (envOf (tableOf t))) shown
-          direct-steps (start (tableOf t .cats)) (valid-start (tableOf t) (h .well-formed)) (λ st. st .signal) (λ st. refl)
+      direct-steps (start (tableOf t .cats)) (valid-start (tableOf t) (h .well-formed)) (λ st. st .signal) (λ st. refl)

@@ -56,7 +56,15 @@ fn moved_by(
 }
 
 // One URI more.
-fn taken(t: &[u8], d: Decoded, symbols: &[u8; 384], count: usize, image: &[u8], p: Progress, uri: &[u8]) -> Progress
+fn taken(
+    t: &[u8],
+    d: Decoded,
+    symbols: &[u8; 384],
+    count: usize,
+    image: &[u8],
+    p: Progress,
+    uri: &[u8],
+) -> Progress
     requires { ⌜ p .used + p .skipped ≤ 4096 ⌝ }
     ensures { λ r. ⌜ r ≡ after (now (t .entry)) d (record { symbols = now (symbols .entry); count = count; image = now (image .entry) }) p (now (uri .entry)) ⌝ }
 {
@@ -125,10 +133,16 @@ pub fn run(
                 let start = span.start;
                 let end = start + span.len;
                 p = taken(t, d, symbols, count, image, p, &v[start..end]);
-                return Outcome { fits: true, progress: p };
+                return Outcome {
+                    fits: true,
+                    progress: p,
+                };
             }
             Found::None => {
-                return Outcome { fits: false, progress: from };
+                return Outcome {
+                    fits: false,
+                    progress: from,
+                };
             }
         }
     }
