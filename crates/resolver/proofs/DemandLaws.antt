@@ -8,26 +8,25 @@ use mathlib.Core.Logic.{_⊎_, inl, inr}
 use lib.Dec.{eqb}
 use lib.ListN.{length, take, replicate}
 use lib.Seq.{take-at}
-use borrow.Author.Tests.{eq-eqb, ne-eqb, eqb-true, eqb-false}
+use borrow.Author.Tests.{eq-eqb}
 use native.Mathlib.Omega.{arith}
 use Rattle.alert_info.specs.Value.{refusalOf, urisOf}
-use Rattle.alert_urn.proofs.Fields.{byTest}
 use Rattle.resolution.specs.Names.{Name}
 use Rattle.resolution.specs.Table.{Urn, Table, WellFormed, mostParts}
 use Rattle.resolution.specs.Direct.{Used, AllUsed, usedOf, stepUri, changed, changes}
 use Rattle.resolution.specs.Build.{ReachableOver}
 use Rattle.node_step.specs.Uses.{usedUrn}
 use Rattle.machine_image.specs.Image.{signalIn, machineImage}
-use Rattle.machine_image.specs.Refusals.{buildRefusal, buildLength}
 use Rattle.machine_image.specs.Refusals as image
 use Rattle.machine_image.specs.Walk.{stepIn, walkSignal}
 use Rattle.machine_image.specs.Claim.{ImageClaim}
-use Rattle.machine_image.proofs.Build.{few-found, reachable-accepted, build-fits}
 use Rattle.machine_image.proofs.Check.{check-to}
 use Rattle.machine_image.proofs.Walk.{image-claim}
 use Rattle.stored_table.specs.Tables.{tableRefusal, tableOf, categoryNames}
 use Rattle.stored_table.proofs.Accepting.{accepted}
-use Rattle.signal_table.specs.Built.{refused as without, builtOf, builtFrom, bufferFrom, checkFrom}
+use Rattle.signal_table.specs.Built.{builtFrom, bufferFrom, checkFrom}
+use Rattle.signal_table.specs.declared.write.Built.{Built}
+use Rattle.signal_table.proofs.Claims.{builds as every-build, refused-build}
 use Rattle.resolver.specs.declared.Resolution.{Resolution}
 use Rattle.resolver.specs.Resolve.{takenAs, directSignal, walkedSignal, refused, answered, unlessRefused, plainOf, machineOf}
 use Rattle.resolver.specs.Demands.{Demand1, WalkClaim, Demand3, DemandOne, DemandThree}
@@ -61,16 +60,7 @@ machine-refused t im v = by-number t v _ (go (image.formOf (tableOf t) im))
     go false n = refl
 
 build-refused : (t : List ℕ) (room : ℕ) → (builtFrom t room .refusal ≡ 0 → ⊥) → (builtFrom t room .len ≡ 0) × (bufferFrom t room ≡ replicate room 0)
-unfolding builtFrom bufferFrom buildLength image.bufferOf
-build-refused t room = go (eqb (tableRefusal t) 0)
-  where
-    T : Table
-    T = tableOf t
-
-    go : (b : Bool) → (cond b (builtOf T room) (without (tableRefusal t)) .refusal ≡ 0 → ⊥)
-        → (cond b (builtOf T room) (without (tableRefusal t)) .len ≡ 0) × (cond b (image.bufferOf T room) (replicate room 0) ≡ replicate room 0)
-    go true n = let z : eqb (buildRefusal T room) 0 ≡ false = ne-eqb (buildRefusal T room) 0 n in (simp z, simp z)
-    go false n = (refl, refl)
+build-refused t room n = let r = refused-build t room n in (r .no-length, r .cleared)
 
 pub demand-one : DemandOne
 demand-one t = record { plain-refused = plain-refused t; machine-refused = machine-refused t; build-refused = build-refused t }
@@ -145,16 +135,12 @@ module _ (t : List ℕ) (ok : tableRefusal t ≡ 0) where
 
   builds : (ReachableOver (tableOf t) 256 → ⊥) → (room : ℕ) → length (machineImage (tableOf t)) ≤ room
       → (builtFrom t room .refusal ≡ 0) × (checkFrom t (take (builtFrom t room .len) (bufferFrom t room)) ≡ 0)
-  unfolding builtFrom bufferFrom
   builds few room h =
-      let b = build-fits (tableOf t) room (few-found (tableOf t) few) h in
-      simp (eq-eqb (tableRefusal t) 0 ok) (
-        b .0,
-        ap₂ (λ n l. checkFrom t (take n l)) (b .1) (b .2)
-            ∙ ap (checkFrom t) (take-at (machineImage (tableOf t)) (replicate (room - length (machineImage (tableOf t))) 0) (length (machineImage (tableOf t))) refl)
-            ∙ check-image (machineImage (tableOf t))
-            ∙ reachable-accepted (tableOf t) (accepted t ok .well) few,
-      )
+      let b = every-build t ok few in
+      (ap (λ (x : Built). x .refusal) (b .built room h),
+      ap₂ (λ n l. checkFrom t (take n l)) (ap (λ (x : Built). x .len) (b .built room h)) (b .written room h)
+      ∙ ap (checkFrom t) (take-at (machineImage (tableOf t)) (replicate (room - length (machineImage (tableOf t))) 0) (length (machineImage (tableOf t))) refl)
+      ∙ b .checked)
 
 pub demand-three : DemandThree
 demand-three t ok few = record { builds = builds t ok few; walks = walk-claim t ok; alike = alike t ok; answers = answers t ok }

@@ -14,7 +14,7 @@ ghost use Rattle.resolver.specs.Resolve.{refused as refusedWith};
 ghost use Rattle.resolver.specs.Run.{signalNow, answerOf, resolvedFrom};
 
 // A refused resolution has signal 0 and counts 0.
-pub fn refused(k: u8) -> Resolution
+pub(crate) fn refused(k: u8) -> Resolution
     ensures { λ r. ⌜ r ≡ refusedWith k ⌝ }
 {
     Resolution {
@@ -26,7 +26,7 @@ pub fn refused(k: u8) -> Resolution
 }
 
 // The value's number if it is refused, else this one.
-pub fn value_first(v: &[u8], k: u8) -> Resolution
+pub(crate) fn value_first(v: &[u8], k: u8) -> Resolution
     ensures { λ r. ⌜ r ≡ refusedWith (cond (eqb (refusalOf (now (v .entry))) 0) k (refusalOf (now (v .entry)))) ⌝ }
 {
     let n = alert_info::refusal(v);
@@ -68,7 +68,7 @@ fn answer(o: Outcome, signal: u8) -> Resolution
 }
 
 // A whole value, from where a resolver begins.
-pub fn resolved(
+pub(crate) fn resolved(
     t: &[u8],
     d: Decoded,
     symbols: &[u8; 384],

@@ -104,7 +104,7 @@ fn taken(
 }
 
 // From entry to entry through the value.
-pub fn run(
+pub(crate) fn run(
     t: &[u8],
     d: Decoded,
     symbols: &[u8; 384],

@@ -9,7 +9,7 @@ ghost use lib.ListN.{length, set};
 ghost use Rattle.resolution.specs.Lists.{addBy, indexBy};
 ghost use Rattle.signal_table.specs.States.{nextPair, numberIn, Kept, longer, Turned, TurnedAt, Discovered};
 
-pub fn wide(x: u8) -> usize
+pub(crate) fn wide(x: u8) -> usize
     ensures { λ r. ⌜ (r ≡ x) × (r < 256) ⌝ }
 {
     x as usize
@@ -22,7 +22,7 @@ fn wide16(x: u16) -> usize
 }
 
 // The state after symbol k.
-pub fn next_pair<'a>(
+pub(crate) fn next_pair<'a>(
     rows: &'a [u64; 32],
     parents: &'a [u8; 64],
     signals: usize,
@@ -190,7 +190,7 @@ fn turn_at<'a>(
 }
 
 // How many states there are, or 257 if over 256; their rows at the front of the part, if it has room for them.
-pub fn discover<'a>(
+pub(crate) fn discover<'a>(
     rows: &'a [u64; 32],
     parents: &'a [u8; 64],
     signals: usize,

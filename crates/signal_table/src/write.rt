@@ -24,7 +24,7 @@ fn clear(part: &mut [u8])
 }
 
 // The buffer all zero, and the number.
-pub fn refuse(buf: &mut [u8], refusal: u8) -> Built
+pub(crate) fn refuse(buf: &mut [u8], refusal: u8) -> Built
     ensures { λ r. ⌜ r ≡ refused refusal ⌝ }
     ensures { λ _. ⌜ now (buf .exit) ≡ replicate (length (now (buf .entry))) 0 ⌝ }
 {
@@ -59,7 +59,7 @@ fn at_most(n: usize, m: usize) -> usize
 }
 
 // The machine of a table whose places, parents and symbols these are.
-pub fn build_by<'a>(
+pub(crate) fn build_by<'a>(
     rows: &'a [u64; 32],
     parents: &'a [u8; 64],
     signals: usize,

@@ -28,7 +28,7 @@ fn name_index(t: &[u8], s: &[u8], n: usize, at: &[u16; 8], len: &[u8; 8]) -> usi
 }
 
 // No category is listed twice.
-pub fn names_distinct(t: &[u8], n: usize, at: &[u16; 8], len: &[u8; 8]) -> bool
+pub(crate) fn names_distinct(t: &[u8], n: usize, at: &[u16; 8], len: &[u8; 8]) -> bool
     requires { ⌜ n ≤ 8 ⌝ }
     ensures { λ r. ⌜ r ≡ noTwo sameName (tabulate (stretch (now (t .entry)) (now (at .entry)) (now (len .entry))) n) ⌝ }
 {
@@ -53,7 +53,7 @@ fn path_start(n: usize, k: usize) -> usize
 }
 
 // The category and the path of every URN, as far as its category is listed.
-pub fn index_urns(
+pub(crate) fn index_urns(
     t: &[u8],
     n: usize,
     name_at: &[u16; 8],
@@ -107,7 +107,7 @@ fn has_category(category: &[u8; 256], m: usize, c: usize) -> bool
 }
 
 // Every one of n categories has a URN.
-pub fn all_used(category: &[u8; 256], m: usize, n: usize) -> bool
+pub(crate) fn all_used(category: &[u8; 256], m: usize, n: usize) -> bool
     requires { ⌜ m ≤ 256 ⌝ }
     ensures { λ r. ⌜ r ≡ all (λ c. any (λ x. eqb x c) (tabulate (λ j. getD (now (category .entry)) j 0) m)) (tabulate (λ c. c) n) ⌝ }
 {

@@ -8,7 +8,7 @@ ghost use Rattle.alert_urn.specs.Urn.{urnOk};
 ghost use Rattle.node_step.specs.Arrays.{stretch};
 
 // The name of category i.
-pub fn name_text<'a>(t: &'a [u8], at: &[u16; 8], len: &[u8; 8], i: usize) -> &'a [u8]
+pub(crate) fn name_text<'a>(t: &'a [u8], at: &[u16; 8], len: &[u8; 8], i: usize) -> &'a [u8]
     requires { ⌜ i < 8 ⌝ }
     ensures { λ r. ⌜ now r ≡ stretch (now (t .entry)) (now (at .entry)) (now (len .entry)) i ⌝ }
 {
@@ -18,7 +18,7 @@ pub fn name_text<'a>(t: &'a [u8], at: &[u16; 8], len: &[u8; 8], i: usize) -> &'a
 }
 
 // The i-th URN, or its path.
-pub fn urn_text<'a>(t: &'a [u8], at: &[u16; 256], len: &[u8; 256], i: usize) -> &'a [u8]
+pub(crate) fn urn_text<'a>(t: &'a [u8], at: &[u16; 256], len: &[u8; 256], i: usize) -> &'a [u8]
     requires { ⌜ i < 256 ⌝ }
     ensures { λ r. ⌜ now r ≡ stretch (now (t .entry)) (now (at .entry)) (now (len .entry)) i ⌝ }
     ensures short { λ r. ⌜ length (now r) ≤ 255 ⌝ }
@@ -29,7 +29,7 @@ pub fn urn_text<'a>(t: &'a [u8], at: &[u16; 256], len: &[u8; 256], i: usize) -> 
 }
 
 // Every category name has its form.
-pub fn names_formed(t: &[u8], n: usize, at: &[u16; 8], len: &[u8; 8]) -> bool
+pub(crate) fn names_formed(t: &[u8], n: usize, at: &[u16; 8], len: &[u8; 8]) -> bool
     requires { ⌜ n ≤ 8 ⌝ }
     ensures { λ r. ⌜ r ≡ all nameOk (tabulate (stretch (now (t .entry)) (now (at .entry)) (now (len .entry))) n) ⌝ }
 {
@@ -45,7 +45,7 @@ pub fn names_formed(t: &[u8], n: usize, at: &[u16; 8], len: &[u8; 8]) -> bool
 }
 
 // Every URN has its form.
-pub fn urns_formed(t: &[u8], m: usize, at: &[u16; 256], len: &[u8; 256]) -> bool
+pub(crate) fn urns_formed(t: &[u8], m: usize, at: &[u16; 256], len: &[u8; 256]) -> bool
     requires { ⌜ m ≤ 256 ⌝ }
     ensures { λ r. ⌜ r ≡ all urnOk (tabulate (stretch (now (t .entry)) (now (at .entry)) (now (len .entry))) m) ⌝ }
 {

@@ -160,7 +160,7 @@ fn add_urn(
 }
 
 // The nodes of all URNs, and each URN's node; 65 if there are more than 64.
-pub fn add_all(
+pub(crate) fn add_all(
     t: &[u8],
     m: usize,
     category: &[u8; 256],

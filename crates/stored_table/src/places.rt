@@ -39,7 +39,7 @@ fn row_at(slots: &[u16; 256], node: &[u8; 256], k: usize) -> u64
 }
 
 // The places of n signals.
-pub fn fill_rows(n: usize, slots: &[u16; 256], node: &[u8; 256], rows: &mut [u64; 32])
+pub(crate) fn fill_rows(n: usize, slots: &[u16; 256], node: &[u8; 256], rows: &mut [u64; 32])
     requires { ⌜ (n ≤ 32) × (length (now rows) ≡ 32) × ((j : ℕ) → getD (now slots) j 0 ≤ 256) ⌝ }
     ensures { λ _. ⌜ ((s : ℕ) → s < n → getD (now (rows .exit)) s 0 ≡ packedFrom (placeNumber (now (slots .entry)) (now (node .entry))) (8 * s) 8) ⌝ }
 {
@@ -68,7 +68,7 @@ fn row_again(rows: &[u64; 32], i: usize) -> bool
 }
 
 // No two of n rows are the same.
-pub fn rows_distinct(n: usize, rows: &[u64; 32]) -> bool
+pub(crate) fn rows_distinct(n: usize, rows: &[u64; 32]) -> bool
     requires { ⌜ n ≤ 32 ⌝ }
     ensures { λ r. ⌜ r ≡ noTwo eqb (tabulate (λ s. getD (now (rows .entry)) s 0) n) ⌝ }
 {
@@ -147,7 +147,7 @@ fn places_again(
 }
 
 // No two of `count` signals have the same places, by their texts.
-pub fn texts_distinct(
+pub(crate) fn texts_distinct(
     t: &[u8],
     count: usize,
     n: usize,

@@ -14,26 +14,26 @@ pub enum Reading {
     Got(usize, usize),
 }
 
-pub fn wide(b: u8) -> usize
+pub(crate) fn wide(b: u8) -> usize
     ensures { λ r. ⌜ (r ≡ b) × (r < 256) ⌝ }
 {
     b as usize
 }
 
-pub fn wider(x: u16) -> usize
+pub(crate) fn wider(x: u16) -> usize
     ensures { λ r. ⌜ (r ≡ x) × (r < 65536) ⌝ }
 {
     x as usize
 }
 
-pub fn small(x: usize) -> u8
+pub(crate) fn small(x: usize) -> u8
     requires { ⌜ x < 256 ⌝ }
     ensures { λ r. ⌜ r ≡ x ⌝ }
 {
     x as u8
 }
 
-pub fn short(x: usize) -> u16
+pub(crate) fn short(x: usize) -> u16
     requires { ⌜ x < 65536 ⌝ }
     ensures { λ r. ⌜ r ≡ x ⌝ }
 {
@@ -270,7 +270,7 @@ fn read_categories(t: &[u8], at: &mut [u16; 8], len: &mut [u8; 8]) -> Reading
 }
 
 // The whole table: both sections, and nothing after them.
-pub fn read_table(
+pub(crate) fn read_table(
     t: &[u8],
     name_at: &mut [u16; 8],
     name_len: &mut [u8; 8],

@@ -8,7 +8,7 @@ ghost use Rattle.stored_table.specs.Tables.{noTwo};
 ghost use Rattle.stored_table.specs.Held.{keyAt, sameKey, slotIn};
 
 // One more than the number of the URN of a signal and category, at 8 * signal + category; false if a signal has two of one.
-pub fn fill_slots(
+pub(crate) fn fill_slots(
     m: usize,
     signal: &[u8; 256],
     category: &[u8; 256],
@@ -35,7 +35,7 @@ pub fn fill_slots(
 }
 
 // The first URN, if there is one, is not of signal 0.
-pub fn silent(m: usize, signal: &[u8; 256]) -> bool
+pub(crate) fn silent(m: usize, signal: &[u8; 256]) -> bool
     ensures { λ r. ⌜ (m ≡ 0 → r ≡ true) × (0 < m → r ≡ ltb 0 (getD (now (signal .entry)) 0 0)) ⌝ }
 {
     if 0 < m {
