@@ -1,16 +1,10 @@
-// Picks a ring from the command line: the libraries' answers, in plain words.
+// Picks a ring from the command line: the libraries' answers, in plain words. Files are read up to 65,536 bytes, more
+// than the libraries take, so that a longer one is refused by its number.
 mod files;
 mod words;
 
 use libc::STDERR_FILENO;
 use libc::STDOUT_FILENO;
-
-// Each file is read up to one byte more than the library takes, so a longer one is refused by its number.
-const VALUE: usize = 4097;
-
-const TABLE: usize = 8193;
-
-const MACHINE: usize = 33668;
 
 fn usage() {
     io::write_all(STDERR_FILENO, b"usage: alertinfo entries VALUE\n");
@@ -40,7 +34,7 @@ fn list(v: &[u8]) {
 }
 
 fn entries() {
-    let mut value = [0u8; VALUE];
+    let mut value = io::large_buffer();
     let v = files::value(2, &mut value);
     if !v.ok {
         return;
@@ -55,13 +49,13 @@ fn entries() {
 }
 
 fn build() {
-    let mut table = [0u8; TABLE];
+    let mut table = io::large_buffer();
     let t = files::file(2, &mut table);
     if !t.ok {
         return;
     }
     let n = t.n;
-    let mut image = [0u8; MACHINE];
+    let mut image = io::large_buffer();
     let b = signal_table::build(&table[..n], &mut image);
     if b.refusal != 0 {
         words::refused(b.refusal);
@@ -73,13 +67,13 @@ fn build() {
 }
 
 fn check() {
-    let mut table = [0u8; TABLE];
+    let mut table = io::large_buffer();
     let t = files::file(2, &mut table);
     if !t.ok {
         return;
     }
     let n = t.n;
-    let mut image = [0u8; MACHINE];
+    let mut image = io::large_buffer();
     let m = files::file(3, &mut image);
     if !m.ok {
         return;
@@ -105,7 +99,7 @@ fn answer(r: resolver::Resolution) {
 }
 
 fn follow(t: &[u8], v: &[u8]) {
-    let mut image = [0u8; MACHINE];
+    let mut image = io::large_buffer();
     let m = files::file(4, &mut image);
     if !m.ok {
         return;
@@ -115,13 +109,13 @@ fn follow(t: &[u8], v: &[u8]) {
 }
 
 fn resolve(by_machine: bool) {
-    let mut table = [0u8; TABLE];
+    let mut table = io::large_buffer();
     let t = files::file(2, &mut table);
     if !t.ok {
         return;
     }
     let n = t.n;
-    let mut value = [0u8; VALUE];
+    let mut value = io::large_buffer();
     let v = files::value(3, &mut value);
     if !v.ok {
         return;
