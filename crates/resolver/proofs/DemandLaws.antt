@@ -8,9 +8,10 @@ use mathlib.Core.Logic.{_⊎_, inl, inr}
 use lib.Dec.{eqb}
 use lib.ListN.{length, take, replicate}
 use lib.Seq.{take-at}
-use borrow.Author.Tests.{eq-eqb}
+use borrow.Author.Tests.{eq-eqb, eqb-false}
 use native.Mathlib.Omega.{arith}
 use Rattle.alert_info.specs.Value.{refusalOf, urisOf}
+use Rattle.alert_info.proofs.Agree.{refused-exactly}
 use Rattle.resolution.specs.Names.{Name}
 use Rattle.resolution.specs.Table.{Urn, Table, WellFormed, mostParts}
 use Rattle.resolution.specs.Direct.{Used, AllUsed, usedOf, stepUri, changed, changes}
@@ -24,12 +25,12 @@ use Rattle.machine_image.proofs.Check.{check-to}
 use Rattle.machine_image.proofs.Walk.{image-claim}
 use Rattle.stored_table.specs.Tables.{tableRefusal, tableOf, categoryNames}
 use Rattle.stored_table.proofs.Accepting.{accepted}
-use Rattle.signal_table.specs.Built.{builtFrom, bufferFrom, checkFrom}
+use Rattle.signal_table.specs.Built.{refused as without, builtOf, builtFrom, bufferFrom, checkFrom}
 use Rattle.signal_table.specs.declared.write.Built.{Built}
-use Rattle.signal_table.proofs.Claims.{builds as every-build, refused-build}
+use Rattle.signal_table.proofs.Claims.{builds as every-build, refused-build, check-to-right, right-to-check}
 use Rattle.resolver.specs.declared.Resolution.{Resolution}
 use Rattle.resolver.specs.Resolve.{takenAs, directSignal, walkedSignal, refused, answered, unlessRefused, plainOf, machineOf}
-use Rattle.resolver.specs.Demands.{Demand1, WalkClaim, Demand3, DemandOne, DemandThree}
+use Rattle.resolver.specs.Demands.{Demand1, Demand2, WalkClaim, Demand3, DemandOne, DemandTwo, DemandThree}
 use Rattle.resolver.proofs.TableLaws.{names-count}
 use Rattle.resolver.proofs.FoldLaws.{used-urn}
 
@@ -64,6 +65,31 @@ build-refused t room n = let r = refused-build t room n in (r .no-length, r .cle
 
 pub demand-one : DemandOne
 demand-one t = record { plain-refused = plain-refused t; machine-refused = machine-refused t; build-refused = build-refused t }
+
+plain-signal : (t v : List ℕ) → refusalOf v ≡ 0 → tableRefusal t ≡ 0 → plainOf t v .signal ≡ directSignal t (urisOf v)
+unfolding plainOf
+plain-signal t v e z = simp (eq-eqb (refusalOf v) 0 e, eq-eqb (tableRefusal t) 0 z)
+
+image-written : (t : List ℕ) (room : ℕ) → builtFrom t room .refusal ≡ 0 → take (builtFrom t room .len) (bufferFrom t room) ≡ machineImage (tableOf t)
+unfolding builtFrom bufferFrom image.buildLength image.bufferOf
+image-written t room = go (eqb (tableRefusal t) 0) refl
+  where
+    T : Table
+    T = tableOf t
+
+    go : (b : Bool) → eqb (tableRefusal t) 0 ≡ b → cond b (builtOf T room) (without (tableRefusal t)) .refusal ≡ 0
+        → take (cond b (builtOf T room) (without (tableRefusal t)) .len) (cond b (image.bufferOf T room) (replicate room 0)) ≡ machineImage T
+    go true q z = simp (eq-eqb (image.buildRefusal T room) 0 z) (take-at (machineImage T) (replicate (room - length (machineImage T)) 0) (length (machineImage T)) refl)
+    go false q z = absurd (eqb-false (tableRefusal t) 0 q z)
+
+pub demand-two : DemandTwo
+demand-two t =
+    record {
+      values = refused-exactly;
+      plain-signal = plain-signal t;
+      image-written = image-written t;
+      checked = λ im. (check-to-right t im, right-to-check t im);
+    }
 
 -- a list of URIs cut in two
 taken-append : (t : List ℕ) (a b : List (List ℕ)) → takenAs t (a ++ b) ≡ takenAs t a ++ takenAs t b

@@ -1,10 +1,12 @@
 -- The three demands on the whole software, as claims.
 use Prim.Native.Nat.{ℕ, _≤_}
 use mathlib.Core.Path.{_≡_}
+use mathlib.Core.Logic.{_↔_}
 use mathlib.Core.Bool.{cond}
 use mathlib.Core.List.{List, _++_}
 use lib.Dec.{eqb}
 use lib.ListN.{length, take, replicate}
+use Rattle.alert_info.specs.Claims.{RefusedExactly}
 use Rattle.alert_info.specs.Value.{refusalOf, urisOf}
 use Rattle.resolution.specs.Names.{Parts}
 use Rattle.resolution.specs.Table.{mostParts}
@@ -16,6 +18,7 @@ use Rattle.machine_image.specs.Image.{signalIn, machineImage}
 use Rattle.machine_image.specs.Walk.{stepIn}
 use Rattle.stored_table.specs.Tables.{tableRefusal, tableOf, categoryNames}
 use Rattle.signal_table.specs.Built.{builtFrom, bufferFrom, checkFrom}
+use Rattle.signal_table.specs.Claims.{RightImage}
 use Rattle.resolver.specs.Resolve.{takenAs, directSignal, walkedSignal, refused, plainOf, machineOf}
 
 -- Demand 1: bad input is refused by a number, and nothing else comes of it. That every function answers for all bytes, with no
@@ -26,6 +29,17 @@ pub record Demand1 (t : List ℕ) : Type 0 where
   pub machine-refused : (im v : List ℕ) → (machineOf t im v .refusal ≡ 0 → ⊥) → machineOf t im v ≡ refused (machineOf t im v .refusal)
   -- a refused build leaves the whole buffer zero, whatever its length
   pub build-refused : (room : ℕ) → (builtFrom t room .refusal ≡ 0 → ⊥) → (builtFrom t room .len ≡ 0) × (bufferFrom t room ≡ replicate room 0)
+
+-- Demand 2: exactly
+pub record Demand2 (t : List ℕ) : Type 0 where
+  -- a value's number is the one that the grammar and the limits give it, both ways; 0 is accepted
+  pub values : RefusedExactly
+  -- the plain resolver gives direct resolution's signal
+  pub plain-signal : (v : List ℕ) → refusalOf v ≡ 0 → tableRefusal t ≡ 0 → plainOf t v .signal ≡ directSignal t (urisOf v)
+  -- wherever the build succeeds, it has written the machine of the table
+  pub image-written : (room : ℕ) → builtFrom t room .refusal ≡ 0 → take (builtFrom t room .len) (bufferFrom t room) ≡ machineImage (tableOf t)
+  -- the checker accepts exactly the right machines
+  pub checked : (im : List ℕ) → checkFrom t im ≡ 0 ↔ RightImage t im
 
 -- the walk of an image over a list of URIs as bytes, used and skipped, at the point between before and after
 pub record WalkClaim (t im : List ℕ) (before after : List (List ℕ)) : Type 0 where
@@ -58,9 +72,12 @@ pub record Demand3 (t : List ℕ) : Type 0 where
         skipped = skippedCount (takenAs t (urisOf v));
       }
 
--- what is proved: demand 1 for all bytes, demand 3 for every well-formed table with at most 256 reachable states
+-- what is proved: demands 1 and 2 for all bytes, demand 3 for every well-formed table with at most 256 reachable states
 abbrev pub DemandOne : Type 0
 DemandOne = (t : List ℕ) → Demand1 t
+
+abbrev pub DemandTwo : Type 0
+DemandTwo = (t : List ℕ) → Demand2 t
 
 abbrev pub DemandThree : Type 0
 DemandThree = (t : List ℕ) → tableRefusal t ≡ 0 → (ReachableOver (tableOf t) 256 → ⊥) → Demand3 t

@@ -1,4 +1,11 @@
-// Both resolvers of an Alert-Info value: which signal of a table it asks for.
+// Both resolvers: which signal of a table an Alert-Info value asks for.
+//
+// In: a value, a table and an image, each any bytes. Out: a refusal number, or the signal with the numbers of used and
+// skipped entries.
+//
+//   run.rt      going through a value from entry to entry
+//   answer.rt   the answer at its end
+//   c.rt        both resolvers for C
 mod answer;
 mod c;
 mod run;

@@ -1,10 +1,11 @@
-// The same for C.
+// The same for C: a table, an image and a buffer are each a pointer and a length.
 use crate::write::Built;
 ghost use mathlib.Core.Path.{_≡_};
 ghost use lib.ListN.{length};
 ghost use Rattle.stored_table.specs.Tables.{tableRefusal};
 ghost use Rattle.signal_table.specs.Built.{builtFrom, bufferFrom, checkFrom};
 
+// uint8_t signal_table_refusal(const uint8_t *table, size_t len);
 #[no_mangle]
 pub extern "C" fn signal_table_refusal(table: &[u8]) -> u8
     ensures { λ r. ⌜ r ≡ tableRefusal (now (table .entry)) ⌝ }
@@ -12,6 +13,8 @@ pub extern "C" fn signal_table_refusal(table: &[u8]) -> u8
     crate::refusal(table)
 }
 
+// typedef struct { uint8_t refusal; size_t len; } machine_built;
+// machine_built machine_build(const uint8_t *table, size_t len, uint8_t *buf, size_t room);
 #[no_mangle]
 pub extern "C" fn machine_build(table: &[u8], buf: &mut [u8]) -> Built
     ensures { λ r. ⌜ r ≡ builtFrom (now (table .entry)) (length (now (buf .entry))) ⌝ }
@@ -20,6 +23,7 @@ pub extern "C" fn machine_build(table: &[u8], buf: &mut [u8]) -> Built
     crate::build(table, buf)
 }
 
+// uint8_t machine_check(const uint8_t *table, size_t len, const uint8_t *image, size_t image_len);
 #[no_mangle]
 pub extern "C" fn machine_check(table: &[u8], image: &[u8]) -> u8
     ensures { λ r. ⌜ r ≡ checkFrom (now (table .entry)) (now (image .entry)) ⌝ }
