@@ -162,11 +162,12 @@ module _ (t : List ℕ) (ok : tableRefusal t ≡ 0) where
   builds : (ReachableOver (tableOf t) 256 → ⊥) → (room : ℕ) → length (machineImage (tableOf t)) ≤ room
       → (builtFrom t room .refusal ≡ 0) × (checkFrom t (take (builtFrom t room .len) (bufferFrom t room)) ≡ 0)
   builds few room h =
-      let b = every-build t ok few in
-      (ap (λ (x : Built). x .refusal) (b .built room h),
-      ap₂ (λ n l. checkFrom t (take n l)) (ap (λ (x : Built). x .len) (b .built room h)) (b .written room h)
-      ∙ ap (checkFrom t) (take-at (machineImage (tableOf t)) (replicate (room - length (machineImage (tableOf t))) 0) (length (machineImage (tableOf t))) refl)
-      ∙ b .checked)
+      let b = every-build t ok few in (
+        ap (λ (x : Built). x .refusal) (b .built room h),
+        ap₂ (λ n l. checkFrom t (take n l)) (ap (λ (x : Built). x .len) (b .built room h)) (b .written room h)
+            ∙ ap (checkFrom t) (take-at (machineImage (tableOf t)) (replicate (room - length (machineImage (tableOf t))) 0) (length (machineImage (tableOf t))) refl)
+            ∙ b .checked,
+      )
 
 pub demand-three : DemandThree
 demand-three t ok few = record { builds = builds t ok few; walks = walk-claim t ok; alike = alike t ok; answers = answers t ok }
