@@ -61,7 +61,7 @@ module _ (t : List ℕ) (T : Table) (d : Decoded) (h : Holds t T d) (m : Machine
   -- what a run needs of one step: f on the states s of a kind that `shown` shows as the code has them
   pub record Steps {S : Type 0} (valid : S → Type 0) (f : S → Urn → S) (shown : S → Current) : Type 0 where
     pub moves : (s : S) (u : Urn) → valid s → Used T u
-        → moved d m (shown s) (u .cat) (number (nodes T) (u .cat) (deepest (nodes T) (u .cat) (u .path))) (sameParts (deepest (nodes T) (u .cat) (u .path)) (u .path)) ≡ shown (f s u)
+        → moved (d .rows) (d .parent) (d .signals) (d .nodes) m (shown s) (u .cat) (number (nodes T) (u .cat) (deepest (nodes T) (u .cat) (u .path))) (sameParts (deepest (nodes T) (u .cat) (u .path)) (u .path)) ≡ shown (f s u)
     pub stays : (s : S) (u : Urn) → valid s → Used T u → valid (f s u)
 
   module _ {S : Type 0} (valid : S → Type 0) (f : S → Urn → S) (shown : S → Current) (steps : Steps valid f shown) where

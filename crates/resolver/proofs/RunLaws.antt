@@ -20,11 +20,11 @@ use Rattle.signal_table.specs.Listed.{symbolNumber}
 use Rattle.resolver.specs.Run.{Machine, useIn, moved, afterUse, after, over, runOf}
 use Rattle.resolver.specs.declared.run.Outcome.{Outcome}
 
-module _ (d : Decoded) (m : Machine) (now : Current) (c k : ℕ) (w : Bool) where
-  pub moved-direct : {st r : State} → now ≡ Direct st → r ≡ stepNumbers (d .rows) (d .parent) (d .signals) st c k w → Direct r ≡ moved d m now c k w
+module _ (rows parent : List ℕ) (signals nodes : ℕ) (m : Machine) (now : Current) (c k : ℕ) (w : Bool) where
+  pub moved-direct : {st r : State} → now ≡ Direct st → r ≡ stepNumbers rows parent signals st c k w → Direct r ≡ moved rows parent signals nodes m now c k w
   moved-direct e q = rw e (ap Direct q)
 
-  pub moved-walk : {j r n : ℕ} → now ≡ Walk j → n ≡ symbolNumber (m .symbols) (m .count) (d .parent) (d .nodes) c k w → r ≡ targetIn (m .image) j n → Walk r ≡ moved d m now c k w
+  pub moved-walk : {j r n : ℕ} → now ≡ Walk j → n ≡ symbolNumber (m .symbols) (m .count) parent nodes c k w → r ≡ targetIn (m .image) j n → Walk r ≡ moved rows parent signals nodes m now c k w
   moved-walk {j} e f g = rw e (ap Walk (g ∙ ap (targetIn (m .image) j) f))
 
 module _ (t : List ℕ) (d : Decoded) (m : Machine) (p : Progress) (uri : List ℕ) {u : Use} (e : u ≡ useIn t d uri) where
@@ -32,7 +32,7 @@ module _ (t : List ℕ) (d : Decoded) (m : Machine) (p : Progress) (uri : List �
   unfolding after
   after-skipped s = rw (← e, s)
 
-  pub after-used : {c k : ℕ} {w : Bool} {r : Current} → u ≡ Used c k w → r ≡ moved d m (p .current) c k w
+  pub after-used : {c k : ℕ} {w : Bool} {r : Current} → u ≡ Used c k w → r ≡ moved (d .rows) (d .parent) (d .signals) (d .nodes) m (p .current) c k w
       → record { current = r; used = p .used + 1; skipped = p .skipped } ≡ after t d m p uri
   unfolding after
   after-used s q = rw (← e, s) (ap (λ (x : Current). record { current = x; used = p .used + 1; skipped = p .skipped }) q)

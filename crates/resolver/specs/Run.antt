@@ -31,14 +31,14 @@ pub record Machine : Type 0 where
   pub image : List ℕ
 
 -- a used URN takes direct resolution one step on, or the walk to the target that the state's row holds for its symbol
-abbrev pub moved : Decoded → Machine → Current → ℕ → ℕ → Bool → Current
-moved d m (Direct st) c k w = Direct (stepNumbers (d .rows) (d .parent) (d .signals) st c k w)
-moved d m (Walk j) c k w = Walk (targetIn (m .image) j (symbolNumber (m .symbols) (m .count) (d .parent) (d .nodes) c k w))
+abbrev pub moved : List ℕ → List ℕ → ℕ → ℕ → Machine → Current → ℕ → ℕ → Bool → Current
+moved rows parent signals nodes m (Direct st) c k w = Direct (stepNumbers rows parent signals st c k w)
+moved rows parent signals nodes m (Walk j) c k w = Walk (targetIn (m .image) j (symbolNumber (m .symbols) (m .count) parent nodes c k w))
 
 -- one URI more
 abbrev pub afterUse : Decoded → Machine → Progress → Use → Progress
 afterUse d m p Skipped = record { current = p .current; used = p .used; skipped = p .skipped + 1 }
-afterUse d m p (Used c k w) = record { current = moved d m (p .current) c k w; used = p .used + 1; skipped = p .skipped }
+afterUse d m p (Used c k w) = record { current = moved (d .rows) (d .parent) (d .signals) (d .nodes) m (p .current) c k w; used = p .used + 1; skipped = p .skipped }
 
 unfoldable pub after : List ℕ → Decoded → Machine → Progress → List ℕ → Progress
 after t d m p uri = afterUse d m p (useIn t d uri)

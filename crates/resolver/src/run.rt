@@ -29,8 +29,11 @@ pub struct Outcome {
 }
 
 // A used URN takes direct resolution one step on, or the walk to the target that the state's row holds for its symbol.
-fn moved_by(
-    d: Decoded,
+fn moved_by<'a>(
+    rows: &'a [u64; 32],
+    parent: &'a [u8; 64],
+    signals: usize,
+    nodes: usize,
     symbols: &[u8; 384],
     count: usize,
     image: &[u8],
@@ -39,17 +42,18 @@ fn moved_by(
     k: u8,
     w: bool,
 ) -> Current
-    ensures { λ r. ⌜ r ≡ moved d (record { symbols = now (symbols .entry); count = count; image = now (image .entry) }) current c k w ⌝ }
+    ensures { λ r. ⌜
+        r ≡ moved (now (rows .entry)) (now (parent .entry)) signals nodes
+        (record { symbols = now (symbols .entry); count = count; image = now (image .entry) }) current c k w
+        ⌝ }
 {
     match current {
         Current::Direct(st) => {
             let category = c as usize;
-            let n = d.signals;
-            Current::Direct(node_step::step(&d.rows, &d.parent, n, st, category, k, w))
+            Current::Direct(node_step::step(rows, parent, signals, st, category, k, w))
         }
         Current::Walk(j) => {
-            let nodes = d.nodes;
-            let n = signal_table::symbols::number(symbols, count, &d.parent, nodes, c, k, w);
+            let n = signal_table::symbols::number(symbols, count, parent, nodes, c, k, w);
             Current::Walk(signal_table::image::target(image, j, n))
         }
     }
@@ -93,7 +97,20 @@ fn taken(
             node: k,
             whole: w,
         } => {
-            let next = moved_by(d, symbols, count, image, current, c, k, w);
+            let signals = d.signals;
+            let next = moved_by(
+                &d.rows,
+                &d.parent,
+                signals,
+                nodes,
+                symbols,
+                count,
+                image,
+                current,
+                c,
+                k,
+                w,
+            );
             Progress {
                 current: next,
                 used: p.used + 1,

@@ -1,5 +1,5 @@
 //! What the functions are timed on.
-use outside::random::tables::limits;
+use outside::random::tables::{limits, Draft};
 use outside::reference::Reference;
 use outside::{Reader, Tables};
 use std::path::Path;
@@ -13,6 +13,27 @@ pub struct Inputs {
     pub tables: Vec<(String, Bytes, Bytes)>,
     /// For each table, a value that it uses.
     used: Vec<Bytes>,
+    /// Tables that are refused late, after as much comparing as we could think of.
+    pub refused: Vec<(String, Bytes)>,
+}
+
+/// 31 signals with 8 URNs each that are alike but for one letter of the last, and more than 64 nodes: refused with 12
+/// only after every two signals have been compared as texts.
+fn alike(letter: usize) -> Bytes {
+    let urn = |category: u8, signal: u8| {
+        let mut urn = vec![category, b':'];
+        urn.extend([b'x'; 20]);
+        if category == b'h' {
+            urn[2 + letter] = b'A' + signal % 26 + signal / 26 * 32;
+            urn.extend(b":y:z");
+        } else {
+            urn.extend([b'x'; 7]);
+        }
+        urn
+    };
+    let signals = (0..31).map(|signal| (b'a'..=b'h').map(|category| urn(category, signal)).collect());
+    let categories = (b'a'..=b'h').map(|category| vec![category]).collect();
+    Draft { categories, signals: std::iter::once(Vec::new()).chain(signals).collect() }.bytes()
 }
 
 fn example(name: &str) -> Bytes {
@@ -72,7 +93,10 @@ impl Inputs {
             urns(&["category-0:0", "category-7:7"], 32),
             urns(&["c0:p0:p1:p2:p3", "c7:p0:p1:p2:p3:p4:p5:p6:p7"], 32),
         ];
-        Inputs { values, tables, used }
+        let refused = [0, 10, 19]
+            .map(|letter| (format!("7,397 bytes, refused with 12, letter {letter} differs"), alike(letter)))
+            .to_vec();
+        Inputs { values, tables, used, refused }
     }
 
     /// Each table with its machine and a value that it uses.

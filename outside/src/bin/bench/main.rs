@@ -57,7 +57,8 @@ fn reader_rows<'a>(inputs: &'a Inputs, rows: &mut Vec<Row<'a>>) {
 }
 
 fn table_rows<'a>(inputs: &'a Inputs, rows: &mut Vec<Row<'a>>) {
-    for (name, table, _) in &inputs.tables {
+    let well_formed = inputs.tables.iter().map(|(name, table, _)| (name, table));
+    for (name, table) in well_formed.chain(inputs.refused.iter().map(|(name, table)| (name, table))) {
         rows.push(row!("signal_table", "signal_table_refusal", name.clone(), |I, _| {
             I::table_refusal(black_box(table))
         }));
