@@ -116,6 +116,7 @@ fn main() {
         quoted.push(b'a' + (quoted.len() % 26) as u8);
     }
     quoted.push(b'"');
+    let escapes = [b"<a>;x=\"".as_slice(), &b"\\,".repeat(2044), b"\""].concat();
     let mut blank = vec![b' '; 4000];
     blank.extend_from_slice(b"<urn:alert:source:internal>");
     let uri = [b"<".as_slice(), &vec![b'u'; 4094], b">"].concat();
@@ -124,6 +125,7 @@ fn main() {
     kept &= compare("three entries, parameters", three);
     kept &= compare("64 entries, parameters", &long);
     kept &= compare("one long quoted string", &quoted);
+    kept &= compare("only escaped bytes", &escapes);
     kept &= compare("one long URI", &uri);
     kept &= compare("much white space", &blank);
     println!("{}", if kept { "nowhere slower than the plain reader with byte tests" } else { "slower somewhere than the plain reader with byte tests" });

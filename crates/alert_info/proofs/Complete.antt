@@ -4,36 +4,32 @@ use mathlib.Core.Path.{_≡_, refl, sym, ap, _∙_, subst}
 use mathlib.Core.Logic.{_⊎_, ⊎-elim, inl, inr}
 use mathlib.Core.Bool.{Bool, true, false, _||_}
 use mathlib.Core.List.{List, [], _∷_, _++_, map, append-assoc}
-use Prim.Native.Nat.{ℕ, zero, suc, _+_, _-_, _≤_, _<_}
+use Prim.Native.Nat.{ℕ, suc, _+_, _-_, _≤_, _<_}
 use native.Mathlib.Nat.{add-zero, add-sub-cancel-left}
 use native.Mathlib.Omega.{arith}
-use lib.Dec.{T, eqb, leb}
-use lib.ListN.{length, getD, drop, take, length-drop, length-append}
+use lib.Dec.{T, eqb}
+use lib.ListN.{length, getD, drop, take, length-drop}
 use lib.Seq.{drop-drop, drop-append-seam, take-append-seam, getD-drop}
-use borrow.Author.Tests.{eq-eqb, ne-eqb, eqb-true, eqb-false}
+use borrow.Author.Tests.{eqb-true}
 use Rattle.alert_info.specs.Bytes.{isBlank, isUri, isToken, isText, isEscapable}
-use mathlib.Core.Bool.{cond}
 use Rattle.alert_info.specs.Walk.{run, runAt}
-use Rattle.alert_info.specs.Walk.{Move, halt, move, walkAt}
-use Rattle.alert_info.specs.Parts.{blankAt, whiteAt, tokenAt, quoteAt, quotedFrom, quotedAt}
-use Rattle.alert_info.specs.Parts.{settingAt, paramAt, followingAt, followingMove, endingAt, spanTo, found}
+use Rattle.alert_info.specs.Parts.{blankAt, whiteAt, tokenAt, quoteAt, quotedFrom}
+use Rattle.alert_info.specs.Parts.{settingAt, paramAt, followingAt, endingAt, spanTo, found}
 use Rattle.alert_info.specs.Parts.{entryAt}
-use Rattle.alert_info.specs.Value.{Reading, unfit, spans, add, entryMove, readingFrom, readingOf, partOf}
-use Rattle.alert_info.specs.Grammar.{Any, Some, White, Token, Uri, Text, Setting, Param, Params, Entry, Value}
+use Rattle.alert_info.specs.Value.{spans, add, readingFrom, readingOf, partOf}
+use Rattle.alert_info.specs.Grammar.{Any, Some, White, Token, Text, Setting, Param, Params, Entry, Value}
 use Rattle.alert_info.specs.Grammar as G
 use Rattle.alert_info.specs.declared.cursor.Cursor.{Cursor}
-use Rattle.alert_info.specs.declared.cursor.Quote.{Quote}
-use Rattle.alert_info.specs.declared.cursor.Quote.the-variants.{Closed, Escaped, Unclosed}
+use Rattle.alert_info.specs.declared.cursor.Quote.the-variants.{Closed}
 use Rattle.alert_info.specs.declared.cursor.Passed.{Passed}
-use Rattle.alert_info.specs.declared.cursor.Passed.the-variants.{Next, Refused}
+use Rattle.alert_info.specs.declared.cursor.Passed.the-variants.{Next}
 use Rattle.alert_info.specs.declared.alert_param.Span.{Span}
-use Rattle.alert_info.specs.declared.alert_param.Following.{Following}
 use Rattle.alert_info.specs.declared.alert_param.Following.the-variants as following
 use Rattle.alert_info.specs.declared.alert_param.Ending.{Ending}
-use Rattle.alert_info.specs.declared.alert_param.Ending.the-variants.{ValueEnd, NextEntry, NoEnding}
+use Rattle.alert_info.specs.declared.alert_param.Ending.the-variants.{ValueEnd, NextEntry}
 use Rattle.alert_info.specs.declared.alert_param.Found.{Found}
-use Rattle.alert_info.specs.declared.alert_param.Found.the-variants.{Last, More, None}
-use Rattle.alert_info.proofs.QuoteLaws.{opened, quote-closed, quote-escaped, quoted-halt, quoted-more}
+use Rattle.alert_info.specs.declared.alert_param.Found.the-variants.{Last, More}
+use Rattle.alert_info.proofs.QuoteLaws.{opened, quote-closed, quote-here, escape-passed, quoted-halt, quoted-more}
 use Rattle.alert_info.proofs.QuoteLaws.{quoted-text}
 use Rattle.alert_info.proofs.RunLaws.{run-stop}
 use Rattle.alert_info.proofs.PartLaws.{token-some, setting-quoted, setting-token, param-bare, param-set}
@@ -136,13 +132,10 @@ module _ (s : List ℕ) (r : List ℕ) where
       (n .0, n .1 ∙ sym (quoted-text s at (front-in s at b (l ++ (34 ∷ r)) e) f), n .2)
   text-to (G.escaped {b = b} {l = l} t x) at e =
       let k = front-byte s at 92 (b ∷ (l ++ (34 ∷ r))) e in
-      let n = run-stop isText s at (front-in s at 92 (b ∷ (l ++ (34 ∷ r))) e) (ap isText k) in
       let f = front-rest s at 92 (b ∷ (l ++ (34 ∷ r))) e in
       let c : Cursor = record { at = at + 1 + 1 } in
-      let no : getD s at 0 ≡ 34 → ⊥ = λ z. let y : _≡_ {A = ℕ} 92 34 = sym k ∙ z in omega arith in
       let i = ap isEscapable (front-byte s (at + 1) b (l ++ (34 ∷ r)) f) ∙ to-true (isEscapable b) t in
-      let q = quote-escaped s at at (sym n) (getD s at 0) refl no k (front-in s (at + 1) b (l ++ (34 ∷ r)) f)
-      (isEscapable (getD s (at + 1) 0)) refl i in
+      let q = quote-here s at refl k (escape-passed s (at + 1) (front-in s (at + 1) b (l ++ (34 ∷ r)) f) refl i) in
       let m = quoted-more s at (quoteAt s at) c refl (sym q) in
       let j = text-to x (at + 1 + 1) (front-rest s (at + 1) b (l ++ (34 ∷ r)) f) in
       (j .0, j .1 ∙ sym (m .0), j .2)

@@ -1,23 +1,21 @@
 -- Where each part ends: after its start, and within the value.
 -- Assumes nothing.
-use mathlib.Core.Path.{_≡_, refl, sym, ap, _∙_, subst}
-use mathlib.Core.Bool.{Bool, true, false}
+use mathlib.Core.Path.{_≡_, subst}
+use mathlib.Core.Bool.{Bool}
 use mathlib.Core.List.{List, [], _∷_}
-use Prim.Native.Nat.{ℕ, zero, suc, _+_, _-_, _≤_, _<_, max}
+use Prim.Native.Nat.{ℕ, suc, _+_, _-_, _≤_, _<_, max}
 use native.Mathlib.Omega.{arith}
 use lib.Dec.{eqb, leb}
 use lib.ListN.{length, getD, drop, length-drop}
 use borrow.Author.Tests.{eqb-true, eqb-false, leb-false}
 use Rattle.alert_info.specs.Bytes.{isToken, isUri, isText, isEscapable}
-use mathlib.Core.Bool.{cond}
 use Rattle.alert_info.specs.Walk.{run, runAt}
-use Rattle.alert_info.specs.Walk.{Move, halt, move, walkAt}
-use Rattle.alert_info.specs.Parts.{whiteAt, moved, tokenAt, escapeByte, quoteByte, quoteAt, quoteMove, quotedStep}
+use Rattle.alert_info.specs.Walk.{halt, move}
+use Rattle.alert_info.specs.Parts.{whiteAt, tokenAt, escapeByte, quoteAt, quoteMove, quotedStep}
 use Rattle.alert_info.specs.Parts.{quotedFrom, quotedAt}
-use Rattle.alert_info.specs.Parts.{settingAt, named, paramAt, paramNext, followingByte, followingAt}
-use Rattle.alert_info.specs.Parts.{followingMove, endingStep, endingAt, spanTo, found, closedUri, bracket}
+use Rattle.alert_info.specs.Parts.{settingAt, named, paramAt, paramNext, followingAt}
+use Rattle.alert_info.specs.Parts.{followingMove, endingStep, endingAt, spanTo, found, closedUri}
 use Rattle.alert_info.specs.Parts.{entryAt}
-use Rattle.alert_info.specs.declared.cursor.Cursor.{Cursor}
 use Rattle.alert_info.specs.declared.cursor.Quote.{Quote}
 use Rattle.alert_info.specs.declared.cursor.Quote.the-variants.{Closed, Escaped, Unclosed}
 use Rattle.alert_info.specs.declared.cursor.Passed.{Passed}
@@ -30,7 +28,7 @@ use Rattle.alert_info.specs.declared.alert_param.Ending.the-variants.{Va
 use Rattle.alert_info.specs.declared.alert_param.Found.{Found}
 use Rattle.alert_info.specs.declared.alert_param.Found.the-variants.{Last, More, None}
 use Rattle.alert_info.proofs.RunLaws.{peeked, by-test}
-use Rattle.alert_info.proofs.WhiteLaws.{white-from, white-to}
+use Rattle.alert_info.proofs.WhiteLaws.{white-from}
 use Rattle.alert_info.proofs.WalkLaws.{walk-ind}
 
 run-length : (p : ℕ → Bool) (l : List ℕ) → run p l ≤ length l

@@ -1,28 +1,24 @@
 -- The cases of what a token, a setting, a parameter and an entry are, each from the tests that lead to it.
 -- Assumes nothing.
-use mathlib.Core.Path.{_≡_, refl, sym, ap, _∙_, subst}
-use mathlib.Core.Bool.{Bool, true, false}
-use mathlib.Core.List.{List, [], _∷_}
-use Prim.Native.Nat.{ℕ, zero, suc, _+_, _≤_, _<_}
-use lib.Dec.{eqb}
-use lib.ListN.{length, getD, drop}
+use mathlib.Core.Path.{_≡_, sym, ap, _∙_, subst}
+use mathlib.Core.List.{List, []}
+use Prim.Native.Nat.{ℕ, _+_, _≤_, _<_}
+use lib.ListN.{length, getD}
 use borrow.Author.Tests.{eq-eqb, ne-eqb, le-leb, lt-leb}
 use Rattle.alert_info.specs.Bytes.{isToken, isUri}
-use mathlib.Core.Bool.{cond}
 use Rattle.alert_info.specs.Walk.{runAt}
-use Rattle.alert_info.specs.Walk.{Move, halt, move}
+use Rattle.alert_info.specs.Walk.{halt}
 use Rattle.alert_info.specs.Parts.{whiteAt, tokenAt, quotedAt, settingAt, named, paramAt, paramNext}
-use Rattle.alert_info.specs.Parts.{followingByte, followingAt, followingMove, endingStep, endingAt, spanTo, found}
-use Rattle.alert_info.specs.Parts.{closedUri, bracket, entryAt}
+use Rattle.alert_info.specs.Parts.{followingAt, followingMove, endingStep, endingAt, spanTo, found}
+use Rattle.alert_info.specs.Parts.{closedUri, entryAt}
 use Rattle.alert_info.specs.declared.cursor.Cursor.{Cursor}
 use Rattle.alert_info.specs.declared.cursor.Passed.{Passed}
 use Rattle.alert_info.specs.declared.cursor.Passed.the-variants.{Next, Refused}
 use Rattle.alert_info.specs.declared.alert_param.Following.{Following}
 use Rattle.alert_info.specs.declared.alert_param.Following.the-variants.{Nothing, Comma, Param, Stray}
 use Rattle.alert_info.specs.declared.alert_param.Ending.{Ending}
-use Rattle.alert_info.specs.declared.alert_param.Ending.the-variants.{ValueEnd, NextEntry, NoEnding}
-use Rattle.alert_info.specs.declared.alert_param.Found.{Found}
-use Rattle.alert_info.specs.declared.alert_param.Found.the-variants.{Last, More, None}
+use Rattle.alert_info.specs.declared.alert_param.Ending.the-variants.{NoEnding}
+use Rattle.alert_info.specs.declared.alert_param.Found.the-variants.{None}
 use Rattle.alert_info.proofs.WalkLaws.{walk-halt, walk-move}
 use Rattle.alert_info.proofs.Lands.{FollowingLands, following-lands}
 

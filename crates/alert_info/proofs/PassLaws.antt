@@ -1,14 +1,13 @@
 -- The pass over a value that the code makes gives the answers of `Value`.
 -- Assumes nothing.
 use mathlib.Core.Path.{_≡_, refl, sym, ap, _∙_, subst}
-use mathlib.Core.Bool.{Bool, true, false, cond}
+use mathlib.Core.Bool.{Bool, true, false}
 use mathlib.Core.List.{List, [], _∷_}
 use Prim.Native.Nat.{ℕ, zero, suc, _+_, _-_, _≤_, _<_}
 use native.Mathlib.Omega.{arith}
-use lib.Dec.{eqb, ltb}
 use lib.ListN.{length, getD, drop, take}
 use borrow.Author.Tests.{eq-eqb, ne-eqb, lt-ltb, le-ltb}
-use Rattle.alert_info.specs.Value.{Reading, unfit, spans, add, readingOf, refusalOf, spansOf, entriesOf, entryOf}
+use Rattle.alert_info.specs.Value.{Reading, unfit, spans, add, readingOf, refusalOf, entriesOf, entryOf}
 use Rattle.alert_info.specs.Value.{nowhere, spanOf, entryRefusalOf}
 use Rattle.alert_info.specs.Pass.{noted, noteAll, summary, blank, scanOf, judgedOf}
 use Rattle.alert_info.specs.declared.alert_param.Span.{Span}

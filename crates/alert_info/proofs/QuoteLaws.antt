@@ -2,11 +2,10 @@
 -- Assumes nothing.
 use mathlib.Core.Path.{_≡_, refl, sym, ap, _∙_, subst}
 use mathlib.Core.Bool.{Bool, true, false}
-use mathlib.Core.List.{List, [], _∷_}
-use Prim.Native.Nat.{ℕ, suc, _+_, _≤_, _<_}
+use mathlib.Core.List.{List, []}
+use Prim.Native.Nat.{ℕ, _+_, _≤_, _<_}
 use native.Mathlib.Omega.{arith}
-use lib.Dec.{eqb}
-use lib.ListN.{length, getD, drop}
+use lib.ListN.{length, getD}
 use borrow.Author.Tests.{eq-eqb, ne-eqb, le-leb, lt-leb}
 use Rattle.alert_info.specs.Bytes.{isText, isEscapable}
 use Rattle.alert_info.specs.Walk.{runAt, Move, halt, move, walkAt}
@@ -15,8 +14,8 @@ use Rattle.alert_info.specs.declared.cursor.Cursor.{Cursor}
 use Rattle.alert_info.specs.declared.cursor.Quote.{Quote}
 use Rattle.alert_info.specs.declared.cursor.Quote.the-variants.{Closed, Escaped, Unclosed}
 use Rattle.alert_info.specs.declared.cursor.Passed.{Passed}
-use Rattle.alert_info.specs.declared.cursor.Passed.the-variants.{Next, Refused}
-use Rattle.alert_info.proofs.RunLaws.{run-step}
+use Rattle.alert_info.specs.declared.cursor.Passed.the-variants.{Refused}
+use Rattle.alert_info.proofs.RunLaws.{run-step, run-stop, peeked}
 use Rattle.alert_info.proofs.WalkLaws.{walk-halt, walk-move}
 use Rattle.alert_info.proofs.Lands.{QuoteLands, quote-lands, quoted-ok}
 
@@ -40,21 +39,29 @@ module _ (s : List ℕ) (at : ℕ) where
       unfolding quoteAt
       quote-stray f = simp (← ee, ← eb, ne-eqb _ _ no, ne-eqb _ _ f)
 
-      module _ (yes : b ≡ 92) where
-        escape-is : escapeByte s (e + 1) ≡ quoteAt s at
-        unfolding quoteAt
-        escape-is = simp (← ee, ← eb, ne-eqb _ _ no, eq-eqb _ _ yes)
+      pub quote-escape : {q : Quote} → b ≡ 92 → q ≡ escapeByte s (e + 1) → q ≡ quoteAt s at
+      unfolding quoteAt
+      quote-escape f g = simp (← ee, ← eb, ne-eqb _ _ no, eq-eqb _ _ f) g
 
-        pub quote-ends : length s ≤ e + 1 → Unclosed ≡ quoteAt s at
-        quote-ends h = simp (le-leb _ _ h) at escape-is
+  -- no text before the backslash
+  pub quote-here : {b : ℕ} {q : Quote} → b ≡ getD s at 0 → b ≡ 92 → q ≡ escapeByte s (at + 1) → q ≡ quoteAt s at
+  unfolding isText
+  quote-here {b} e f g =
+      quote-escape at (sym (run-stop isText s at (peeked s at 91 (sym e ∙ f)) (ap isText (sym e ∙ f)))) b e (λ z. omega arith) f g
 
-        module _ (h : e + 1 < length s) (x : Bool) (ex : x ≡ isEscapable (getD s (e + 1) 0)) where
-          pub quote-broken : x ≡ false → Unclosed ≡ quoteAt s at
-          quote-broken f = simp (lt-leb _ _ h, sym ex ∙ f) at escape-is
+-- the byte after a backslash
+module _ (s : List ℕ) (at : ℕ) where
+  pub escape-ends : length s ≤ at → Unclosed ≡ escapeByte s at
+  escape-ends h = simp (le-leb _ _ h)
 
-          pub quote-escaped : x ≡ true → Escaped (record { at = e + 1 + 1 }) ≡ quoteAt s at
-          quote-escaped f = simp (lt-leb _ _ h, sym ex ∙ f) at escape-is
+  module _ (h : at < length s) {x : Bool} (ex : x ≡ isEscapable (getD s at 0)) where
+    pub escape-broken : x ≡ false → Unclosed ≡ escapeByte s at
+    escape-broken f = simp (lt-leb _ _ h, sym ex ∙ f)
 
+    pub escape-passed : x ≡ true → Escaped (record { at = at + 1 }) ≡ escapeByte s at
+    escape-passed f = simp (lt-leb _ _ h, sym ex ∙ f)
+
+module _ (s : List ℕ) (at : ℕ) where
   -- the loop over escaped bytes
   pub quoted-halt : (q k : Quote) (r : Passed) → q ≡ quoteAt s at → q ≡ k → quoteMove k ≡ halt r → quotedFrom s at ≡ r
   unfolding quotedFrom quotedStep

@@ -4,12 +4,12 @@
 use mathlib.Core.Path.{_≡_, refl, sym, ap, _∙_, subst}
 use mathlib.Core.Bool.{Bool, true, false, cond}
 use mathlib.Core.List.{List, [], _∷_, map}
-use Prim.Native.Nat.{ℕ, zero, suc, _+_, _-_, _≤_, _<_}
+use Prim.Native.Nat.{ℕ, zero, suc, _-_, _≤_, _<_}
 use native.Mathlib.Omega.{arith}
-use lib.Dec.{eqb, ltb}
-use lib.ListN.{length, getD, drop, take, length-map, List·getD-map}
-use borrow.Author.Tests.{eq-eqb, ne-eqb, lt-ltb, le-ltb}
-use Rattle.alert_info.specs.Walk.{Move, halt, move, walkAt}
+use lib.Dec.{eqb}
+use lib.ListN.{length, getD, length-map, List·getD-map}
+use borrow.Author.Tests.{ne-eqb, lt-ltb, le-ltb}
+use Rattle.alert_info.specs.Walk.{halt, move}
 use Rattle.alert_info.specs.Parts.{entryAt}
 use Rattle.alert_info.specs.Value.{Reading, unfit, spans, add, entryMove, valueStep, readingFrom, readingOf}
 use Rattle.alert_info.specs.Value.{readingRefusal, refusalOf, spansIn, spansOf, partOf, urisOf, entriesOf}

@@ -1,21 +1,20 @@
 -- What is read is in the grammar.
 -- Assumes nothing.
 use mathlib.Core.Path.{_≡_, refl, sym, ap, _∙_, subst}
-use mathlib.Core.Bool.{Bool, true, false, _&&_}
+use mathlib.Core.Bool.{Bool, true}
 use mathlib.Core.List.{List, [], _∷_, _++_, map, append-assoc}
-use Prim.Native.Nat.{ℕ, zero, suc, _+_, _-_, _≤_, _<_}
+use Prim.Native.Nat.{ℕ, zero, suc, _+_, _-_, _<_}
 use native.Mathlib.Nat.{add-zero}
 use native.Mathlib.Numerals.{add-one}
 use native.Mathlib.Omega.{arith}
 use lib.Dec.{T, eqb, leb}
-use lib.ListN.{length, getD, drop, take, take-append-drop, drop-of-length-le, length-drop, length-append}
-use lib.Seq.{drop-cons, drop-drop, take-at}
+use lib.ListN.{length, getD, drop, take, take-append-drop, drop-of-length-le}
+use lib.Seq.{drop-cons, drop-drop}
 use borrow.Author.Tests.{eqb-true, eqb-false, leb-true, leb-false}
 use Rattle.alert_info.specs.Bytes.{isBlank, isUri, isToken, isText, isEscapable}
-use mathlib.Core.Bool.{cond}
 use Rattle.alert_info.specs.Walk.{run, runAt}
-use Rattle.alert_info.specs.Walk.{Move, halt, move, walkAt}
-use Rattle.alert_info.specs.Parts.{blankAt, blankMove, whiteStep, whiteAt, tokenAt, escapeByte, quoteByte}
+use Rattle.alert_info.specs.Walk.{halt, move}
+use Rattle.alert_info.specs.Parts.{blankAt, blankMove, whiteStep, whiteAt, tokenAt, escapeByte}
 use Rattle.alert_info.specs.Parts.{quoteAt, quoteMove}
 use Rattle.alert_info.specs.Parts.{quotedStep, quotedFrom, quotedAt, settingAt, named, paramAt, paramNext}
 use Rattle.alert_info.specs.Parts.{followingAt}
@@ -39,7 +38,7 @@ use Rattle.alert_info.specs.declared.alert_param.Found.the-variants.{Las
 use Rattle.alert_info.proofs.RunLaws.{peeked, by-test}
 use Rattle.alert_info.proofs.WhiteLaws.{white-ok, blank-in}
 use Rattle.alert_info.proofs.WalkLaws.{walk-ind}
-use Rattle.alert_info.proofs.Lands.{run-from, run-to, quoted-ok, ending-ok}
+use Rattle.alert_info.proofs.Lands.{quoted-ok, ending-ok}
 use Rattle.alert_info.proofs.ReadingLaws.{value-ok}
 
 is-true : (b : Bool) → b ≡ true → T b

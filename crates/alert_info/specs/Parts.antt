@@ -2,13 +2,12 @@
 -- Past the end the byte at a position counts as 0, which no rule names.
 -- Assumes nothing.
 use Prim.Native.Nat.{ℕ, zero, suc, _+_, _-_}
-use mathlib.Core.Bool.{Bool, true, false, cond}
-use mathlib.Core.List.{List, [], _∷_}
-use lib.ListN.{length, getD, drop}
+use mathlib.Core.Bool.{cond}
+use mathlib.Core.List.{List, []}
+use lib.ListN.{length, getD}
 use lib.Dec.{leb, eqb}
 use Rattle.alert_info.specs.Bytes.{isBlank, isUri, isToken, isText, isEscapable}
 use Rattle.alert_info.specs.Walk.{runAt, Move, halt, move, walkAt}
-use Rattle.alert_info.specs.declared.cursor.Cursor.{Cursor}
 use Rattle.alert_info.specs.declared.cursor.Passed.{Passed}
 use Rattle.alert_info.specs.declared.cursor.Passed.the-variants.{Next, Refused}
 use Rattle.alert_info.specs.declared.cursor.Quote.{Quote}

@@ -1,13 +1,12 @@
 -- The whole value: where its entries' URIs lie, its refusal number, and the answers about its entries.
 -- Assumes nothing.
-use Prim.Native.Nat.{ℕ, zero, suc}
-use mathlib.Core.Bool.{Bool, true, false, cond}
+use Prim.Native.Nat.{ℕ}
+use mathlib.Core.Bool.{cond}
 use mathlib.Core.List.{List, [], _∷_, map}
 use lib.ListN.{length, getD, drop, take}
 use lib.Dec.{ltb, eqb}
 use Rattle.alert_info.specs.Walk.{Move, halt, move, walkAt}
 use Rattle.alert_info.specs.Parts.{entryAt}
-use Rattle.alert_info.specs.declared.cursor.Cursor.{Cursor}
 use Rattle.alert_info.specs.declared.alert_param.Span.{Span}
 use Rattle.alert_info.specs.declared.alert_param.Found.{Found}
 use Rattle.alert_info.specs.declared.alert_param.Found.the-variants.{Last, More, None}

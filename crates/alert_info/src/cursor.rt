@@ -9,7 +9,7 @@ ghost use Prim.Native.Nat.{_<_, _≤_, _+_};
 ghost use lib.ListN.{length, getD};
 ghost use Rattle.alert_info.specs.Bytes.{inClass, Classes};
 ghost use Rattle.alert_info.specs.Walk.{runAt, fourAt};
-ghost use Rattle.alert_info.specs.Parts.{blankAt, whiteAt, tokenAt, quoteAt, quotedAt};
+ghost use Rattle.alert_info.specs.Parts.{blankAt, whiteAt, tokenAt, escapeByte, quoteAt, quotedAt};
 
 // A position in a value. Its methods hand back the cursor after what they pass.
 pub struct Cursor {
@@ -133,11 +133,33 @@ impl Cursor {
         }
     }
 
-    // Past text of a quoted string and the closing quote or escaped byte after it.
+    // From after a backslash in a quoted string: past the byte that it escapes.
+    fn escaped(self, classes: &[u8; 256], s: &[u8]) -> Quote
+        requires { ⌜ Classes (now classes) ⌝ }
+        ensures { λ r. ⌜ r ≡ escapeByte (now (s .entry)) (self .at) ⌝ }
+    {
+        let at = self.at;
+        if s.len() <= at {
+            return Quote::Unclosed;
+        }
+        if !has(classes, s[at], ESCAPABLE) {
+            return Quote::Unclosed;
+        }
+        let next = at + 1;
+        Quote::Escaped(Cursor { at: next })
+    }
+
+    // Past text of a quoted string and the closing quote or escaped byte after it. Between two escaped bytes there often
+    // is no text, so a backslash is looked for first.
     fn quoted_text(self, classes: &[u8; 256], s: &[u8]) -> Quote
         requires { ⌜ Classes (now classes) ⌝ }
         ensures { λ r. ⌜ r ≡ quoteAt (now (s .entry)) (self .at) ⌝ }
     {
+        if self.peek(s) == b'\\' {
+            let next = self.at + 1;
+            let f = Cursor { at: next };
+            return f.escaped(classes, s);
+        }
         let t = self.run(classes, s, TEXT);
         let b = t.peek(s);
         let end = t.at;
@@ -148,15 +170,9 @@ impl Cursor {
         if b != b'\\' {
             return Quote::Unclosed;
         }
-        let escaped = end + 1;
-        if s.len() <= escaped {
-            return Quote::Unclosed;
-        }
-        if !has(classes, s[escaped], ESCAPABLE) {
-            return Quote::Unclosed;
-        }
-        let next = escaped + 1;
-        Quote::Escaped(Cursor { at: next })
+        let next = end + 1;
+        let e = Cursor { at: next };
+        e.escaped(classes, s)
     }
 
     // Past a quoted string.

@@ -5,9 +5,6 @@ use denote.Ref.{now}
 use borrow.Author.Needs.{needs}
 use Rattle.alert_info.proofs.entry.Statement.{statement}
 use Rattle.alert_info.proofs.entry.Tie as tie
-use Rattle.alert_info.proofs.entry.Reads as reads
-use Rattle.alert_info.proofs.entry.Lts as lts
-use Rattle.alert_info.proofs.value.judge.Reads as judge-reads
 
 judge-requires : tie.Need-judge-requires
 judge-requires c κs = search needs

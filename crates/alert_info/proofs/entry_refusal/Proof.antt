@@ -2,9 +2,6 @@ use Rattle.alert_info.proofs.PassLaws.{entry-refused, entry-there, entr
 use borrow.Author.Needs.{needs}
 use Rattle.alert_info.proofs.entry_refusal.Statement.{statement}
 use Rattle.alert_info.proofs.entry_refusal.Tie as tie
-use Rattle.alert_info.proofs.entry_refusal.Reads as reads
-use Rattle.alert_info.proofs.entry_refusal.Lts as lts
-use Rattle.alert_info.proofs.value.judge.Reads as judge-reads
 
 judge-requires : tie.Need-judge-requires
 judge-requires c κs = search needs

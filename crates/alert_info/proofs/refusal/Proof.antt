@@ -2,9 +2,6 @@ use Rattle.alert_info.proofs.PassLaws.{refusal-of}
 use borrow.Author.Needs.{needs}
 use Rattle.alert_info.proofs.refusal.Statement.{statement}
 use Rattle.alert_info.proofs.refusal.Tie as tie
-use Rattle.alert_info.proofs.refusal.Reads as reads
-use Rattle.alert_info.proofs.refusal.Lts as lts
-use Rattle.alert_info.proofs.value.judge.Reads as judge-reads
 
 judge-requires : tie.Need-judge-requires
 judge-requires c κs = search needs

@@ -2,9 +2,6 @@ use Rattle.alert_info.proofs.PassLaws.{span-of}
 use borrow.Author.Needs.{needs}
 use Rattle.alert_info.proofs.c.alert_info_entry.Statement.{statement}
 use Rattle.alert_info.proofs.c.alert_info_entry.Tie as tie
-use Rattle.alert_info.proofs.c.alert_info_entry.Reads as reads
-use Rattle.alert_info.proofs.c.alert_info_entry.Lts as lts
-use Rattle.alert_info.proofs.value.judge.Reads as judge-reads
 
 judge-requires : tie.Need-judge-requires
 judge-requires c κs = search needs

@@ -2,8 +2,6 @@ use Rattle.alert_info.specs.Bytes.{Classes}
 use borrow.Author.Needs.{needs}
 use Rattle.alert_info.proofs.classes.has.Statement.{statement}
 use Rattle.alert_info.proofs.classes.has.Tie as tie
-use Rattle.alert_info.proofs.classes.has.Reads as reads
-use Rattle.alert_info.proofs.classes.has.Lts as lts
 
 element-copy-out-result : tie.Need-element-copy-out-result
 element-copy-out-result c = search needs

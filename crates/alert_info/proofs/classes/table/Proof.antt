@@ -1,10 +1,7 @@
 use Rattle.alert_info.specs.Bytes.{isBlank, isUri, isToken, isText, isEscapable}
 use Rattle.alert_info.proofs.ClassTable.{agrees, right, table-right}
-use borrow.Author.Needs.{needs}
 use Rattle.alert_info.proofs.classes.table.Statement.{statement}
 use Rattle.alert_info.proofs.classes.table.Tie as tie
-use Rattle.alert_info.proofs.classes.table.Reads as reads
-use Rattle.alert_info.proofs.classes.table.Lts as lts
 
 returns : tie.Need-returns
 unfolding agrees right isBlank isUri isToken isText isEscapable

@@ -3,11 +3,6 @@ use Rattle.alert_info.proofs.PassLaws.{judged-long, judged-misfit, judg
 use borrow.Author.Needs.{needs}
 use Rattle.alert_info.proofs.value.judge.Statement.{statement}
 use Rattle.alert_info.proofs.value.judge.Tie as tie
-use Rattle.alert_info.proofs.value.judge.Reads as reads
-use Rattle.alert_info.proofs.value.judge.Lts as lts
-use Rattle.alert_info.proofs.value.refused.Reads as refused-reads
-use Rattle.alert_info.proofs.classes.table.Reads as table-reads
-use Rattle.alert_info.proofs.value.scan_value.Reads as scan-value-reads
 
 refused-requires : tie.Need-refused-requires
 refused-requires c κs = search needs

@@ -2,8 +2,6 @@ use borrow.Author.Tests.{eq-eqb, ne-eqb}
 use borrow.Author.Needs.{needs}
 use Rattle.alert_info.proofs.value.note.Statement.{statement}
 use Rattle.alert_info.proofs.value.note.Tie as tie
-use Rattle.alert_info.proofs.value.note.Reads as reads
-use Rattle.alert_info.proofs.value.note.Lts as lts
 
 add-entries : tie.Need-add-entries
 add-entries c = search needs

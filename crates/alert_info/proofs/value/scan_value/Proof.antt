@@ -1,20 +1,16 @@
 use mathlib.Core.Path.{_≡_, refl, sym, ap, _∙_}
-use Prim.Native.Nat.{ℕ, _+_, _-_, _≤_}
+use Prim.Native.Nat.{_+_, _-_, _≤_}
 use lib.ListN.{length}
 use native.Mathlib.Omega.{arith}
 use denote.Ref.{now}
 use borrow.Author.Needs.{needs}
-use Rattle.alert_info.specs.Value.{Reading, readingFrom, readingOf}
-use Rattle.alert_info.specs.Pass.{noted, summary, blank, scanOf}
+use Rattle.alert_info.specs.Value.{readingFrom, readingOf}
+use Rattle.alert_info.specs.Pass.{summary, scanOf}
 use Rattle.alert_info.specs.declared.value.Scan.{Scan}
 use Rattle.alert_info.proofs.PassLaws.{scan-more, summary-last}
 use Rattle.alert_info.proofs.ReadingLaws.{reading-last, reading-more, reading-none}
 use Rattle.alert_info.proofs.value.scan_value.Statement.{statement}
 use Rattle.alert_info.proofs.value.scan_value.Tie as tie
-use Rattle.alert_info.proofs.value.scan_value.Reads as reads
-use Rattle.alert_info.proofs.value.scan_value.Lts as lts
-use Rattle.alert_info.proofs.cursor.Cursor.entry_with.Reads as entry-with-reads
-use Rattle.alert_info.proofs.value.note.Reads as note-reads
 
 abbrev Inv-loop : tie.InvT-loop
 Inv-loop classes v k at₀ t₀ at t = (scanOf v k ≡ summary k t (readingFrom v at)) × (t .entries ≤ at) × (at ≤ length v)

@@ -3,9 +3,6 @@ use Rattle.alert_info.proofs.WhiteLaws.{blank-end, blank-yes, blank-no}
 use borrow.Author.Needs.{needs}
 use Rattle.alert_info.proofs.cursor.Cursor.blank.Statement.{statement}
 use Rattle.alert_info.proofs.cursor.Cursor.blank.Tie as tie
-use Rattle.alert_info.proofs.cursor.Cursor.blank.Reads as reads
-use Rattle.alert_info.proofs.cursor.Cursor.blank.Lts as lts
-use Rattle.alert_info.proofs.classes.has.Reads as has-reads
 
 returns : tie.Need-returns
 returns c = blank-end _ _ (c .if1 .taken)

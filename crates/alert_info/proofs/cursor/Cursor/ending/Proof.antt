@@ -1,5 +1,5 @@
 use mathlib.Core.Path.{_≡_, refl, sym, _∙_}
-use Prim.Native.Nat.{ℕ, _-_}
+use Prim.Native.Nat.{_-_}
 use lib.ListN.{length}
 use native.Mathlib.Omega.{arith}
 use denote.Ref.{now}
@@ -8,9 +8,6 @@ use Rattle.alert_info.specs.Parts.{endingAt}
 use Rattle.alert_info.proofs.PartLaws.{ending-halt, ending-more}
 use Rattle.alert_info.proofs.cursor.Cursor.ending.Statement.{statement}
 use Rattle.alert_info.proofs.cursor.Cursor.ending.Tie as tie
-use Rattle.alert_info.proofs.cursor.Cursor.ending.Reads as reads
-use Rattle.alert_info.proofs.cursor.Cursor.ending.Lts as lts
-use Rattle.alert_info.proofs.cursor.Cursor.following.Reads as following-reads
 
 abbrev Inv-loop : tie.InvT-loop
 Inv-loop classes s at₀ at = endingAt s at₀ ≡ endingAt s at

@@ -9,12 +9,6 @@ use Rattle.alert_info.proofs.PartLaws.{entry-open, entry-empty, entry-c
 use borrow.Author.Needs.{needs}
 use Rattle.alert_info.proofs.cursor.Cursor.entry_with.Statement.{statement}
 use Rattle.alert_info.proofs.cursor.Cursor.entry_with.Tie as tie
-use Rattle.alert_info.proofs.cursor.Cursor.entry_with.Reads as reads
-use Rattle.alert_info.proofs.cursor.Cursor.entry_with.Lts as lts
-use Rattle.alert_info.proofs.cursor.Cursor.peek.Reads as peek-reads
-use Rattle.alert_info.proofs.cursor.Cursor.run.Reads as run-reads
-use Rattle.alert_info.proofs.cursor.Cursor.ending.Reads as ending-reads
-use Rattle.alert_info.proofs.cursor.Cursor.white.Reads as white-reads
 
 white-requires : tie.Need-white-requires
 white-requires c κs = search needs

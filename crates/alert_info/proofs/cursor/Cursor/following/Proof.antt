@@ -1,12 +1,7 @@
-use mathlib.Core.Path.{sym, _∙_}
 use Rattle.alert_info.proofs.PartLaws.{following-stop, following-entry, following-bad, following-param}
 use borrow.Author.Needs.{needs}
 use Rattle.alert_info.proofs.cursor.Cursor.following.Statement.{statement}
 use Rattle.alert_info.proofs.cursor.Cursor.following.Tie as tie
-use Rattle.alert_info.proofs.cursor.Cursor.following.Reads as reads
-use Rattle.alert_info.proofs.cursor.Cursor.following.Lts as lts
-use Rattle.alert_info.proofs.cursor.Cursor.param.Reads as param-reads
-use Rattle.alert_info.proofs.cursor.Cursor.white.Reads as white-reads
 
 white-requires : tie.Need-white-requires
 white-requires c κs = search needs

@@ -5,9 +5,6 @@ use Rattle.alert_info.proofs.RunLaws.{four-1, four-2, four-3, four-4}
 use borrow.Author.Needs.{needs}
 use Rattle.alert_info.proofs.cursor.Cursor.four.Statement.{statement}
 use Rattle.alert_info.proofs.cursor.Cursor.four.Tie as tie
-use Rattle.alert_info.proofs.cursor.Cursor.four.Reads as reads
-use Rattle.alert_info.proofs.cursor.Cursor.four.Lts as lts
-use Rattle.alert_info.proofs.classes.has.Reads as has-reads
 
 shared-slice-read-has : tie.Need-shared-slice-read-has
 shared-slice-read-has c = search needs

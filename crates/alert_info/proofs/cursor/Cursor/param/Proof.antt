@@ -6,12 +6,6 @@ use Rattle.alert_info.proofs.PartLaws.{param-none, param-bare, param-se
 use borrow.Author.Needs.{needs}
 use Rattle.alert_info.proofs.cursor.Cursor.param.Statement.{statement}
 use Rattle.alert_info.proofs.cursor.Cursor.param.Tie as tie
-use Rattle.alert_info.proofs.cursor.Cursor.param.Reads as reads
-use Rattle.alert_info.proofs.cursor.Cursor.param.Lts as lts
-use Rattle.alert_info.proofs.cursor.Cursor.peek.Reads as peek-reads
-use Rattle.alert_info.proofs.cursor.Cursor.setting.Reads as setting-reads
-use Rattle.alert_info.proofs.cursor.Cursor.token.Reads as token-reads
-use Rattle.alert_info.proofs.cursor.Cursor.white.Reads as white-reads
 
 white-requires : tie.Need-white-requires
 white-requires c κs = search needs

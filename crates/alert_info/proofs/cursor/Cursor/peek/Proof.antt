@@ -4,8 +4,6 @@ use denote.Ref.{now}
 use borrow.Author.Needs.{needs}
 use Rattle.alert_info.proofs.cursor.Cursor.peek.Statement.{statement}
 use Rattle.alert_info.proofs.cursor.Cursor.peek.Tie as tie
-use Rattle.alert_info.proofs.cursor.Cursor.peek.Reads as reads
-use Rattle.alert_info.proofs.cursor.Cursor.peek.Lts as lts
 
 shared-slice-read-result : tie.Need-shared-slice-read-result
 shared-slice-read-result c = search needs

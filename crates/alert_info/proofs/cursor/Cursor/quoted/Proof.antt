@@ -9,10 +9,6 @@ use Rattle.alert_info.proofs.QuoteLaws.{opened, unopened, quoted-halt, 
 use borrow.Author.Needs.{needs}
 use Rattle.alert_info.proofs.cursor.Cursor.quoted.Statement.{statement}
 use Rattle.alert_info.proofs.cursor.Cursor.quoted.Tie as tie
-use Rattle.alert_info.proofs.cursor.Cursor.quoted.Reads as reads
-use Rattle.alert_info.proofs.cursor.Cursor.quoted.Lts as lts
-use Rattle.alert_info.proofs.cursor.Cursor.peek.Reads as peek-reads
-use Rattle.alert_info.proofs.cursor.Cursor.quoted_text.Reads as quoted-text-reads
 
 abbrev Inv-loop : tie.InvT-loop
 Inv-loop classes s at₀ at = quotedFrom s at₀ ≡ quotedFrom s at

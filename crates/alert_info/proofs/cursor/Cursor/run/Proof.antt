@@ -9,10 +9,6 @@ use Rattle.alert_info.proofs.RunLaws.{run-step, run-stop, run-end}
 use borrow.Author.Needs.{needs}
 use Rattle.alert_info.proofs.cursor.Cursor.run.Statement.{statement}
 use Rattle.alert_info.proofs.cursor.Cursor.run.Tie as tie
-use Rattle.alert_info.proofs.cursor.Cursor.run.Reads as reads
-use Rattle.alert_info.proofs.cursor.Cursor.run.Lts as lts
-use Rattle.alert_info.proofs.classes.has.Reads as has-reads
-use Rattle.alert_info.proofs.cursor.Cursor.run_fours.Reads as run-fours-reads
 
 abbrev Inv-loop : tie.InvT-loop
 Inv-loop classes s class at₀ at = runAt (inClass class) s at₀ ≡ runAt (inClass class) s at

@@ -2,16 +2,13 @@ use mathlib.Core.Path.{_≡_, refl, _∙_}
 use Prim.Native.Nat.{_-_}
 use native.Mathlib.Omega.{arith}
 use denote.Ref.{now}
-use borrow.Author.Tests.{not-true, not-false}
+use borrow.Author.Tests.{not-false}
 use Rattle.alert_info.specs.Bytes.{inClass}
 use Rattle.alert_info.specs.Walk.{runAt}
 use Rattle.alert_info.proofs.RunLaws.{run-four}
 use borrow.Author.Needs.{needs}
 use Rattle.alert_info.proofs.cursor.Cursor.run_fours.Statement.{statement}
 use Rattle.alert_info.proofs.cursor.Cursor.run_fours.Tie as tie
-use Rattle.alert_info.proofs.cursor.Cursor.run_fours.Reads as reads
-use Rattle.alert_info.proofs.cursor.Cursor.run_fours.Lts as lts
-use Rattle.alert_info.proofs.cursor.Cursor.four.Reads as four-reads
 
 abbrev Inv-loop : tie.InvT-loop
 Inv-loop classes s class end at₀ at = runAt (inClass class) s at₀ ≡ runAt (inClass class) s at

@@ -2,11 +2,6 @@ use Rattle.alert_info.proofs.PartLaws.{setting-quoted, setting-token}
 use borrow.Author.Needs.{needs}
 use Rattle.alert_info.proofs.cursor.Cursor.setting.Statement.{statement}
 use Rattle.alert_info.proofs.cursor.Cursor.setting.Tie as tie
-use Rattle.alert_info.proofs.cursor.Cursor.setting.Reads as reads
-use Rattle.alert_info.proofs.cursor.Cursor.setting.Lts as lts
-use Rattle.alert_info.proofs.cursor.Cursor.peek.Reads as peek-reads
-use Rattle.alert_info.proofs.cursor.Cursor.quoted.Reads as quoted-reads
-use Rattle.alert_info.proofs.cursor.Cursor.token.Reads as token-reads
 
 peek-requires : tie.Need-peek-requires
 peek-requires c κs = search needs

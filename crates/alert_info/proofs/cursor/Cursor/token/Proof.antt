@@ -1,12 +1,7 @@
 use Rattle.alert_info.proofs.PartLaws.{token-none, token-some}
-use Rattle.alert_info.specs.Parts.{tokenAt}
-use borrow.Author.Tests.{eq-eqb, ne-eqb}
 use borrow.Author.Needs.{needs}
 use Rattle.alert_info.proofs.cursor.Cursor.token.Statement.{statement}
 use Rattle.alert_info.proofs.cursor.Cursor.token.Tie as tie
-use Rattle.alert_info.proofs.cursor.Cursor.token.Reads as reads
-use Rattle.alert_info.proofs.cursor.Cursor.token.Lts as lts
-use Rattle.alert_info.proofs.cursor.Cursor.run.Reads as run-reads
 
 run-requires : tie.Need-run-requires
 run-requires c κs = search needs

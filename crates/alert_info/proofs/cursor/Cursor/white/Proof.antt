@@ -1,5 +1,5 @@
 use mathlib.Core.Path.{_≡_, refl, sym, _∙_}
-use Prim.Native.Nat.{ℕ, _-_}
+use Prim.Native.Nat.{_-_}
 use lib.ListN.{length}
 use native.Mathlib.Omega.{arith}
 use denote.Ref.{now}
@@ -8,9 +8,6 @@ use Rattle.alert_info.specs.Parts.{whiteAt}
 use Rattle.alert_info.proofs.WhiteLaws.{white-stop, white-more}
 use Rattle.alert_info.proofs.cursor.Cursor.white.Statement.{statement}
 use Rattle.alert_info.proofs.cursor.Cursor.white.Tie as tie
-use Rattle.alert_info.proofs.cursor.Cursor.white.Reads as reads
-use Rattle.alert_info.proofs.cursor.Cursor.white.Lts as lts
-use Rattle.alert_info.proofs.cursor.Cursor.blank.Reads as blank-reads
 
 abbrev Inv-loop : tie.InvT-loop
 Inv-loop classes s at₀ at = whiteAt s at₀ ≡ whiteAt s at
