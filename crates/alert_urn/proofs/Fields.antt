@@ -1,16 +1,15 @@
 -- Laws of the texts between colons: comparing bytes is comparing lists of names.
 use Prim.Native.Nat.{ℕ, suc, _+_, _-_, _≤_, _<_}
 use mathlib.Core.Path.{_≡_, refl, ap, sym, _∙_}
-use mathlib.Core.Bool.{Bool, true, false, cond, _&&_, and-assoc}
+use mathlib.Core.Bool.{Bool, true, false, _&&_, and-assoc}
 use mathlib.Core.List.{List, [], _∷_, _++_}
 use native.Mathlib.Omega.{arith}
-use native.Mathlib.Nat.{add-sub-cancel-left}
 use lib.ListN.{length, getD, take, drop, length-drop, drop-of-length-le}
 use lib.Seq.{drop-cons, drop-drop, take-all}
 use lib.Dec.{eqb, ltb}
 use borrow.Author.Tests.{eq-eqb, ne-eqb, eqb-true, eqb-false, ltb-true, ltb-false}
-use Rattle.resolution.specs.Names.{sameName, sameParts, below}
-use Rattle.alert_urn.specs.Text.{upTo, past, fields, onFirst, someBelow, covers}
+use Rattle.resolution.specs.Names.{sameName, sameParts}
+use Rattle.alert_urn.specs.Text.{upTo, past, fields, onFirst, covers}
 
 -- by the two values of a test
 pub byTest : {P : Type 0} (b : Bool) → (b ≡ true → P) → (b ≡ false → P) → P
@@ -55,9 +54,6 @@ fields-first c s =
     (λ e. ([], fields-last c s (ltb-false _ _ e)))
 
 -- parts of a slice, as the code lends them
-pub part-upTo : (c : ℕ) (s : List ℕ) (at k : ℕ) → k ≡ length (upTo c (drop at s)) → take (at + k - at) (drop at s) ≡ upTo c (drop at s)
-part-upTo c s at k e = rw (add-sub-cancel-left at k, e) (upTo-take c (drop at s))
-
 pub part-end : (s : List ℕ) (a : ℕ) → take (length s - a) (drop a s) ≡ drop a s
 part-end s a = take-all (length s - a) (drop a s) (simp length-drop (omega arith))
 

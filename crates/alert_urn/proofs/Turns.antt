@@ -1,36 +1,21 @@
 -- Laws of the text definitions at a turn of a loop: one byte or one name further.
 use Prim.Native.Nat.{ℕ, suc, zero, _+_, _*_, _-_, _≤_, _<_}
 use mathlib.Core.Path.{_≡_, refl, ap, sym, _∙_}
-use mathlib.Core.Bool.{Bool, true, false, cond, not, _&&_, _||_, and-false, and-true, and-eq-true-iff}
-use mathlib.Core.List.{List, [], _∷_}
+use mathlib.Core.Bool.{Bool, true, false, cond, _&&_, and-assoc, and-false, and-true, and-eq-true-iff}
+use mathlib.Core.List.{List, [], _∷_, _++_}
 use native.Mathlib.Numerals.{add-one}
 use native.Mathlib.Omega.{arith}
 use native.Mathlib.Nat.{zero-add, sub-zero, sub-self}
-use lib.ListN.{length, getD, take, drop, length-drop, drop-of-length-le}
+use lib.ListN.{length, getD, take, drop, length-drop, drop-of-length-le, take-append-drop}
 use lib.Seq.{drop-cons, drop-length, take-all, take-nil}
-use lib.Dec.{eqb, leb, ltb}
-use borrow.Author.Tests.{lt-leb, le-leb, eq-eqb, ne-eqb, leb-true, leb-false}
-use Rattle.resolution.specs.Lists.{sameList}
+use lib.Dec.{eqb, leb}
+use borrow.Author.Tests.{eq-eqb, ne-eqb, leb-true}
 use Rattle.resolution.specs.Names.{sameName}
 use Rattle.resolution.proofs.Names.{name-exact}
-use Rattle.alert_urn.specs.Text.{all, within, upTo, past, fields, nameOk, labelOk, covers, wordOf}
+use Rattle.alert_urn.specs.Text.{all, within, upTo, past, fields, nameOk, nameLength, labelOk, covers, wordOf}
 use Rattle.alert_urn.specs.Urn.{bytes, bytesFrom, lower, begins, namesIn, restOk, alertUrn, urnOk}
-use Rattle.alert_urn.proofs.Fields.{byTest, upTo-take, upTo-le, past-drop, past-at, part-upTo, part-end, fields-first, fields-more, fields-last, coversBytes, covers-fields}
-
--- one byte more of a test of all
-pub all-at : (p : ℕ → Bool) (s : List ℕ) (i : ℕ) → i < length s → all p (drop i s) ≡ (p (getD s i 0) && all p (drop (i + 1) s))
-unfolding all
-all-at p s i h = rw (add-one, drop-cons s i 0)
-
-pub all-more : (p : ℕ → Bool) (s : List ℕ) (i : ℕ) {b : Bool} → all p s ≡ all p (drop i s) → i < length s → b ≡ p (getD s i 0) → b ≡ true → all p s ≡ all p (drop (i + 1) s)
-all-more p s i v h e t = v ∙ all-at p s i h ∙ simp (sym e ∙ t)
-
-pub all-less : (p : ℕ → Bool) (s : List ℕ) (i : ℕ) {b : Bool} → all p s ≡ all p (drop i s) → i < length s → b ≡ p (getD s i 0) → b ≡ false → false ≡ all p s
-all-less p s i v h e t = sym (v ∙ all-at p s i h ∙ simp (sym e ∙ t))
-
-pub all-end : (p : ℕ → Bool) (s : List ℕ) (i : ℕ) → length s ≤ i → i ≤ length s → all p (drop i s) ≡ true
-unfolding all
-all-end p s i h k = let e : i ≡ length s = omega arith in rw (e, drop-length)
+use Rattle.alert_urn.proofs.Fields.{byTest, upTo-take, upTo-le, past-drop, past-at, part-end, fields-first, fields-more, fields-last, coversBytes, covers-fields}
+use Rattle.alert_urn.proofs.Runs.{length-bad, length-good}
 
 -- the search for a byte, one byte further
 pub upTo-hit : (c : ℕ) (s : List ℕ) (i : ℕ) → i < length s → eqb (getD s i 0) c ≡ true → length (upTo c (drop i s)) ≡ 0
@@ -130,27 +115,43 @@ after-none c s k e h =
     let z : past c s ≡ [] = sym (past-drop c s) ∙ drop-of-length-le s {i = suc (length (upTo c s))} (omega (arith, e)) in
     rw (sub-self, z)
 
--- p covers w, one byte further
-module _ (p w : List ℕ) (i : ℕ) (v : covers p w ≡ coversBytes (drop i p) (drop i w)) where
-  pub covers-short : i < length p → length w ≤ i → false ≡ covers p w
-  unfolding coversBytes
-  covers-short h k = sym (v ∙ rw (drop-cons p i 0 h, drop-of-length-le w {i = i} k))
+-- p covers w, by their lengths
+covers-level : (p w : List ℕ) → length p ≡ length w → coversBytes p w ≡ sameName p w
+unfolding coversBytes
+covers-level [] [] h = refl
+covers-level [] (y ∷ w) h = absurd (omega arith)
+covers-level (x ∷ p) [] h = absurd (omega arith)
+covers-level (x ∷ p) (y ∷ w) h = ap (λ b. eqb x y && b) (covers-level p w (omega arith))
 
-  pub covers-more : i < length p → i < length w → getD p i 0 ≡ getD w i 0 → covers p w ≡ coversBytes (drop (i + 1) p) (drop (i + 1) w)
-  unfolding coversBytes
-  covers-more h k e = v ∙ rw (add-one, drop-cons p i 0 h, drop-cons w i 0 k, eq-eqb (getD p i 0) (getD w i 0) e)
+covers-over : (p w : List ℕ) → length w < length p → coversBytes p w ≡ false
+unfolding coversBytes
+covers-over [] w h = absurd (omega arith)
+covers-over (x ∷ p) [] h = refl
+covers-over (x ∷ p) (y ∷ w) h = ap (λ b. eqb x y && b) (covers-over p w (omega arith)) ∙ and-false (eqb x y)
 
-  pub covers-less : i < length p → i < length w → (getD p i 0 ≡ getD w i 0 → ⊥) → false ≡ covers p w
-  unfolding coversBytes
-  covers-less h k e = sym (v ∙ rw (drop-cons p i 0 h, drop-cons w i 0 k, ne-eqb (getD p i 0) (getD w i 0) e))
+covers-under : (p w : List ℕ) → length p < length w → coversBytes p w ≡ (sameName p (take (length p) w) && eqb (getD w (length p) 0) 58)
+unfolding coversBytes
+covers-under p [] h = absurd (omega arith)
+covers-under [] (y ∷ w) h = refl
+covers-under (x ∷ p) (y ∷ w) h =
+    ap (λ b. eqb x y && b) (covers-under p w (omega arith))
+    ∙ sym (and-assoc (eqb x y) (sameName p (take (length p) w)) (eqb (getD w (length p) 0) 58))
 
-  pub covers-end : length p ≤ i → length w ≤ i → true ≡ covers p w
-  unfolding coversBytes
-  covers-end h k = sym (v ∙ rw (drop-of-length-le p {i = i} h, drop-of-length-le w {i = i} k))
+module _ (p w : List ℕ) where
+  pub covers-equal : {b : Bool} → length p ≡ length w → b ≡ sameName p w → b ≡ covers p w
+  covers-equal h e = e ∙ sym (covers-fields p w ∙ covers-level p w h)
 
-  pub covers-colon : length p ≤ i → i < length w → eqb (getD w i 0) 58 ≡ covers p w
-  unfolding coversBytes
-  covers-colon h k = sym (v ∙ rw (drop-of-length-le p {i = i} h, drop-cons w i 0 k))
+  pub covers-long : length w < length p → false ≡ covers p w
+  covers-long h = sym (covers-fields p w ∙ covers-over p w h)
+
+  module _ (h : length p < length w) where
+    pub covers-colon : {b : Bool} → getD w (length p) 0 ≡ 58 → b ≡ sameName p (take (length p - 0) w) → b ≡ covers p w
+    covers-colon q e =
+        sym (covers-fields p w ∙ covers-under p w h ∙ rw (eq-eqb (getD w (length p) 0) 58 q, and-true, ← sub-zero (length p)) (sym e))
+
+    pub covers-inside : (getD w (length p) 0 ≡ 58 → ⊥) → false ≡ covers p w
+    covers-inside q =
+        sym (covers-fields p w ∙ covers-under p w h ∙ rw (ne-eqb (getD w (length p) 0) 58 q, and-false))
 
 -- `urn:alert:`, byte by byte
 abbrev pub scheme : List ℕ
@@ -159,6 +160,13 @@ scheme = 117 ∷ 114 ∷ 110 ∷ 58 ∷ 97 ∷ 108 ∷ 101 ∷ 114 ∷ 116 ∷ 5
 pub scheme-bytes : bytes "urn:alert:" ≡ scheme
 unfolding bytes bytesFrom
 scheme-bytes = refl
+
+pub begins-small : (s t : List ℕ) {b : Bool} → t ≡ take 10 (drop 0 s) → b ≡ sameName t scheme → b ≡ true → true ≡ begins (bytes "urn:alert:") s
+unfolding begins
+begins-small s t i e q =
+    let w : take 10 s ≡ scheme = sym i ∙ name-exact .to t scheme (sym e ∙ q) in
+    let j : s ≡ scheme ++ drop 10 s = sym (take-append-drop 10 s) ∙ ap (λ l. l ++ drop 10 s) w in
+    sym (ap (begins (bytes "urn:alert:")) j ∙ ap (λ l. begins l (scheme ++ drop 10 s)) scheme-bytes)
 
 pub upper-le : (x : ℕ) {b : Bool} → b ≡ within 65 90 x → b ≡ true → x ≤ 90
 upper-le x e t = leb-true x 90 (and-eq-true-iff (leb 65 x) (leb x 90) .0 (sym e ∙ t) .1)
@@ -194,43 +202,44 @@ pub names-start : (s : List ℕ) → namesIn s ≡ namesFrom 0 s
 unfolding namesIn namesFrom
 names-start s = simp zero-add
 
-names-bad : (n : ℕ) (s : List ℕ) {b : Bool} → b ≡ nameOk (upTo 58 s) → b ≡ false → 0 ≡ namesFrom n s
+names-bad : (n : ℕ) (s : List ℕ) → nameOk (upTo 58 s) ≡ false → 0 ≡ namesFrom n s
 unfolding namesFrom all
-names-bad n s e t = simp (fields-first 58 s .1, sym e ∙ t)
+names-bad n s t = simp (fields-first 58 s .1, t)
 
-names-last : (n : ℕ) (s : List ℕ) {b : Bool} → length s ≤ length (upTo 58 s) → b ≡ nameOk (upTo 58 s) → b ≡ true → n + 1 ≡ namesFrom n s
+names-last : (n : ℕ) (s : List ℕ) → length s ≤ length (upTo 58 s) → nameOk (upTo 58 s) ≡ true → n + 1 ≡ namesFrom n s
 unfolding namesFrom all
-names-last n s h e t = simp (fields-last 58 s h, sym e ∙ t)
+names-last n s h t = simp (fields-last 58 s h, t)
 
-names-more : (n : ℕ) (s : List ℕ) {b : Bool} → length (upTo 58 s) < length s → b ≡ nameOk (upTo 58 s) → b ≡ true
-    → namesFrom n s ≡ namesFrom (n + 1) (past 58 s)
+names-more : (n : ℕ) (s : List ℕ) → length (upTo 58 s) < length s → nameOk (upTo 58 s) ≡ true → namesFrom n s ≡ namesFrom (n + 1) (past 58 s)
 unfolding namesFrom all
-names-more n s h e t =
+names-more n s h t =
     let l = length (fields 58 (past 58 s)) in
     let k : n + suc l ≡ n + 1 + l = omega arith in
-    simp (fields-more 58 s h, sym e ∙ t, k)
+    simp (fields-more 58 s h, t, k)
 
--- one name, read from `at`: k bytes long
-module _ (s : List ℕ) (at k : ℕ) (e : k ≡ length (upTo 58 (take (length s - at) (drop at s)))) where
-  rest : k ≡ length (upTo 58 (drop at s))
+-- one name, read from `at`: k bytes long, or of bad form
+module _ (s : List ℕ) (at k : ℕ) (e : k ≡ nameLength (take (length s - at) (drop at s))) where
+  rest : k ≡ nameLength (drop at s)
   rest = rw part-end at e
 
-  pub field-le : at ≤ length s → at + k ≤ length s
-  field-le h = omega (arith, rest, upTo-le 58 (drop at s), length-drop at s)
+  pub names-stop : (n : ℕ) → namesIn s ≡ namesFrom n (drop at s) → k ≡ 0 → 0 ≡ namesIn s
+  names-stop n v z = names-bad n (drop at s) (length-bad (drop at s) (sym rest ∙ z)) ∙ sym v
 
-  module _ (n : ℕ) {b : Bool} (v : namesIn s ≡ namesFrom n (drop at s)) (f : b ≡ nameOk (take (at + k - at) (drop at s))) where
-    named : b ≡ nameOk (upTo 58 (drop at s))
-    named = rw (part-upTo 58 s at k rest) at f
+  module _ (f : k ≡ 0 → ⊥) where
+    good : (nameOk (upTo 58 (drop at s)) ≡ true) × (nameLength (drop at s) ≡ length (upTo 58 (drop at s)))
+    good = length-good (drop at s) (λ z. f (rest ∙ z))
 
-    pub names-stop : b ≡ false → 0 ≡ namesIn s
-    names-stop t = names-bad n (drop at s) named t ∙ sym v
+    pub field-le : at ≤ length s → at + k ≤ length s
+    field-le h = omega (arith, rest, good .1, upTo-le 58 (drop at s), length-drop at s)
 
-    pub names-step : b ≡ true → at + k < length s → namesIn s ≡ namesFrom (n + 1) (drop (at + k + 1) s)
-    names-step t h =
-        v ∙ names-more n (drop at s) (omega (arith, rest, length-drop at s)) named t ∙ ap (namesFrom (n + 1)) (sym (past-at 58 s at k rest))
+    module _ (n : ℕ) (v : namesIn s ≡ namesFrom n (drop at s)) where
+      pub names-step : at + k < length s → namesIn s ≡ namesFrom (n + 1) (drop (at + k + 1) s)
+      names-step h =
+          v ∙ names-more n (drop at s) (omega (arith, rest, good .1, length-drop at s)) (good .0)
+          ∙ ap (namesFrom (n + 1)) (sym (past-at 58 s at k (rest ∙ good .1)))
 
-    pub names-done : b ≡ true → length s ≤ at + k → n + 1 ≡ namesIn s
-    names-done t h = names-last n (drop at s) (omega (arith, rest, length-drop at s)) named t ∙ sym v
+      pub names-done : length s ≤ at + k → n + 1 ≡ namesIn s
+      names-done h = names-last n (drop at s) (omega (arith, rest, good .1, length-drop at s)) (good .0) ∙ sym v
 
 -- the forms, by the number of names
 pub rest-names : (s : List ℕ) {n : ℕ} → n ≡ namesIn s → leb 2 n ≡ restOk s

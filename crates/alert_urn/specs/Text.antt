@@ -20,6 +20,11 @@ all p (x ∷ xs) = p x && all p xs
 unfoldable pub labelByte : ℕ → Bool
 labelByte b = within 97 122 b || (within 65 90 b || (within 48 57 b || eqb b 45))
 
+-- how many bytes at the front may stand in a label
+unfoldable pub labelRun : List ℕ → ℕ
+labelRun [] = 0
+labelRun (x ∷ xs) = cond (labelByte x) (suc (labelRun xs)) 0
+
 -- 1 to 27 letters, digits and hyphens, with no hyphen first or last
 unfoldable pub labelOk : List ℕ → Bool
 labelOk s =
@@ -39,6 +44,10 @@ past c (x ∷ xs) = cond (eqb x c) xs (past c xs)
 -- a category or part: a label, or a label, `@` (64) and a label
 unfoldable pub nameOk : List ℕ → Bool
 nameOk s = labelOk s || (labelOk (upTo 64 s) && labelOk (past 64 s))
+
+-- how long the name up to the first colon or the end is, or 0 if it is of bad form
+unfoldable pub nameLength : List ℕ → ℕ
+nameLength s = cond (nameOk (upTo 58 s)) (length (upTo 58 s)) 0
 
 -- a byte put before the first of some texts
 unfoldable pub onFirst : ℕ → List (List ℕ) → List (List ℕ)

@@ -2,7 +2,7 @@ ghost use mathlib.Core.Path.{_≡_};
 ghost use Prim.Native.Nat.{_≤_, _<_, _+_};
 ghost use lib.ListN.{length, take, drop, getD};
 ghost use Rattle.resolution.specs.Names.{sameName};
-ghost use Rattle.alert_urn.specs.Text.{within, labelByte, all, labelOk, upTo, past, nameOk, covers, wordOf};
+ghost use Rattle.alert_urn.specs.Text.{within, labelByte, labelRun, labelOk, upTo, past, nameOk, nameLength, covers, wordOf};
 
 // lo ≤ x ≤ hi
 pub fn in_range(x: u8, lo: u8, hi: u8) -> bool
@@ -30,26 +30,26 @@ pub fn label_byte(b: u8) -> bool
     b == 45
 }
 
-// Every byte may stand in a label.
-pub fn label_bytes(s: &[u8]) -> bool
-    ensures { λ r. ⌜ r ≡ all labelByte (now (s .entry)) ⌝ }
+// How many bytes at the front may stand in a label.
+pub fn label_run(s: &[u8]) -> usize
+    ensures { λ r. ⌜ r ≡ labelRun (now (s .entry)) ⌝ }
 {
     let mut i = 0;
     while i < s.len() {
         if label_byte(s[i]) {
             i += 1;
         } else {
-            return false;
+            return i;
         }
     }
-    true
+    i
 }
 
-// A label: 1 to 27 letters, digits and hyphens, no hyphen first or last.
-pub fn label(s: &[u8]) -> bool
-    ensures { λ r. ⌜ r ≡ labelOk (now (s .entry)) ⌝ }
+// The n bytes at the front that may stand in a label are one: 1 to 27, no hyphen first or last.
+fn run_label(s: &[u8], n: usize) -> bool
+    requires { ⌜ n ≡ labelRun (now s) ⌝ }
+    ensures { λ r. ⌜ r ≡ labelOk (take n (now (s .entry))) ⌝ }
 {
-    let n = s.len();
     if n < 1 {
         return false;
     }
@@ -63,7 +63,18 @@ pub fn label(s: &[u8]) -> bool
     if s[last] == 45 {
         return false;
     }
-    label_bytes(s)
+    true
+}
+
+// A label: 1 to 27 letters, digits and hyphens, no hyphen first or last.
+pub fn label(s: &[u8]) -> bool
+    ensures { λ r. ⌜ r ≡ labelOk (now (s .entry)) ⌝ }
+{
+    let k = label_run(s);
+    if k == s.len() {
+        return run_label(s, k);
+    }
+    false
 }
 
 // How many bytes stand before the first c.
@@ -98,6 +109,34 @@ pub fn name(s: &[u8]) -> bool
         return false;
     }
     false
+}
+
+// How long the name up to the first colon or the end is, or 0 if it is of bad form.
+fn any_name_end(s: &[u8]) -> usize
+    ensures { λ r. ⌜ r ≡ nameLength (now (s .entry)) ⌝ }
+{
+    let a = 0;
+    let e = find(s, 58);
+    if name(&s[a..e]) {
+        return e;
+    }
+    0
+}
+
+// The same, with one look at each byte where the name has no `@`.
+pub fn name_end(s: &[u8]) -> usize
+    ensures { λ r. ⌜ r ≡ nameLength (now (s .entry)) ⌝ }
+{
+    let k = label_run(s);
+    if k < s.len() {
+        if s[k] != 58 {
+            return any_name_end(s);
+        }
+    }
+    if run_label(s, k) {
+        return k;
+    }
+    0
 }
 
 // The len bytes from at, as far as the table has them.
@@ -182,21 +221,17 @@ pub fn covers(p: &[u8], w: &[u8]) -> bool
 {
     let n = p.len();
     let m = w.len();
-    let mut i = 0;
-    while i < n {
-        if m <= i {
-            return false;
-        }
-        if p[i] == w[i] {
-            i += 1;
-        } else {
-            return false;
-        }
+    if n == m {
+        return same(p, w);
     }
-    if m <= i {
-        return true;
+    if m < n {
+        return false;
     }
-    w[i] == 58
+    if w[n] == 58 {
+        let a = 0;
+        return same(p, &w[a..n]);
+    }
+    false
 }
 
 // The bytes before the first colon.

@@ -16,12 +16,15 @@ pub fn lower_of(x: u8) -> u8
     x
 }
 
-// The URI begins with `urn:alert:`, in any letter case.
+// The URI begins with `urn:alert:`, in any letter case. Small letters are the usual case: they are compared at once.
 pub fn begins_alert(s: &[u8]) -> bool
     ensures { λ r. ⌜ r ≡ begins (bytes "urn:alert:") (now (s .entry)) ⌝ }
 {
     let n = s.len();
     let scheme = SCHEME;
+    if crate::text::same(crate::text::part(s, 0, 10), &scheme) {
+        return true;
+    }
     let mut i = 0;
     while i < 10 {
         if n <= i {
@@ -46,16 +49,16 @@ pub fn names(s: &[u8]) -> usize
     let mut at = 0;
     let mut count: usize = 0;
     while at <= n {
-        let end = at + crate::text::find(&s[at..n], 58);
-        if crate::text::name(&s[at..end]) {
-            count += 1;
-            if end < n {
-                at = end + 1;
-            } else {
-                return count;
-            }
-        } else {
+        let k = crate::text::name_end(&s[at..n]);
+        if k == 0 {
             return 0;
+        }
+        count += 1;
+        let end = at + k;
+        if end < n {
+            at = end + 1;
+        } else {
+            return count;
         }
     }
     0

@@ -1,13 +1,12 @@
 -- The step by numbers and the two steps of the theory: direct resolution's, at a used URN, and the machine's, at a symbol.
-use Prim.Native.Nat.{ℕ, zero, suc, _+_, _*_, _^_, _≤_, _<_}
-use mathlib.Core.Path.{_≡_, refl, sym, ap, ap₂, _∙_}
-use mathlib.Core.Logic.{_⊎_, inl, inr}
-use mathlib.Core.Bool.{Bool, true, false, not}
+use Prim.Native.Nat.{ℕ, zero, suc, _^_, _<_}
+use mathlib.Core.Path.{_≡_, refl, sym, ap, _∙_}
+use mathlib.Core.Bool.{not}
 use mathlib.Core.List.{List, [], _∷_}
-use lib.ListN.{length, getD, replicate}
+use lib.ListN.{length, replicate}
 use native.Mathlib.Omega.{arith}
 use native.Mathlib.Nat.{pow-succ'}
-use Rattle.resolution.specs.Names.{Parts, sameParts}
+use Rattle.resolution.specs.Names.{sameParts}
 use Rattle.resolution.specs.Table.{Urn, Table, WellFormed}
 use Rattle.resolution.specs.Nodes.{nodes, RootOrNode, deepest}
 use Rattle.resolution.proofs.TableStep.{table-laws}

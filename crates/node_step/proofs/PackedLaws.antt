@@ -1,13 +1,12 @@
 -- Laws of packed rows and of shut sets: reading and changing one entry.
-use Prim.Native.Nat.{ℕ, zero, suc, _+_, _-_, _*_, _/_, _%_, _^_, _≤_, _<_}
-use mathlib.Core.Path.{_≡_, refl, sym, ap, ap₂, _∙_}
+use Prim.Native.Nat.{ℕ, zero, suc, _+_, _-_, _*_, _/_, _%_, _^_, _<_}
+use mathlib.Core.Path.{_≡_, refl, ap₂}
 use mathlib.Core.Bool.{Bool, true, false}
 use mathlib.Core.List.{List, [], _∷_}
 use lib.ListN.{getD, length, set}
 use lib.Pow.{pow-add}
-use lib.Dec.{eqb}
 use native.Mathlib.Omega.{arith}
-use native.Mathlib.Nat.{zero-div, zero-mod, div-div-eq-div-mul, pow-succ', mul-left-comm}
+use native.Mathlib.Nat.{zero-div, div-div-eq-div-mul, pow-succ', mul-left-comm}
 use Rattle.resolution.specs.Direct.{Status, Open, Shut}
 use Rattle.node_step.specs.Step.{bits, isShut, digit, put}
 use Rattle.node_step.specs.Arrays.{pack}

@@ -1,21 +1,21 @@
 -- The step at a node's number is the theory's step at the node.
-use Prim.Native.Nat.{ℕ, zero, suc, _+_, _-_, _*_, _^_, _≤_, _<_}
+use Prim.Native.Nat.{ℕ, zero, suc, _+_, _-_, _≤_, _<_}
 use mathlib.Core.Path.{_≡_, refl, sym, ap, ap₂, _∙_}
 use mathlib.Core.Logic.{_⊎_, inl, inr, _≢_}
-use mathlib.Core.Bool.{Bool, true, false, cond, not, _&&_, and-false, true≢false, false≢true}
+use mathlib.Core.Bool.{Bool, true, false, cond, not, _&&_, and-false, true≢false}
 use mathlib.Core.Option.{Option, none, some}
 use mathlib.Core.List.{List, [], _∷_, _++_, append-assoc, append-nil}
-use lib.Dec.{eqb, ltb, leb}
+use lib.Dec.{eqb, ltb}
 use borrow.Author.Tests.{eqb-true, eq-eqb, ne-eqb, lt-ltb, le-leb, lt-leb}
-use lib.ListN.{length, getD, set, take, drop, length-append, length-set, take-append-drop}
-use lib.Seq.{set-getD, getD-set-same, getD-set-other}
+use lib.ListN.{length, getD, set, length-append, length-set}
+use lib.Seq.{set-getD}
 use native.Mathlib.Omega.{arith}
-use native.Mathlib.Nat.{add-zero, zero-add}
-use Rattle.resolution.specs.Names.{Name, Parts, sameParts, below, longer, candidates}
+use native.Mathlib.Nat.{zero-add}
+use Rattle.resolution.specs.Names.{Name, Parts, sameParts, below, candidates}
 use Rattle.resolution.proofs.Names.{parts-exact, row-exact, below-to, below-self, snoc-view, candidates-snoc, someBelow, above-none, above-snoc}
-use Rattle.resolution.specs.Table.{Urn, urn, Table, Row, rowFrom, rowOf, sameRow, findFrom, find, WellFormed}
+use Rattle.resolution.specs.Table.{Table, Row, rowOf, sameRow, find, WellFormed}
 use Rattle.resolution.proofs.Table.{row-length, find-below}
-use Rattle.resolution.specs.Nodes.{sameUrn, member, nodes, isNode, RootOrNode}
+use Rattle.resolution.specs.Nodes.{nodes, isNode, RootOrNode}
 use Rattle.resolution.proofs.Nodes.{row-nodes}
 use Rattle.resolution.proofs.TableStep.{table-laws}
 use Rattle.resolution.specs.Nodes.{number, nodeAt}
@@ -28,9 +28,9 @@ use Rattle.resolution.proofs.Step.{Valid, hit-node}
 use Rattle.resolution.specs.NodeStep.{nodeUnder, nodeTakes, nodeMove, nodeIfTaken, nodeStep}
 use Rattle.node_step.specs.declared.State.{State}
 use Rattle.node_step.specs.declared.Hit.{Hit}
-use Rattle.node_step.specs.Step.{bits, coded, few, isShut, withShut, digit, put, rowAt, parentOf, reaches, findRow, noHit, hitAt, seek, takes, moved, stepNumbers}
+use Rattle.node_step.specs.Step.{bits, coded, few, withShut, digit, put, rowAt, parentOf, reaches, findRow, noHit, hitAt, seek, takes, moved, stepNumbers}
 use Rattle.node_step.specs.Arrays.{pack, numbersFrom, Numbers}
-use Rattle.node_step.proofs.PackedLaws.{Bytes, pack-digit, pack-set, pack-same, shutTest, bit-at, bit-set}
+use Rattle.node_step.proofs.PackedLaws.{pack-digit, pack-set, pack-same, shutTest, bit-at, bit-set}
 use Rattle.node_step.proofs.NumberLaws.{numbers-length, numbers-at, numbers-set, numbers-bytes, Anchored, numbers-same, foundRow, finds}
 
 module _ (rows ps : List ℕ) (n : ℕ) (t : Table) (wf : WellFormed t) (nu : Numbers rows ps n t) (c : ℕ) (known : c < t .cats) where

@@ -1,5 +1,4 @@
 ghost use mathlib.Core.Path.{_≡_};
-ghost use mathlib.Core.Bool.{cond};
 ghost use Prim.Native.Nat.{_≤_, _<_};
 ghost use Rattle.node_step.specs.Arrays.{stretch};
 ghost use Rattle.node_step.specs.Uses.{findName, nodeCovers, lastNode, wholeAt, fewer, usesOf};
@@ -76,16 +75,6 @@ fn node_covers<'a>(
     false
 }
 
-// One of two numbers.
-fn pick(b: bool, x: u8, y: u8) -> u8
-    ensures { λ r. ⌜ r ≡ cond b x y ⌝ }
-{
-    if b {
-        return x;
-    }
-    y
-}
-
 // The number of the last of the n nodes of category c that is w or above it, or 0.
 fn last_node<'a>(
     t: &[u8],
@@ -98,19 +87,18 @@ fn last_node<'a>(
 ) -> u8
     requires { ⌜ n ≤ 64 ⌝ }
     ensures { λ r. ⌜
-        (r ≡ lastNode (now (t .entry)) (now (category .entry)) (now (at .entry)) (now (len .entry)) c (now (w .entry)) 0 0 n) × (r ≤ 64)
+        (r ≡ lastNode (now (t .entry)) (now (category .entry)) (now (at .entry)) (now (len .entry)) c (now (w .entry)) n) × (r ≤ 64)
         ⌝ }
 {
-    let mut best: u8 = 0;
-    let mut next: u8 = 0;
-    let mut i = 0;
-    while i < n {
-        let b = node_covers(t, category, at, len, c, w, i);
-        next += 1;
-        i += 1;
-        best = pick(b, next, best);
+    let mut i = n;
+    while 0 < i {
+        let k = i - 1;
+        if node_covers(t, category, at, len, c, w, k) {
+            return i as u8;
+        }
+        i = k;
     }
-    best
+    0
 }
 
 // The node with number k is w.

@@ -1,5 +1,4 @@
 use Rattle.node_step.proofs.StepLaws.{takes-open, step-out, step-stay, step-goes}
-use native.Mathlib.Omega.{arith}
 use borrow.Author.Needs.{needs}
 use Rattle.node_step.proofs.step.Statement.{statement}
 use Rattle.node_step.proofs.step.Tie as tie

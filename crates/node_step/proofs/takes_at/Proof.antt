@@ -1,5 +1,5 @@
 use Rattle.node_step.specs.Step.{takes}
-use mathlib.Core.Path.{_≡_, refl, sym, _∙_}
+use mathlib.Core.Path.{sym, _∙_}
 use borrow.Author.Needs.{needs}
 use Rattle.node_step.proofs.takes_at.Statement.{statement}
 use Rattle.node_step.proofs.takes_at.Tie as tie

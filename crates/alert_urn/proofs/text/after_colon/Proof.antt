@@ -1,4 +1,3 @@
-use native.Mathlib.Omega.{arith}
 use Rattle.alert_urn.proofs.Turns.{after-end, after-none}
 use borrow.Author.Needs.{needs}
 use Rattle.alert_urn.proofs.text.after_colon.Statement.{statement}

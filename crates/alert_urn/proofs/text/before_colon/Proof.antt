@@ -1,9 +1,6 @@
 use native.Mathlib.Omega.{arith}
-use mathlib.Core.Path.{_≡_, _∙_, ap}
-use native.Mathlib.Nat.{sub-zero}
-use lib.ListN.{take}
 use Rattle.alert_urn.proofs.Turns.{before-end}
-use Rattle.alert_urn.proofs.Fields.{upTo-le, upTo-take}
+use Rattle.alert_urn.proofs.Fields.{upTo-le}
 use borrow.Author.Needs.{needs}
 use Rattle.alert_urn.proofs.text.before_colon.Statement.{statement}
 use Rattle.alert_urn.proofs.text.before_colon.Tie as tie

@@ -1,67 +1,52 @@
 use native.Mathlib.Omega.{arith}
-use Prim.Native.Nat.{_≤_, _-_}
-use mathlib.Core.Path.{_≡_, refl}
-use lib.ListN.{drop, length}
-use Rattle.alert_urn.specs.Text.{covers}
-use Rattle.alert_urn.proofs.Fields.{coversBytes, covers-fields}
-use Rattle.alert_urn.proofs.Turns.{covers-short, covers-more, covers-less, covers-end, covers-colon}
+use Rattle.alert_urn.proofs.Turns.{covers-equal, covers-long, covers-colon, covers-inside}
 use borrow.Author.Needs.{needs}
 use Rattle.alert_urn.proofs.text.covers.Statement.{statement}
 use Rattle.alert_urn.proofs.text.covers.Tie as tie
 
-abbrev Inv-loop : tie.InvT-loop
-Inv-loop p w n m i₀ i = (i ≤ length p) × (covers p w ≡ coversBytes (drop i p) (drop i w))
+same-requires : tie.Need-same-requires
+same-requires c κs = search needs
 
-abbrev μ-loop : tie.MeasureT-loop
-μ-loop p w n m i₀ i = length p - i
+returns : tie.Need-returns
+returns c = covers-equal _ _ (c .before .if1 .taken) (c .same .ensures)
 
-loop-holds : tie.Need-loop-holds Inv-loop μ-loop
-loop-holds c = (omega arith, covers-fields _ _)
+returns-2 : tie.Need-returns-2
+returns-2 c = covers-long _ _ (c .if2 .taken)
 
-returns : tie.Need-returns Inv-loop μ-loop
-returns c = covers-short (c .before .before .before .args .p .now) (c .before .before .before .args .w .now) (c .before .before .loop .i) (c .before .before .loop .inv .1) (c .before .loop-test .taken) (c .if1 .taken)
+shared-slice-read-if3 : tie.Need-shared-slice-read-if3
+shared-slice-read-if3 c = search needs
 
-shared-slice-read-if2 : tie.Need-shared-slice-read-if2 Inv-loop μ-loop
-shared-slice-read-if2 c = search needs
+sub-same : tie.Need-sub-same
+sub-same c = search needs
 
-shared-slice-read-if2-2 : tie.Need-shared-slice-read-if2-2 Inv-loop μ-loop
-shared-slice-read-if2-2 c = search needs
+part-same-start : tie.Need-part-same-start
+part-same-start c = search needs
 
-add-i : tie.Need-add-i Inv-loop μ-loop
-add-i c = search needs
+part-same-end : tie.Need-part-same-end
+part-same-end c = search needs
 
-loop-less : tie.Need-loop-less Inv-loop μ-loop
-loop-less c = search needs
+same-requires-2 : tie.Need-same-requires-2
+same-requires-2 c κs = search needs
 
-loop-again : tie.Need-loop-again Inv-loop μ-loop
-loop-again c = (omega arith, covers-more (c .before .before .before .before .before .before .args .p .now) (c .before .before .before .before .before .before .args .w .now) (c .before .before .before .before .before .loop .i) (c .before .before .before .before .before .loop .inv .1) (c .before .before .before .before .loop-test .taken) (c .before .before .before .if1 .left) (c .if2 .taken))
+returns-3 : tie.Need-returns-3
+returns-3 c = let a = c .before .before .before .before .before .before .before .before .args in
+    covers-colon (a .p .now) (a .w .now) (omega arith) (c .before .before .if3 .taken) (c .same2 .ensures)
 
-returns-2 : tie.Need-returns-2 Inv-loop μ-loop
-returns-2 c = covers-less (c .before .before .before .before .before .before .args .p .now) (c .before .before .before .before .before .before .args .w .now) (c .before .before .before .before .before .loop .i) (c .before .before .before .before .before .loop .inv .1) (c .before .before .before .before .loop-test .taken) (c .before .before .before .if1 .left) (c .if2 .left)
-
-returns-3 : tie.Need-returns-3 Inv-loop μ-loop
-returns-3 c = covers-end (c .before .before .before .args .p .now) (c .before .before .before .args .w .now) (c .before .before .loop .i) (c .before .before .loop .inv .1) (c .before .loop-test .left) (c .if3 .taken)
-
-shared-slice-read-result : tie.Need-shared-slice-read-result Inv-loop μ-loop
-shared-slice-read-result c = search needs
-
-returns-4 : tie.Need-returns-4 Inv-loop μ-loop
-returns-4 c = covers-colon (c .before .before .before .before .args .p .now) (c .before .before .before .before .args .w .now) (c .before .before .before .loop .i) (c .before .before .before .loop .inv .1) (c .before .before .loop-test .left) (c .before .if3 .left)
+returns-4 : tie.Need-returns-4
+returns-4 c = let a = c .before .before .before .before .before .before .args in
+    covers-inside (a .p .now) (a .w .now) (omega arith) (c .if3 .left)
 
 pub covers-spec : {M : Type 1} → statement M
 covers-spec =
     tie.close
     (tie.spec
-    Inv-loop
-    μ-loop
-    loop-holds
+    same-requires
     returns
-    shared-slice-read-if2
-    shared-slice-read-if2-2
-    add-i
-    loop-less
-    loop-again
     returns-2
+    shared-slice-read-if3
+    sub-same
+    part-same-start
+    part-same-end
+    same-requires-2
     returns-3
-    shared-slice-read-result
     returns-4)

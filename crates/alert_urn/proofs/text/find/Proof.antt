@@ -1,10 +1,10 @@
 use native.Mathlib.Omega.{arith}
 use Prim.Native.Nat.{_≤_, _-_, _+_}
-use lib.ListN.{length, drop, getD}
+use lib.ListN.{length, drop}
 use Rattle.alert_urn.specs.Text.{upTo}
 use Rattle.alert_urn.proofs.Turns.{upTo-hit, upTo-miss, upTo-end}
 use borrow.Author.Tests.{eq-eqb, ne-eqb}
-use mathlib.Core.Path.{_≡_, refl, ap, sym, _∙_}
+use mathlib.Core.Path.{_≡_}
 use borrow.Author.Needs.{needs}
 use Rattle.alert_urn.proofs.text.find.Statement.{statement}
 use Rattle.alert_urn.proofs.text.find.Tie as tie

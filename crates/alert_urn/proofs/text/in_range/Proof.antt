@@ -1,6 +1,4 @@
 use borrow.Author.Tests.{lt-leb, le-leb}
-use native.Mathlib.Omega.{arith}
-use mathlib.Core.Path.{_≡_, refl, ap, sym, _∙_}
 use Rattle.alert_urn.proofs.text.in_range.Statement.{statement}
 use Rattle.alert_urn.proofs.text.in_range.Tie as tie
 

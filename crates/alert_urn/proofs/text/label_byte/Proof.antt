@@ -1,6 +1,5 @@
-use Rattle.alert_urn.specs.Text.{labelByte, labelOk, all}
-use native.Mathlib.Omega.{arith}
-use mathlib.Core.Path.{_≡_, refl, ap, sym, _∙_}
+use Rattle.alert_urn.specs.Text.{labelByte}
+use mathlib.Core.Path.{sym, _∙_}
 use borrow.Author.Needs.{needs}
 use Rattle.alert_urn.proofs.text.label_byte.Statement.{statement}
 use Rattle.alert_urn.proofs.text.label_byte.Tie as tie

@@ -1,7 +1,6 @@
 use Rattle.alert_urn.specs.Text.{nameOk}
 use Rattle.alert_urn.proofs.Turns.{name-second, name-first, name-none}
-use native.Mathlib.Omega.{arith}
-use mathlib.Core.Path.{_≡_, refl, ap, sym, _∙_}
+use mathlib.Core.Path.{sym, _∙_}
 use borrow.Author.Needs.{needs}
 use Rattle.alert_urn.proofs.text.name.Statement.{statement}
 use Rattle.alert_urn.proofs.text.name.Tie as tie

@@ -2,8 +2,7 @@ use native.Mathlib.Nat.{add-sub-cancel-left}
 use lib.ListN.{take, drop}
 use Prim.Native.Nat.{ℕ}
 use Rattle.alert_urn.proofs.Turns.{part-none, part-all}
-use native.Mathlib.Omega.{arith}
-use mathlib.Core.Path.{_≡_, refl, ap, sym, _∙_}
+use mathlib.Core.Path.{refl, ap}
 use borrow.Author.Needs.{needs}
 use Rattle.alert_urn.proofs.text.part.Statement.{statement}
 use Rattle.alert_urn.proofs.text.part.Tie as tie

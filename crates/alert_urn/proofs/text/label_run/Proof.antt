@@ -1,16 +1,15 @@
 use native.Mathlib.Omega.{arith}
-use Prim.Native.Nat.{_≤_, _<_, _-_}
-use mathlib.Core.Bool.{true, false}
-use lib.ListN.{length, drop, getD}
-use Rattle.alert_urn.specs.Text.{labelByte, all}
-use Rattle.alert_urn.proofs.Turns.{all-more, all-less, all-end}
-use mathlib.Core.Path.{_≡_, refl, ap, sym, _∙_}
+use Prim.Native.Nat.{_≤_, _+_, _-_}
+use lib.ListN.{length, drop}
+use Rattle.alert_urn.specs.Text.{labelRun}
+use Rattle.alert_urn.proofs.Runs.{run-more, run-stop, run-end}
+use mathlib.Core.Path.{_≡_}
 use borrow.Author.Needs.{needs}
-use Rattle.alert_urn.proofs.text.label_bytes.Statement.{statement}
-use Rattle.alert_urn.proofs.text.label_bytes.Tie as tie
+use Rattle.alert_urn.proofs.text.label_run.Statement.{statement}
+use Rattle.alert_urn.proofs.text.label_run.Tie as tie
 
 abbrev Inv-loop : tie.InvT-loop
-Inv-loop s i₀ i = (i ≤ length s) × (all labelByte s ≡ all labelByte (drop i s))
+Inv-loop s i₀ i = (i ≤ length s) × (labelRun s ≡ i + labelRun (drop i s))
 
 abbrev μ-loop : tie.MeasureT-loop
 μ-loop s i₀ i = length s - i
@@ -34,19 +33,19 @@ loop-again : tie.Need-loop-again Inv-loop μ-loop
 loop-again c =
     let i = c .before .before .before .before .loop .i in
     let s = c .before .before .before .before .before .before .args .s .now in
-    (omega arith, all-more labelByte s i (c .before .before .before .before .loop .inv .1) (search needs) (c .before .label-byte .ensures) (c .if1 .taken))
+    omega (arith, c .before .before .before .before .loop .inv .1, run-more s i (search needs) (c .before .label-byte .ensures) (c .if1 .taken))
 
 returns : tie.Need-returns Inv-loop μ-loop
 returns c =
     let i = c .before .before .before .before .loop .i in
     let s = c .before .before .before .before .before .before .args .s .now in
-    all-less labelByte s i (c .before .before .before .before .loop .inv .1) (search needs) (c .before .label-byte .ensures) (c .if1 .left)
+    omega (arith, c .before .before .before .before .loop .inv .1, run-stop s i (search needs) (c .before .label-byte .ensures) (c .if1 .left))
 
 returns-2 : tie.Need-returns-2 Inv-loop μ-loop
-returns-2 c = sym (c .before .loop .inv .1 ∙ all-end labelByte (c .before .before .before .args .s .now) (c .before .loop .i) (search needs) (search needs))
+returns-2 c = omega (arith, c .before .loop .inv .1, run-end (c .before .before .before .args .s .now) (c .before .loop .i) (search needs) (search needs))
 
-pub label-bytes-spec : {M : Type 1} → statement M
-label-bytes-spec =
+pub label-run-spec : {M : Type 1} → statement M
+label-run-spec =
     tie.close
     (tie.spec
     Inv-loop

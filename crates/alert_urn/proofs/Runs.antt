@@ -1,0 +1,147 @@
+-- Laws of the label bytes at the front of a text: they are the whole name where a colon or the end follows.
+use Prim.Native.Nat.{ℕ, suc, _+_, _-_, _≤_, _<_}
+use mathlib.Core.Path.{_≡_, refl, ap, sym, _∙_}
+use mathlib.Core.Bool.{Bool, true, false, cond, not, _&&_, and-true, and-false, and-eq-true-iff, or-false, false≢true}
+use mathlib.Core.List.{List, [], _∷_}
+use native.Mathlib.Numerals.{add-one}
+use native.Mathlib.Omega.{arith}
+use native.Mathlib.Nat.{sub-zero}
+use lib.ListN.{length, getD, take, drop}
+use lib.Seq.{drop-cons, drop-length, take-all, length-take-le, getD-take}
+use lib.Dec.{eqb, leb}
+use borrow.Author.Tests.{eq-eqb, ne-eqb, leb-true}
+use Rattle.alert_urn.specs.Text.{all, within, labelByte, labelRun, labelOk, upTo, past, nameOk, nameLength}
+use Rattle.alert_urn.proofs.Fields.{byTest, upTo-take}
+
+-- the run, one byte further
+pub run-more : (s : List ℕ) (i : ℕ) {b : Bool} → i < length s → b ≡ labelByte (getD s i 0) → b ≡ true → labelRun (drop i s) ≡ suc (labelRun (drop (i + 1) s))
+unfolding labelRun
+run-more s i h e t = rw (add-one, drop-cons s i 0, ← e, t)
+
+pub run-stop : (s : List ℕ) (i : ℕ) {b : Bool} → i < length s → b ≡ labelByte (getD s i 0) → b ≡ false → labelRun (drop i s) ≡ 0
+unfolding labelRun
+run-stop s i h e t = rw (drop-cons s i 0, ← e, t)
+
+pub run-end : (s : List ℕ) (i : ℕ) → length s ≤ i → i ≤ length s → labelRun (drop i s) ≡ 0
+unfolding labelRun
+run-end s i h k = let e : i ≡ length s = omega arith in rw (e, drop-length)
+
+-- the run ends within the text
+pub run-le : (s : List ℕ) → labelRun s ≤ length s
+unfolding labelRun
+run-le [] = omega arith
+run-le (x ∷ xs) = byTest (labelByte x) (λ e. simp e (omega (arith, run-le xs))) (λ e. simp e (omega arith))
+
+-- its bytes may stand in a label
+run-all : (s : List ℕ) → all labelByte (take (labelRun s) s) ≡ true
+unfolding labelRun all
+run-all [] = refl
+run-all (x ∷ xs) = byTest (labelByte x) (λ e. simp (e, run-all xs)) (λ e. simp e)
+
+-- a text that goes on after the run is no label
+run-short : (s : List ℕ) → labelRun s < length s → all labelByte s ≡ false
+unfolding labelRun all
+run-short [] h = absurd (omega arith)
+run-short (x ∷ xs) h =
+    byTest (labelByte x)
+    (λ e. let k : labelRun xs < length xs = omega (arith, simp e at h) in simp (e, run-short xs k))
+    (λ e. simp e)
+
+-- a byte that no label has is none of a label's
+other-byte : (c x : ℕ) → labelByte c ≡ false → labelByte x ≡ true → eqb x c ≡ false
+other-byte c x n e = ne-eqb x c (λ q. false≢true (sym n ∙ ap labelByte (sym q) ∙ e))
+
+-- before a colon or the end the run is what stands up to the colon
+run-upTo : (s : List ℕ) → (labelRun s < length s → getD s (labelRun s) 0 ≡ 58) → upTo 58 s ≡ take (labelRun s) s
+unfolding labelRun upTo labelByte
+run-upTo [] h = refl
+run-upTo (x ∷ xs) h =
+    byTest (labelByte x)
+    (λ e. simp (e, other-byte 58 x refl e) (ap (λ (l : List ℕ). x ∷ l) (run-upTo xs (λ k. simp e at h (omega arith)))))
+    (λ e. simp (e, eq-eqb x 58 (simp e at h (omega arith))))
+
+-- there is no `@` in a label
+no-at : (l : List ℕ) → all labelByte l ≡ true → past 64 l ≡ []
+unfolding all past labelByte
+no-at [] h = refl
+no-at (x ∷ xs) h =
+    let p = and-eq-true-iff (labelByte x) (all labelByte xs) .0 h in
+    simp (other-byte 64 x refl (p .0)) (no-at xs (p .1))
+
+none-label : labelOk [] ≡ false
+unfolding labelOk
+none-label = refl
+
+-- of label bytes a name is a label
+label-name : (l : List ℕ) → all labelByte l ≡ true → nameOk l ≡ labelOk l
+unfolding nameOk
+label-name l h = simp (no-at l h, none-label, and-false, or-false)
+
+-- a name is not empty
+name-some : (l : List ℕ) → nameOk l ≡ true → 0 < length l
+unfolding nameOk labelOk upTo past
+name-some [] h = absurd (false≢true h)
+name-some (x ∷ xs) h = omega arith
+
+module _ (s : List ℕ) (n : ℕ) (e : n ≡ labelRun s) where
+  pub run-fits : n ≤ length s
+  run-fits = omega (arith, run-le s)
+
+  bytes-fit : all labelByte (take n s) ≡ true
+  bytes-fit = rw e (run-all s)
+
+  -- the run is a label by its length and its ends
+  pub run-label : labelOk (take n s) ≡ (within 1 27 n && (not (eqb (getD s 0 0) 45) && not (eqb (getD s (n - 1) 0) 45)))
+  unfolding labelOk
+  run-label =
+      let l : length (take n s) ≡ n = length-take-le n s run-fits in
+      byTest (leb 1 n)
+      (λ t.
+      let h : 1 ≤ n = leb-true 1 n t in
+      simp (l, bytes-fit, and-true, getD-take n s 0 0 (omega arith), getD-take n s (n - 1) 0 (omega arith)))
+      (λ t. simp (l, t))
+
+  -- a text is a label where it is all run and the run is a label
+  pub all-label : {b : Bool} → n ≡ length s → b ≡ labelOk (take n s) → b ≡ labelOk s
+  all-label h f = f ∙ ap labelOk (take-all n s (omega arith))
+
+  pub part-label : (n ≡ length s → ⊥) → false ≡ labelOk s
+  unfolding labelOk
+  part-label h = sym (simp (run-short s (omega (arith, run-fits)), and-false))
+
+  -- the name at the front is the run where a colon or the end follows
+  module _ (h : n < length s → getD s n 0 ≡ 58) {b : Bool} (f : b ≡ labelOk (take n s)) where
+    run-name : nameLength s ≡ cond b n 0
+    unfolding nameLength
+    run-name =
+        let u : upTo 58 s ≡ take n s = rw (run-upTo s (rw e at h), e) in
+        simp (u, label-name (take n s) bytes-fit, ← f, length-take-le n s run-fits)
+
+    pub run-named : b ≡ true → n ≡ nameLength s
+    run-named t = sym (run-name ∙ simp t)
+
+    pub run-unnamed : b ≡ false → 0 ≡ nameLength s
+    run-unnamed t = sym (run-name ∙ simp t)
+
+-- the name at the front by the bytes up to the first colon
+module _ (s : List ℕ) (k : ℕ) (e : k ≡ length (upTo 58 s)) {b : Bool} (f : b ≡ nameOk (take (k - 0) (drop 0 s))) where
+  front : b ≡ nameOk (upTo 58 s)
+  front = f ∙ ap nameOk (simp (sub-zero, e) (upTo-take 58 s))
+
+  pub front-named : b ≡ true → k ≡ nameLength s
+  unfolding nameLength
+  front-named t = e ∙ sym (simp (← front, t))
+
+  pub front-unnamed : b ≡ false → 0 ≡ nameLength s
+  unfolding nameLength
+  front-unnamed t = sym (simp (← front, t))
+
+-- what the length of a name tells of it
+pub length-bad : (s : List ℕ) → nameLength s ≡ 0 → nameOk (upTo 58 s) ≡ false
+unfolding nameLength
+length-bad s e =
+    byTest (nameOk (upTo 58 s)) (λ t. absurd (omega (arith, name-some (upTo 58 s) t, simp t at e))) (λ t. t)
+
+pub length-good : (s : List ℕ) → (nameLength s ≡ 0 → ⊥) → (nameOk (upTo 58 s) ≡ true) × (nameLength s ≡ length (upTo 58 s))
+unfolding nameLength
+length-good s n = byTest (nameOk (upTo 58 s)) (λ t. (t, simp t)) (λ t. absurd (n (simp t)))
