@@ -1,24 +1,24 @@
 -- A table that none of 4 to 12 refuses is well-formed.
-use Prim.Native.Nat.{ℕ, suc, zero, _+_, _-_, _≤_, _<_}
-use mathlib.Core.Path.{_≡_, refl, ap, ap₂, sym, _∙_, subst}
+use Prim.Native.Nat.{ℕ, suc, zero, _-_, _≤_, _<_}
+use mathlib.Core.Path.{_≡_, refl, ap, sym, _∙_, subst}
 use mathlib.Core.Logic.{_⊎_, inl, inr, _≢_}
-use mathlib.Core.Bool.{Bool, true, false, cond, not, _&&_, _||_, and-eq-true-iff, true≢false, false≢true}
-use mathlib.Core.List.{List, [], _∷_, _++_, map, List·Memᴰ, List·Memᴰ·head, List·Memᴰ·tail, List·Memᴰ·cases-cons, List·Memᴰ·not-nil}
+use mathlib.Core.Bool.{Bool, true, false, cond, not, _&&_, and-eq-true-iff, true≢false, false≢true}
+use mathlib.Core.List.{List, [], _∷_, map, List·Memᴰ, List·Memᴰ·head, List·Memᴰ·tail, List·Memᴰ·cases-cons, List·Memᴰ·not-nil}
 use native.Mathlib.Omega.{arith}
 use lib.ListN.{length, getD, length-append}
-use lib.Dec.{leb, ltb, eqb}
-use borrow.Author.Tests.{leb-true, ltb-true, ltb-false, le-ltb, lt-ltb}
+use lib.Dec.{leb, ltb}
+use borrow.Author.Tests.{leb-true, ltb-true, ltb-false}
 use Rattle.alert_urn.specs.Text.{all, upTo, past, fields, within, nameOk, labelOk}
-use Rattle.alert_urn.specs.Urn.{urnOk, categoryOf, pathOf}
+use Rattle.alert_urn.specs.Urn.{urnOk, categoryOf}
 use Rattle.alert_urn.proofs.Fields.{byTest, fields-first, fields-more, fields-last}
-use Rattle.resolution.specs.Lists.{memberBy, indexBy, Distinct}
-use Rattle.resolution.specs.Names.{Name, Parts, sameName}
-use Rattle.resolution.specs.Table.{Urn, urn, Table, WellFormed, rowOf, sameRow}
+use Rattle.resolution.specs.Lists.{memberBy, indexBy}
+use Rattle.resolution.specs.Names.{Name, sameName}
+use Rattle.resolution.specs.Table.{Urn, urn, Table, rowOf, sameRow}
 use Rattle.resolution.specs.Nodes.{nodes, nodeAt}
 use Rattle.resolution.proofs.Lists.{mem-at, index-member, index-at}
 use Rattle.resolution.proofs.Names.{name-exact, row-exact}
 use Rattle.resolution.proofs.Nodes.{nodes-all}
-use Rattle.stored_table.specs.Stored.{Read, fault, got, andThen, byteIn, text, times, counted, signal, signals, storedFrom, Stored, stored}
+use Rattle.stored_table.specs.Stored.{Read, fault, got, byteIn, text, times, counted, signal, signals, storedFrom, Stored, stored}
 use Rattle.stored_table.specs.Tables.{any, noTwo, formed, uses, isListed, listed, toUrn, tableIn, sameCat, noUrn, single, plain, samePlaces, distinct, fewNodes, verdict, judged, judgedRead, tableRefusal, tableRead, tableOf}
 use Rattle.stored_table.specs.Accepted.{Accepted}
 use Rattle.stored_table.proofs.Readings.{after-got, byte-read, times-length}

@@ -1,24 +1,23 @@
 -- Laws of what the signals have, one after the other.
-use Prim.Native.Nat.{ℕ, suc, zero, _+_, _*_, _-_, _≤_, _<_}
+use Prim.Native.Nat.{ℕ, suc, zero, _+_, _-_, _≤_, _<_}
 use mathlib.Core.Path.{_≡_, refl, ap, ap₂, sym, _∙_, subst}
-use mathlib.Core.Logic.{_⊎_, inl, inr, _≢_}
-use mathlib.Core.Bool.{Bool, true, false, cond, not, _&&_, _||_, and-false, and-true, and-assoc, and-eq-true-iff, true≢false, false≢true}
+use mathlib.Core.Logic.{_≢_}
+use mathlib.Core.Bool.{Bool, true, false, cond, not, _&&_, and-false, and-assoc, and-eq-true-iff, false≢true}
 use mathlib.Core.List.{List, [], _∷_, _++_, map, foldl, foldl-append}
 use native.Mathlib.Omega.{arith}
-use native.Mathlib.Nat.{zero-add}
-use lib.ListN.{length, getD, length-map}
-use lib.Dec.{eqb, leb, ltb}
+use lib.ListN.{length, getD}
+use lib.Dec.{eqb, ltb}
 use borrow.Author.Tests.{eq-eqb, ne-eqb, eqb-true, eqb-false, lt-ltb}
 use Rattle.alert_urn.specs.Text.{all}
 use Rattle.alert_urn.proofs.Fields.{byTest}
 use Rattle.resolution.specs.Lists.{tabulate}
 use Rattle.resolution.specs.Names.{Parts}
-use Rattle.resolution.specs.Table.{Urn, urn, Table, placeIn}
+use Rattle.resolution.specs.Table.{Urn, Table, placeIn}
 use Rattle.resolution.specs.Nodes.{nodes, addUrn, addSignal}
-use Rattle.resolution.proofs.Lists.{tabulate-same, tabulate-length, tabulate-at}
+use Rattle.resolution.proofs.Lists.{tabulate-length, tabulate-at}
 use Rattle.stored_table.specs.Tables.{any, noTwo, sameCat, noUrn}
 use Rattle.stored_table.specs.Held.{Tagged, tag, taggedFrom, joined, sameKey, slotIn}
-use Rattle.stored_table.proofs.Tabulated.{all-join, any-join, two-ends}
+use Rattle.stored_table.proofs.Tabulated.{all-join, any-join}
 
 pub map-tab : {A B : Type 0} (g : A → B) (f : ℕ → A) (n : ℕ) → map g (tabulate f n) ≡ tabulate (λ i. g (f i)) n
 unfolding tabulate

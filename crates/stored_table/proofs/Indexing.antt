@@ -2,24 +2,24 @@
 use Prim.Native.Nat.{ℕ, suc, zero, _+_, _*_, _-_, _≤_, _<_}
 use mathlib.Core.Path.{_≡_, refl, ap, ap₂, sym, _∙_, subst}
 use mathlib.Core.Logic.{_⊎_, inl, inr}
-use mathlib.Core.Bool.{Bool, true, false, cond, _&&_, _||_, and-eq-true-iff, true≢false, false≢true}
+use mathlib.Core.Bool.{Bool, true, false, cond, _&&_, and-eq-true-iff, true≢false}
 use mathlib.Core.List.{List, [], _∷_, _++_}
 use native.Mathlib.Numerals.{add-one}
 use native.Mathlib.Omega.{arith}
 use native.Mathlib.Nat.{sub-zero}
-use lib.ListN.{length, getD, set, take, drop, length-take, length-drop, drop-of-length-le, length-set}
-use lib.Seq.{getD-set-same, getD-set-other, drop-drop, take-all, take-nil}
+use lib.ListN.{length, getD, set, take, drop, length-take, length-drop, drop-of-length-le}
+use lib.Seq.{getD-set-same, getD-set-other, drop-drop, take-nil}
 use lib.Dec.{eqb, ltb}
 use borrow.Author.Tests.{eq-eqb, eqb-true, eqb-false, ne-eqb, ltb-true, ltb-false}
-use Rattle.alert_urn.specs.Text.{all, upTo, past, fields}
+use Rattle.alert_urn.specs.Text.{upTo}
 use Rattle.alert_urn.specs.Urn.{categoryOf, pathOf}
-use Rattle.alert_urn.proofs.Fields.{byTest, upTo-take, upTo-le, past-drop}
+use Rattle.alert_urn.proofs.Fields.{byTest, upTo-take, past-drop}
 use Rattle.resolution.specs.Lists.{tabulate, memberBy, indexBy}
 use Rattle.resolution.specs.Names.{sameName}
 use Rattle.node_step.specs.Arrays.{stretch}
 use Rattle.stored_table.specs.Tables.{any, noTwo, isListed}
 use Rattle.stored_table.specs.Held.{Tagged, tag, Indexed, keyAt, sameKey, slotIn}
-use Rattle.stored_table.proofs.Tabulated.{tab-suc, all-next, all-fails, two-fails, two-next}
+use Rattle.stored_table.proofs.Tabulated.{two-fails, two-next}
 use Rattle.stored_table.proofs.Readings.{stretch-set, stretch-keep}
 
 pub short-part : (t : List ℕ) (a n : ℕ) {r : List ℕ} → r ≡ take n (drop a t) → n < 256 → length r ≤ 255

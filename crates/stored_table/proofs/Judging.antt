@@ -1,15 +1,15 @@
 -- From what the functions answer to the refusal of the table: 4 to 10.
 use Prim.Native.Nat.{ℕ, suc, zero, _+_, _*_, _-_, _/_, _%_, _≤_, _<_}
-use mathlib.Core.Path.{_≡_, refl, ap, ap₂, sym, _∙_, subst}
+use mathlib.Core.Path.{_≡_, refl, ap, ap₂, sym, _∙_}
 use mathlib.Core.Logic.{_≢_}
-use mathlib.Core.Bool.{Bool, true, false, cond, not, _&&_, _||_, and-false, and-true, and-eq-true-iff, true≢false, false≢true}
-use mathlib.Core.List.{List, [], _∷_, _++_, map}
+use mathlib.Core.Bool.{Bool, true, false, cond, not, _&&_, and-false, and-eq-true-iff, false≢true}
+use mathlib.Core.List.{List, [], _∷_, map}
 use native.Mathlib.Omega.{arith}
 use lib.ListN.{length, getD, replicate}
 use lib.Dec.{eqb, leb, ltb}
-use borrow.Author.Tests.{eq-eqb, ne-eqb, eqb-true, eqb-false, lt-ltb, le-ltb}
+use borrow.Author.Tests.{eq-eqb, eqb-true, lt-ltb, le-ltb}
 use Rattle.alert_urn.specs.Text.{all, within, fields, nameOk}
-use Rattle.alert_urn.specs.Urn.{urnOk, categoryOf, pathOf}
+use Rattle.alert_urn.specs.Urn.{urnOk, categoryOf}
 use Rattle.alert_urn.proofs.Fields.{byTest}
 use Rattle.resolution.specs.Lists.{tabulate, memberBy, indexBy, Distinct}
 use Rattle.resolution.specs.Names.{Name, sameName}
@@ -18,7 +18,7 @@ use Rattle.resolution.proofs.Lists.{tabulate-same, tabulate-length, tabulate-at
 use Rattle.resolution.proofs.Names.{name-exact}
 use Rattle.node_step.specs.Arrays.{stretch}
 use Rattle.stored_table.specs.Stored.{Read, fault, got, andThen, byteIn, text, times, counted, signal, storedFrom, Stored, stored}
-use Rattle.stored_table.specs.Tables.{any, noTwo, formed, uses, isListed, listed, toUrn, tableIn, sameCat, single, plain, verdict, judged, judgedRead, tableRefusal, namesRead, categoryNames, tableRead, tableOf}
+use Rattle.stored_table.specs.Tables.{any, noTwo, formed, uses, isListed, listed, toUrn, tableIn, single, plain, verdict, judged, judgedRead, tableRefusal, namesRead, categoryNames, tableRead, tableOf}
 use Rattle.stored_table.specs.Held.{Tagged, tag, taggedFrom, joined, urnAt, pathUrn, keyAt, sameKey, slotIn, Indexed, ReadAs}
 use Rattle.stored_table.specs.Stages.{FormedAs, ListedAs, SlotsAs}
 use Rattle.stored_table.specs.Decoded.{refusedTable, Means}

@@ -1,26 +1,26 @@
 -- Laws of the nodes in their arrays: one is found, or added at the end.
 use Prim.Native.Nat.{ℕ, suc, zero, _+_, _-_, _≤_, _<_}
 use mathlib.Core.Path.{_≡_, refl, ap, ap₂, sym, _∙_, subst}
-use mathlib.Core.Logic.{_⊎_, inl, inr}
-use mathlib.Core.Bool.{Bool, true, false, cond, _&&_, _||_, true≢false, false≢true}
-use mathlib.Core.List.{List, [], _∷_, _++_, foldl, foldl-append, append-assoc, List·Memᴰ, List·Memᴰ·head, List·Memᴰ·tail}
+use mathlib.Core.Logic.{inl, inr}
+use mathlib.Core.Bool.{Bool, true, false}
+use mathlib.Core.List.{List, [], _∷_, _++_, foldl, foldl-append, append-assoc}
 use native.Mathlib.Numerals.{add-one}
 use native.Mathlib.Omega.{arith}
 use lib.ListN.{length, getD, set, take, drop, length-set, length-append, length-take, length-drop}
 use lib.Seq.{getD-set-same, getD-set-other, take-all, getD-drop}
-use lib.Dec.{eqb, ltb}
+use lib.Dec.{eqb}
 use borrow.Author.Tests.{eq-eqb, ne-eqb, eqb-true, eqb-false}
 use Rattle.alert_urn.specs.Text.{upTo, fields}
 use Rattle.alert_urn.proofs.Fields.{byTest, same-fields, upTo-le, upTo-stop, upTo-take, fields-upTo, part-end}
 use Rattle.resolution.specs.Lists.{tabulate, memberBy, indexBy, addBy}
-use Rattle.resolution.specs.Names.{Name, Parts, sameName, sameParts, Above}
+use Rattle.resolution.specs.Names.{Name, Parts, sameName}
 use Rattle.resolution.specs.Table.{Urn, urn, Table}
-use Rattle.resolution.specs.Nodes.{sameUrn, member, isNode, number, nodeAt, nodes, prefixes, addUrn, addSignal, RootOrNode, past as begins}
-use Rattle.resolution.proofs.Lists.{tabulate-length, tabulate-at, tabulate-same, Extends, at-extends, add-extends, extends-trans, extends-self}
+use Rattle.resolution.specs.Nodes.{sameUrn, isNode, number, nodeAt, nodes, prefixes, addUrn, RootOrNode, past as begins}
+use Rattle.resolution.proofs.Lists.{tabulate-length, tabulate-same, Extends, at-extends, add-extends, extends-trans, extends-self}
 use Rattle.resolution.proofs.Nodes.{urn-exact}
 use Rattle.resolution.proofs.Numbers.{number-node, ancestor-node}
 use Rattle.node_step.specs.Arrays.{stretch}
-use Rattle.stored_table.specs.Held.{nodeUrn, pathUrn, Nodes, Numbered, AddedTo, AddsNode, AllAdded}
+use Rattle.stored_table.specs.Held.{nodeUrn, Nodes, Numbered, AddedTo, AddsNode, AllAdded}
 use Rattle.stored_table.specs.declared.nodes.Added.{Added}
 use Rattle.stored_table.proofs.Tabulated.{tab-suc, tab-split, tab-same-end, index-hit}
 use Rattle.stored_table.proofs.Readings.{stretch-set, stretch-keep}

@@ -1,36 +1,36 @@
 -- From the nodes and the slots to the rows: 11, 12, and what the arrays of an accepted table hold.
 use Prim.Native.Nat.{ℕ, suc, zero, _+_, _*_, _-_, _≤_, _<_}
 use mathlib.Core.Path.{_≡_, refl, ap, ap₂, sym, _∙_, subst}
-use mathlib.Core.Logic.{_⊎_, inl, inr, _≢_}
-use mathlib.Core.Bool.{Bool, true, false, cond, not, _&&_, _||_, and-true, and-eq-true-iff, true≢false, false≢true}
+use mathlib.Core.Logic.{inl, inr, _≢_}
+use mathlib.Core.Bool.{Bool, true, false, cond, _&&_, and-eq-true-iff}
 use mathlib.Core.List.{List, [], _∷_, _++_, map, foldl}
 use native.Mathlib.Omega.{arith}
 use native.Mathlib.Nat.{zero-add}
 use lib.ListN.{length, getD, length-append, List·getD-eq-default}
-use lib.Dec.{eqb, leb, ltb}
-use borrow.Author.Tests.{eq-eqb, ne-eqb, eqb-true, eqb-false, le-leb, lt-leb, ltb-true, ltb-false}
+use lib.Dec.{eqb, ltb}
+use borrow.Author.Tests.{eq-eqb, ne-eqb, eqb-true, le-leb, lt-leb, ltb-true, ltb-false}
 use Rattle.alert_urn.specs.Text.{all, fields}
 use Rattle.alert_urn.proofs.Fields.{byTest, same-fields, fields-first}
-use Rattle.resolution.specs.Lists.{tabulate, sameList}
-use Rattle.resolution.specs.Names.{Name, Parts, sameName, sameParts}
+use Rattle.resolution.specs.Lists.{tabulate}
+use Rattle.resolution.specs.Names.{Name, Parts, sameParts}
 use Rattle.resolution.specs.Table.{Urn, urn, Table, Row, placeIn, place, rowFrom, rowOf, sameRow}
 use Rattle.resolution.specs.Nodes.{nodes, number, nodeAt, addUrn, RootOrNode}
-use Rattle.resolution.proofs.Lists.{tabulate-same, tabulate-length, tabulate-at}
+use Rattle.resolution.proofs.Lists.{tabulate-length, tabulate-at}
 use Rattle.resolution.proofs.Names.{row-exact}
-use Rattle.resolution.proofs.Table.{row-at, row-place, row-length}
+use Rattle.resolution.proofs.Table.{row-place, row-length}
 use Rattle.resolution.proofs.Nodes.{row-nodes}
 use Rattle.resolution.proofs.Numbers.{number-at, root-number}
 use Rattle.node_step.specs.Arrays.{stretch, pack, numbersFrom, NamesIn, NodesIn, Numbers}
 use Rattle.node_step.proofs.NumberLaws.{numbers-length, numbers-at, numbers-bytes, numbers-same, Anchored}
 use Rattle.node_step.proofs.PackedLaws.{pack-same}
-use Rattle.stored_table.specs.Tables.{any, noTwo, samePlaces, single, distinct, fewNodes, verdict, tableOf, tableRefusal, categoryNames}
-use Rattle.stored_table.specs.Held.{Tagged, tag, taggedFrom, joined, nodeUrn, pathUrn, keyAt, sameKey, slotIn, Nodes, Numbered, AllAdded, placeNumber, packedFrom, sameSlots, samePlacesAt}
+use Rattle.stored_table.specs.Tables.{noTwo, samePlaces, single, distinct, fewNodes, verdict, tableOf, tableRefusal, categoryNames}
+use Rattle.stored_table.specs.Held.{Tagged, tag, nodeUrn, pathUrn, keyAt, sameKey, slotIn, Nodes, Numbered, AllAdded, placeNumber, packedFrom, sameSlots, samePlacesAt}
 use Rattle.stored_table.specs.Stages.{ListedAs, SlotsAs}
 use Rattle.stored_table.specs.declared.read.Counts.{Counts}
 use Rattle.stored_table.specs.Decoded.{Means}
 use Rattle.stored_table.proofs.Accepting.{accepted, node-parts}
-use Rattle.stored_table.proofs.Tabulated.{same-test, all-join}
-use Rattle.stored_table.proofs.Flat.{map-tab, whatOf, tagged-what, nodes-joined, all-alike, two-alike, tab-list, tab-shift, sameTag, single-tags, firstPlace, first-place, pathIn, keyOf, slot-place, slot-le}
+use Rattle.stored_table.proofs.Tabulated.{same-test}
+use Rattle.stored_table.proofs.Flat.{map-tab, whatOf, tagged-what, nodes-joined, all-alike, two-alike, tab-list, tab-shift, sameTag, single-tags, firstPlace, first-place, pathIn, slot-place}
 
 -- a slot that is taken is its URN's
 pub slot-key : (f : ℕ → Tagged ℕ) (s c n i : ℕ) → slotIn f s c n ≡ suc i → (i < n) × (sameKey (tag s c) (f i) ≡ true)
@@ -125,18 +125,25 @@ module _ (t nameAt nameLen signal category pathAt pathLen slots : List ℕ) (l :
   unfolding verdict
   verdict-11 e = L .refusal ∙ rw (S .once, S .silent, e)
 
-  pub texts-eleven : {b : Bool} → b ≡ noTwo (samePlacesAt t slots pathAt pathLen (l .categories)) (tabulate (λ a. a) (l .signals)) → b ≡ false → tableRefusal t ≡ 11
+  texts-eleven : {b : Bool} → b ≡ noTwo (samePlacesAt t slots pathAt pathLen (l .categories)) (tabulate (λ a. a) (l .signals)) → b ≡ false → tableRefusal t ≡ 11
   texts-eleven e z = verdict-11 (by-texts e ∙ z)
 
   module _ {node cats parents at len : List ℕ} {n : ℕ} (A : AllAdded t (pathUrn t category pathAt pathLen) (l .urns) node cats parents at len n) where
     nodes-are : nodes T ≡ foldl addUrn [] (tabulate (pathUrn t category pathAt pathLen) (l .urns))
     nodes-are = nodes-joined T ∙ ap (foldl addUrn []) (sym (tagged-what 0 (T .signals)) ∙ ap (map whatOf) (sym (L .urns)) ∙ map-tab whatOf tu (l .urns))
 
-    pub twelve : {b : Bool} → 64 < n → b ≡ noTwo (samePlacesAt t slots pathAt pathLen (l .categories)) (tabulate (λ a. a) (l .signals)) → b ≡ true → tableRefusal t ≡ 12
+    twelve : {b : Bool} → 64 < n → b ≡ noTwo (samePlacesAt t slots pathAt pathLen (l .categories)) (tabulate (λ a. a) (l .signals)) → b ≡ true → tableRefusal t ≡ 12
     unfolding verdict fewNodes
     twelve h e z =
         let k : 64 < length (nodes T) = omega (arith, A .over h, ap length nodes-are) in
         L .refusal ∙ rw (S .once, S .silent, by-texts e ∙ z, lt-leb (length (nodes T)) 64 k)
+
+    pub crowded-right : {r : ℕ} → 64 < n → r ≡ cond (noTwo (samePlacesAt t slots pathAt pathLen (l .categories)) (tabulate (λ a. a) (l .signals))) 12 11
+        → (tableRefusal t ≡ r) × (r ≡ 0 → ⊥)
+    crowded-right h e =
+        byTest (noTwo (samePlacesAt t slots pathAt pathLen (l .categories)) (tabulate (λ a. a) (l .signals)))
+        (λ q. let r12 = e ∙ ap (λ b. cond b 12 11) q in (twelve h refl q ∙ sym r12, λ z. omega arith))
+        (λ q. let r11 = e ∙ ap (λ b. cond b 12 11) q in (texts-eleven refl q ∙ sym r11, λ z. omega arith))
 
     module _ (h : n ≤ 64) where
       N : Nodes t cats parents at len n (nodes T)

@@ -1,7 +1,7 @@
 -- Laws of the readings, one step further.
 use Prim.Native.Nat.{ℕ, suc, zero, _+_, _-_, _≤_, _<_}
 use mathlib.Core.Path.{_≡_, refl, ap, ap₂, sym, _∙_, subst}
-use mathlib.Core.Bool.{Bool, true, false, cond, _&&_, and-false, and-eq-true-iff}
+use mathlib.Core.Bool.{true, false, and-false, and-eq-true-iff, false≢true}
 use mathlib.Core.List.{List, [], _∷_, _++_, map, append-assoc, append-nil}
 use native.Mathlib.Nat.{sub-zero}
 use native.Mathlib.Numerals.{add-one}
@@ -16,7 +16,7 @@ use Rattle.alert_urn.proofs.Fields.{byTest}
 use Rattle.resolution.specs.Lists.{tabulate}
 use Rattle.resolution.proofs.Lists.{tabulate-same}
 use Rattle.stored_table.specs.Stored.{Read, fault, got, andThen, byteIn, text, times, counted, categories, signal, storedFrom, stored}
-use Rattle.stored_table.specs.Held.{Tagged, tag, taggedFrom, urnAt, mapRead, numberRead, textRead, textInside, heldRead, readUpTo, readAtMost, SignalsRead, ReadFrom, ReadAs}
+use Rattle.stored_table.specs.Held.{Tagged, tag, taggedFrom, urnAt, mapRead, numberRead, textRead, textInside, heldRead, readUpTo, readAtMost, ReadFrom, ReadAs, Reads}
 use Rattle.stored_table.specs.declared.read.Counts.{Counts}
 use Rattle.stored_table.specs.declared.read.Reading.{Reading}
 use Rattle.stored_table.specs.declared.read.Reading.the-variants.{Fault, Got}
@@ -261,6 +261,10 @@ pub rest-fault : (t : List ℕ) (from k : ℕ) → byteIn 1 32 t from ≡ fault 
 unfolding storedFrom counted andThen
 rest-fault t from k e names = simp e
 
+pub rest-at-fault : {t at len signal : List ℕ} {from k n : ℕ} {r : Counts} → r ≡ record { ok = false; fault = k; categories = 0; signals = 0; urns = 0 }
+    → ((names : List (List ℕ)) → storedFrom t names from ≡ fault k) → ReadFrom t at len signal from r × (r .ok ≡ true → r .categories ≡ n)
+rest-at-fault e f = rw e (record { faulty = λ _. f; holds = λ z. absurd (false≢true z) }, λ z. absurd (false≢true z))
+
 module _ (t : List ℕ) (from n p : ℕ) (e : byteIn 1 32 t from ≡ got n p) where
   bad : (k : ℕ) → times (signal t) n p ≡ fault k → (names : List (List ℕ)) → storedFrom t names from ≡ fault k
   unfolding storedFrom counted andThen
@@ -292,9 +296,13 @@ module _ (t : List ℕ) (from n p : ℕ) (e : byteIn 1 32 t from ≡ got n p) wh
 
 -- the whole table
 module _ (t : List ℕ) (f : ℕ → List ℕ) {r : Reading} (v : heldRead f r ≡ categories t 0) where
-  pub stored-fault : (k : ℕ) → r ≡ Fault k → stored t ≡ fault k
+  stored-fault : (k : ℕ) → r ≡ Fault k → stored t ≡ fault k
   unfolding stored andThen
   stored-fault k g = let e : categories t 0 ≡ fault k = sym v ∙ ap (heldRead f) g in simp e
+
+  pub stored-at-fault : {nameAt nameLen at len signal : List ℕ} {k : ℕ} {s : Counts} → s ≡ record { ok = false; fault = k; categories = 0; signals = 0; urns = 0 }
+      → r ≡ Fault k → Reads t nameAt nameLen at len signal s
+  stored-at-fault e g = rw e (record { faulty = λ _. stored-fault _ g; holds = λ z. absurd (false≢true z) })
 
   pub stored-more : (n p : ℕ) → r ≡ Got n p → stored t ≡ storedFrom t (tabulate f n) p
   unfolding stored andThen

@@ -1,15 +1,13 @@
 -- Laws of the tests over a list that stands in arrays, one element further.
-use Prim.Native.Nat.{ℕ, suc, zero, _+_, _*_, _≤_, _<_}
-use mathlib.Core.Path.{_≡_, refl, ap, ap₂, sym, _∙_, subst}
-use mathlib.Core.Logic.{_⊎_, inl, inr}
+use Prim.Native.Nat.{ℕ, suc, zero, _+_, _≤_, _<_}
+use mathlib.Core.Path.{_≡_, refl, ap, sym, _∙_, subst}
 use mathlib.Core.Bool.{Bool, true, false, cond, not, _&&_, _||_, and-false, and-assoc, and-eq-true-iff, true≢false, false≢true}
-use mathlib.Core.List.{List, [], _∷_, _++_, map, append-assoc, append-nil}
+use mathlib.Core.List.{List, [], _∷_, _++_, append-assoc, append-nil}
 use native.Mathlib.Numerals.{add-one}
 use native.Mathlib.Omega.{arith}
-use lib.ListN.{length, getD, set, length-append}
-use lib.Seq.{getD-set-same, getD-set-other}
-use lib.Dec.{eqb, ltb}
-use borrow.Author.Tests.{eq-eqb, eqb-true, eqb-false, ltb-true, ltb-false}
+use lib.ListN.{length}
+use lib.Dec.{ltb}
+use borrow.Author.Tests.{ltb-true, ltb-false}
 use Rattle.alert_urn.specs.Text.{all}
 use Rattle.alert_urn.proofs.Fields.{byTest}
 use Rattle.resolution.specs.Lists.{tabulate, memberBy, indexBy}
@@ -17,7 +15,6 @@ use Rattle.resolution.specs.Names.{sameName}
 use Rattle.resolution.proofs.Lists.{tabulate-length}
 use Rattle.resolution.proofs.Names.{name-exact}
 use Rattle.stored_table.specs.Tables.{any, noTwo}
-use Rattle.stored_table.specs.Held.{Tagged, tag, sameKey, slotIn}
 
 pub tab-suc : {A : Type 0} (f : ℕ → A) (i : ℕ) → tabulate f (i + 1) ≡ tabulate f i ++ f i ∷ []
 unfolding tabulate

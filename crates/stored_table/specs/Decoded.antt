@@ -2,7 +2,7 @@
 use Prim.Native.Nat.{ℕ}
 use mathlib.Core.Path.{_≡_}
 use mathlib.Core.List.{List}
-use lib.ListN.{length, replicate}
+use lib.ListN.{replicate}
 use Rattle.resolution.specs.Table.{Table, WellFormed}
 use Rattle.node_step.specs.Arrays.{NamesIn, NodesIn, Numbers}
 use Rattle.stored_table.specs.Tables.{categoryNames, tableOf, tableRefusal}

@@ -7,7 +7,7 @@ use lib.ListN.{length, getD}
 use Rattle.resolution.specs.Lists.{tabulate}
 use Rattle.node_step.specs.Arrays.{stretch}
 use Rattle.stored_table.specs.Tables.{formed, single, plain, verdict, categoryNames, tableOf, tableRefusal}
-use Rattle.stored_table.specs.Held.{Tagged, tag, taggedFrom, pathUrn, keyAt, slotIn, ReadAs}
+use Rattle.stored_table.specs.Held.{tag, taggedFrom, pathUrn, keyAt, slotIn, ReadAs}
 use Rattle.stored_table.specs.declared.read.Counts.{Counts}
 
 -- after 7

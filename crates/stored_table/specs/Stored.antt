@@ -1,7 +1,7 @@
 -- A stored table: two sections, each after its one-byte count, read from the left. Refusals 5 and 6.
 -- A reading is asked at a position of the bytes t; it answers with a fault's number, or with a value and the position after it.
 use Prim.Native.Nat.{ℕ, suc, zero, _+_, _-_}
-use mathlib.Core.Bool.{Bool, cond}
+use mathlib.Core.Bool.{cond}
 use mathlib.Core.List.{List, [], _∷_}
 use lib.ListN.{length, getD, take, drop}
 use lib.Dec.{leb, ltb}

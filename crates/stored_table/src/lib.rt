@@ -82,23 +82,18 @@ fn placed(
         &mut len,
     );
     if 64 < n {
-        if places::texts_distinct(t, l.signals, l.categories, slots, path_at, path_len) {
-            return refused(12);
-        }
-        return refused(11);
+        return refused(places::crowded(t, l.signals, l.categories, slots, path_at, path_len));
     }
     let mut rows = [0u64; 32];
     places::fill_rows(l.signals, slots, &node, &mut rows);
     if places::rows_distinct(l.signals, &rows) {
-        let names = *name_at;
-        let lens = *name_len;
         return Decoded {
             refusal: 0,
             categories: l.categories,
             signals: l.signals,
             nodes: n,
-            name_at: names,
-            name_len: lens,
+            name_at: *name_at,
+            name_len: *name_len,
             category: cats,
             parent,
             at,

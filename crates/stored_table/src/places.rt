@@ -147,7 +147,7 @@ fn places_again(
 }
 
 // No two of `count` signals have the same places, by their texts.
-pub(crate) fn texts_distinct(
+fn texts_distinct(
     t: &[u8],
     count: usize,
     n: usize,
@@ -166,4 +166,22 @@ pub(crate) fn texts_distinct(
         b += 1;
     }
     true
+}
+
+// The number of a table with too many nodes: 11 if two signals have the same places, by their texts, else 12.
+pub(crate) fn crowded(
+    t: &[u8],
+    count: usize,
+    n: usize,
+    slots: &[u16; 256],
+    at: &[u16; 256],
+    len: &[u8; 256],
+) -> u8
+    requires { ⌜ (count ≤ 32) × (n ≤ 8) × ((j : ℕ) → getD (now slots) j 0 ≤ 256) ⌝ }
+    ensures { λ r. ⌜ r ≡ cond (noTwo (samePlacesAt (now (t .entry)) (now (slots .entry)) (now (at .entry)) (now (len .entry)) n) (tabulate (λ a. a) count)) 12 11 ⌝ }
+{
+    if texts_distinct(t, count, n, slots, at, len) {
+        return 12;
+    }
+    11
 }

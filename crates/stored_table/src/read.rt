@@ -201,6 +201,18 @@ pub struct Counts {
     pub urns: usize,
 }
 
+fn at_fault(k: u8) -> Counts
+    ensures { λ r. ⌜ r ≡ record { ok = false; fault = k; categories = 0; signals = 0; urns = 0 } ⌝ }
+{
+    Counts {
+        ok: false,
+        fault: k,
+        categories: 0,
+        signals: 0,
+        urns: 0,
+    }
+}
+
 // The section of the signals, with nothing behind it.
 fn read_rest(
     t: &[u8],
@@ -216,32 +228,14 @@ fn read_rest(
 {
     let first = byte_in(t, from, 1, 32);
     match first {
-        Reading::Fault(k) => Counts {
-            ok: false,
-            fault: k,
-            categories: 0,
-            signals: 0,
-            urns: 0,
-        },
+        Reading::Fault(k) => at_fault(k),
         Reading::Got(n, p) => {
             let got = read_signals(t, p, n, at, len, signal);
             match got {
-                Reading::Fault(k) => Counts {
-                    ok: false,
-                    fault: k,
-                    categories: 0,
-                    signals: 0,
-                    urns: 0,
-                },
+                Reading::Fault(k) => at_fault(k),
                 Reading::Got(m, q) => {
                     if q < t.len() {
-                        return Counts {
-                            ok: false,
-                            fault: 5,
-                            categories: 0,
-                            signals: 0,
-                            urns: 0,
-                        };
+                        return at_fault(5);
                     }
                     Counts {
                         ok: true,
@@ -283,13 +277,7 @@ pub(crate) fn read_table(
 {
     let got = read_categories(t, name_at, name_len);
     match got {
-        Reading::Fault(k) => Counts {
-            ok: false,
-            fault: k,
-            categories: 0,
-            signals: 0,
-            urns: 0,
-        },
+        Reading::Fault(k) => at_fault(k),
         Reading::Got(n, p) => read_rest(t, p, n, at, len, signal),
     }
 }

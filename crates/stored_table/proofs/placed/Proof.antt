@@ -1,7 +1,7 @@
 use native.Mathlib.Omega.{arith}
-use mathlib.Core.Path.{refl, sym, _∙_}
+use mathlib.Core.Path.{refl}
 use Rattle.stored_table.proofs.Judging.{means-refused, slots-few}
-use Rattle.stored_table.proofs.Placing.{texts-eleven, twelve, rows-eleven, means-accepted}
+use Rattle.stored_table.proofs.Placing.{crowded-right, rows-eleven, means-accepted}
 use borrow.Author.Needs.{needs}
 use Rattle.stored_table.proofs.placed.Statement.{statement}
 use Rattle.stored_table.proofs.placed.Tie as tie
@@ -9,20 +9,16 @@ use Rattle.stored_table.proofs.placed.Tie as tie
 add-all-requires : tie.Need-add-all-requires
 add-all-requires c κs = search needs
 
-texts-distinct-requires : tie.Need-texts-distinct-requires
-texts-distinct-requires c κs = let a = c .before .before .before .before .before .before .before .before .args in (c .before .before .before .before .before .before .before .before .pre .listed .few-signals, c .before .before .before .before .before .before .before .before .pre .listed .few-categories, slots-few (a .t .now) (a .name-at .now) (a .name-len .now) (a .signal .now) (a .category .now) (a .path-at .now) (a .path-len .now) (a .slots .now) (a .l) (c .before .before .before .before .before .before .before .before .pre))
+crowded-requires : tie.Need-crowded-requires
+crowded-requires c κs = let a = c .before .before .before .before .before .before .before .before .args in (c .before .before .before .before .before .before .before .before .pre .listed .few-signals, c .before .before .before .before .before .before .before .before .pre .listed .few-categories, slots-few (a .t .now) (a .name-at .now) (a .name-len .now) (a .signal .now) (a .category .now) (a .path-at .now) (a .path-len .now) (a .slots .now) (a .l) (c .before .before .before .before .before .before .before .before .pre))
 
 refused-requires : tie.Need-refused-requires
 refused-requires c κs = search needs
 
 returns : tie.Need-returns
-returns c = let a = c .before .before .before .before .before .before .before .before .before .before .before .args in means-refused (a .t .now) 12 (c .refused .ensures) (twelve (a .t .now) (a .name-at .now) (a .name-len .now) (a .signal .now) (a .category .now) (a .path-at .now) (a .path-len .now) (a .slots .now) (a .l) (c .before .before .before .before .before .before .before .before .before .before .before .pre) (c .before .before .before .before .add-all .ensures) (c .before .before .before .if1 .taken) (c .before .before .texts-distinct .ensures) (c .before .if2 .taken)) (λ z. omega arith)
-
-refused-requires-2 : tie.Need-refused-requires-2
-refused-requires-2 c κs = search needs
-
-returns-2 : tie.Need-returns-2
-returns-2 c = let a = c .before .before .before .before .before .before .before .before .before .before .before .args in means-refused (a .t .now) 11 (c .refused2 .ensures) (texts-eleven (a .t .now) (a .name-at .now) (a .name-len .now) (a .signal .now) (a .category .now) (a .path-at .now) (a .path-len .now) (a .slots .now) (a .l) (c .before .before .before .before .before .before .before .before .before .before .before .pre) (c .before .before .texts-distinct .ensures) (c .before .if2 .left)) (λ z. omega arith)
+returns c = let a = c .before .before .before .before .before .before .before .before .before .before .args in
+    let r = crowded-right (a .t .now) (a .name-at .now) (a .name-len .now) (a .signal .now) (a .category .now) (a .path-at .now) (a .path-len .now) (a .slots .now) (a .l) (c .before .before .before .before .before .before .before .before .before .before .pre) (c .before .before .before .add-all .ensures) (c .before .before .if1 .taken) (c .before .crowded .ensures) in
+    means-refused (a .t .now) (c .before .crowded .result) (c .refused .ensures) (r .0) (r .1)
 
 fill-rows-requires : tie.Need-fill-rows-requires
 fill-rows-requires c κs = let a = c .before .before .before .before .before .before .before .before .before .before .args in (c .before .before .before .before .before .before .before .before .before .before .pre .listed .few-signals, refl, slots-few (a .t .now) (a .name-at .now) (a .name-len .now) (a .signal .now) (a .category .now) (a .path-at .now) (a .path-len .now) (a .slots .now) (a .l) (c .before .before .before .before .before .before .before .before .before .before .pre))
@@ -30,27 +26,25 @@ fill-rows-requires c κs = let a = c .before .before .before .before .before .be
 rows-distinct-requires : tie.Need-rows-distinct-requires
 rows-distinct-requires c κs = search needs
 
+returns-2 : tie.Need-returns-2
+returns-2 c = let a = c .before .before .before .before .before .before .before .before .before .before .before .before .before .before .before .before .args in means-accepted (a .t .now) (a .name-at .now) (a .name-len .now) (a .signal .now) (a .category .now) (a .path-at .now) (a .path-len .now) (a .slots .now) (a .l) (c .before .before .before .before .before .before .before .before .before .before .before .before .before .before .before .before .pre) (c .before .before .before .before .before .before .before .before .before .add-all .ensures) (c .before .before .before .before .before .before .before .before .if1 .left) _ (c .before .before .before .before .before .fill-rows .ensures) (c .before .before .before .rows-distinct .ensures) (c .before .before .if2 .taken)
+
+refused-requires-2 : tie.Need-refused-requires-2
+refused-requires-2 c κs = search needs
+
 returns-3 : tie.Need-returns-3
-returns-3 c = let a = c .before .before .before .before .before .before .before .before .before .before .before .before .before .before .before .before .args in means-accepted (a .t .now) (a .name-at .now) (a .name-len .now) (a .signal .now) (a .category .now) (a .path-at .now) (a .path-len .now) (a .slots .now) (a .l) (c .before .before .before .before .before .before .before .before .before .before .before .before .before .before .before .before .pre) (c .before .before .before .before .before .before .before .before .before .add-all .ensures) (c .before .before .before .before .before .before .before .before .if1 .left) _ (c .before .before .before .before .before .fill-rows .ensures) (c .before .before .before .rows-distinct .ensures) (c .before .before .if3 .taken)
-
-refused-requires-3 : tie.Need-refused-requires-3
-refused-requires-3 c κs = search needs
-
-returns-4 : tie.Need-returns-4
-returns-4 c = let a = c .before .before .before .before .before .before .before .before .before .before .before .before .before .before .before .args in means-refused (a .t .now) 11 (c .refused3 .ensures) (rows-eleven (a .t .now) (a .name-at .now) (a .name-len .now) (a .signal .now) (a .category .now) (a .path-at .now) (a .path-len .now) (a .slots .now) (a .l) (c .before .before .before .before .before .before .before .before .before .before .before .before .before .before .before .pre) (c .before .before .before .before .before .before .before .before .add-all .ensures) (c .before .before .before .before .before .before .before .if1 .left) (c .before .before .before .before .fill-rows .last .1 .1 .1 .0) (c .before .before .before .before .fill-rows .ensures) (c .before .before .rows-distinct .ensures) (c .before .if3 .left)) (λ z. omega arith)
+returns-3 c = let a = c .before .before .before .before .before .before .before .before .before .before .before .before .before .before .before .args in means-refused (a .t .now) 11 (c .refused2 .ensures) (rows-eleven (a .t .now) (a .name-at .now) (a .name-len .now) (a .signal .now) (a .category .now) (a .path-at .now) (a .path-len .now) (a .slots .now) (a .l) (c .before .before .before .before .before .before .before .before .before .before .before .before .before .before .before .pre) (c .before .before .before .before .before .before .before .before .add-all .ensures) (c .before .before .before .before .before .before .before .if1 .left) (c .before .before .before .before .fill-rows .last .1 .1 .1 .0) (c .before .before .before .before .fill-rows .ensures) (c .before .before .rows-distinct .ensures) (c .before .if2 .left)) (λ z. omega arith)
 
 pub placed-spec : {M : Type 1} → statement M
 placed-spec =
     tie.close
     (tie.spec
     add-all-requires
-    texts-distinct-requires
+    crowded-requires
     refused-requires
     returns
-    refused-requires-2
-    returns-2
     fill-rows-requires
     rows-distinct-requires
-    returns-3
-    refused-requires-3
-    returns-4)
+    returns-2
+    refused-requires-2
+    returns-3)

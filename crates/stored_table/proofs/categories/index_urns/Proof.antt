@@ -1,7 +1,7 @@
 use Rattle.stored_table.proofs.Indexing.{at-stretch}
 use native.Mathlib.Omega.{arith}
-use Prim.Native.Nat.{ℕ, _≤_, _<_, _-_, _+_}
-use mathlib.Core.Path.{_≡_, refl, sym, _∙_, ap}
+use Prim.Native.Nat.{_≤_, _<_, _-_}
+use mathlib.Core.Path.{_≡_, refl, sym, _∙_}
 use mathlib.Core.Bool.{true, false≢true}
 use lib.ListN.{length, getD, length-set}
 use Rattle.resolution.specs.Lists.{tabulate}

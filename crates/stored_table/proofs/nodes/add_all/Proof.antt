@@ -1,14 +1,14 @@
 use native.Mathlib.Omega.{arith}
-use Prim.Native.Nat.{ℕ, _≤_, _<_, _-_, _+_}
-use mathlib.Core.Path.{_≡_, ap, ap₂, sym, _∙_}
+use Prim.Native.Nat.{ℕ, _≤_, _<_, _-_}
+use mathlib.Core.Path.{_≡_, ap₂, _∙_}
 use mathlib.Core.List.{foldl, []}
-use lib.ListN.{length, getD, set, length-set, take, drop}
+use lib.ListN.{length, getD, length-set, take, drop}
 use Rattle.resolution.specs.Lists.{tabulate}
 use Rattle.resolution.specs.Table.{urn}
 use Rattle.resolution.specs.Nodes.{addUrn}
 use Rattle.alert_urn.specs.Text.{fields}
 use Rattle.node_step.specs.Arrays.{stretch}
-use Rattle.stored_table.specs.Held.{pathUrn, Nodes, Numbered, AllAdded}
+use Rattle.stored_table.specs.Held.{pathUrn, Nodes, Numbered}
 use Rattle.stored_table.proofs.NodeArrays.{all-over, all-nodes, all-numbered, nodes-none, all-end}
 use borrow.Author.Needs.{needs}
 use Rattle.stored_table.proofs.nodes.add_all.Statement.{statement}

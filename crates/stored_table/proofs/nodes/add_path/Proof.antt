@@ -1,8 +1,8 @@
 use native.Mathlib.Omega.{arith}
-use Prim.Native.Nat.{ℕ, _≤_, _<_, _-_, _+_}
+use Prim.Native.Nat.{_≤_, _<_, _-_}
 use mathlib.Core.Path.{_≡_, ap}
 use mathlib.Core.List.{List}
-use lib.ListN.{length, getD, take, drop, length-take}
+use lib.ListN.{length, getD, drop, length-take}
 use Rattle.resolution.specs.Table.{Urn}
 use Rattle.alert_urn.proofs.Fields.{upTo-le}
 use Rattle.stored_table.proofs.NodeArrays.{PathDone, path-start, path-more, path-over, path-end, colon-start, colon-next, next-le}

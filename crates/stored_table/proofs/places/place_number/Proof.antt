@@ -1,5 +1,4 @@
 use native.Mathlib.Omega.{arith}
-use mathlib.Core.Path.{sym}
 use Rattle.stored_table.proofs.RowLaws.{place-none, place-some}
 use borrow.Author.Needs.{needs}
 use Rattle.stored_table.proofs.places.place_number.Statement.{statement}

@@ -1,4 +1,3 @@
-use mathlib.Core.Path.{sym}
 use Rattle.stored_table.proofs.Readings.{byte-low, byte-high, byte-good, byte-none}
 use borrow.Author.Needs.{needs}
 use Rattle.stored_table.proofs.read.byte_in.Statement.{statement}

@@ -1,7 +1,7 @@
 use native.Mathlib.Omega.{arith}
 use mathlib.Core.Path.{refl, sym}
 use mathlib.Core.Bool.{false≢true}
-use Rattle.stored_table.proofs.Readings.{byte-of, number-fault, number-got, rest-fault, rest-bad, rest-more, rest-good, at-most-got}
+use Rattle.stored_table.proofs.Readings.{byte-of, number-fault, number-got, rest-fault, rest-at-fault, rest-bad, rest-more, rest-good, at-most-got}
 use borrow.Author.Needs.{needs}
 use Rattle.stored_table.proofs.read.read_rest.Statement.{statement}
 use Rattle.stored_table.proofs.read.read_rest.Tie as tie
@@ -12,6 +12,9 @@ byte-in-requires c κs = search needs
 enum-known-first : tie.Need-enum-known-first
 enum-known-first c = search needs
 
+at-fault-requires : tie.Need-at-fault-requires
+at-fault-requires c κs = search needs
+
 enum-known-first-2 : tie.Need-enum-known-first-2
 enum-known-first-2 c = search needs
 
@@ -21,17 +24,23 @@ read-signals-requires c κs = let b = byte-of 1 32 (c .before .before .before .b
 enum-known-got : tie.Need-enum-known-got
 enum-known-got c = search needs
 
+at-fault-requires-2 : tie.Need-at-fault-requires-2
+at-fault-requires-2 c κs = search needs
+
 enum-known-got-2 : tie.Need-enum-known-got-2
 enum-known-got-2 c = search needs
 
+at-fault-requires-3 : tie.Need-at-fault-requires-3
+at-fault-requires-3 c κs = search needs
+
 returns : tie.Need-returns
-returns c = (record { faulty = λ e. rest-more _ _ _ _ (number-got _ _ (c .before .before .before .before .before .before .before .before .before .before .before .byte-in .ensures) (c .before .before .before .before .before .before .before .before .before .first2 .given .1)) _ (c .before .before .before .before .read-signals .ensures .0) _ _ (c .before .before .got2 .given .1) (c .if1 .taken); holds = λ e. absurd (false≢true e) }, λ e. absurd (false≢true e))
+returns c = rest-at-fault (c .at-fault3 .ensures) (rest-more _ _ _ _ (number-got _ _ (c .before .before .before .before .before .before .before .before .before .before .before .before .byte-in .ensures) (c .before .before .before .before .before .before .before .before .before .before .first2 .given .1)) _ (c .before .before .before .before .before .read-signals .ensures .0) _ _ (c .before .before .before .got2 .given .1) (c .before .if1 .taken))
 
 returns-2 : tie.Need-returns-2
-returns-2 c = (record { faulty = λ e. rest-fault _ _ _ (number-fault _ (c .before .before .before .byte-in .ensures) (c .before .first .given .1)); holds = λ e. absurd (false≢true e) }, λ e. absurd (false≢true e))
+returns-2 c = rest-at-fault (c .at-fault .ensures) (rest-fault _ _ _ (number-fault _ (c .before .before .before .before .byte-in .ensures) (c .before .before .first .given .1)))
 
 returns-3 : tie.Need-returns-3
-returns-3 c = (record { faulty = λ e. rest-bad _ _ _ _ (number-got _ _ (c .before .before .before .before .before .before .before .before .before .before .byte-in .ensures) (c .before .before .before .before .before .before .before .before .first2 .given .1)) _ (c .before .before .before .read-signals .ensures .0) _ (c .before .got .given .1); holds = λ e. absurd (false≢true e) }, λ e. absurd (false≢true e))
+returns-3 c = rest-at-fault (c .at-fault2 .ensures) (rest-bad _ _ _ _ (number-got _ _ (c .before .before .before .before .before .before .before .before .before .before .before .byte-in .ensures) (c .before .before .before .before .before .before .before .before .before .first2 .given .1)) _ (c .before .before .before .before .read-signals .ensures .0) _ (c .before .before .got .given .1))
 
 returns-4 : tie.Need-returns-4
 returns-4 c = let g = rest-good _ _ _ _ (number-got _ _ (c .before .before .before .before .before .before .before .before .before .before .before .byte-in .ensures) (c .before .before .before .before .before .before .before .before .before .first2 .given .1)) _ (c .before .before .before .before .read-signals .ensures .0) _ _ (c .before .before .got2 .given .1) (c .if1 .left) in
@@ -44,10 +53,13 @@ read-rest-spec =
     (tie.spec
     byte-in-requires
     enum-known-first
+    at-fault-requires
     enum-known-first-2
     read-signals-requires
     enum-known-got
+    at-fault-requires-2
     enum-known-got-2
+    at-fault-requires-3
     returns
     returns-2
     returns-3

@@ -1,5 +1,4 @@
 use native.Mathlib.Omega.{arith}
-use Prim.Native.Nat.{_+_}
 use Rattle.stored_table.proofs.Readings.{byte-of, number-fault, number-got, signal-fault, signal-more, at-most}
 use borrow.Author.Needs.{needs}
 use Rattle.stored_table.proofs.read.read_signal.Statement.{statement}

@@ -1,6 +1,4 @@
-use mathlib.Core.Path.{sym, _∙_}
-use mathlib.Core.Bool.{false≢true}
-use Rattle.stored_table.proofs.Readings.{stored-fault, stored-read, stored-not, at-most-got}
+use Rattle.stored_table.proofs.Readings.{stored-at-fault, stored-read, stored-not, at-most-got}
 use borrow.Author.Needs.{needs}
 use Rattle.stored_table.proofs.read.read_table.Statement.{statement}
 use Rattle.stored_table.proofs.read.read_table.Tie as tie
@@ -11,6 +9,9 @@ read-categories-requires c κs = search needs
 enum-known-got : tie.Need-enum-known-got
 enum-known-got c = search needs
 
+at-fault-requires : tie.Need-at-fault-requires
+at-fault-requires c κs = search needs
+
 enum-known-got-2 : tie.Need-enum-known-got-2
 enum-known-got-2 c = search needs
 
@@ -18,7 +19,7 @@ read-rest-requires : tie.Need-read-rest-requires
 read-rest-requires c κs = search needs
 
 returns : tie.Need-returns
-returns c = record { faulty = λ e. stored-fault _ _ (c .before .before .before .read-categories .ensures .0) _ (c .before .got .given .1); holds = λ e. absurd (false≢true e) }
+returns c = stored-at-fault _ _ (c .before .before .before .before .read-categories .ensures .0) (c .at-fault .ensures) (c .before .before .got .given .1)
 
 returns-2 : tie.Need-returns-2
 returns-2 c = record { faulty = λ e. stored-not _ (c .before .before .before .before .before .before .before .read-categories .last .1 .0) (c .before .before .before .before .before .before .before .read-categories .last .1 .1 .0) (c .before .before .before .before .before .before .before .read-categories .ensures .0) _ _ (c .before .before .before .before .before .got2 .given .1) (c .read-rest .ensures .0) e; holds = λ e. stored-read _ (c .before .before .before .before .before .before .before .read-categories .last .1 .0) (c .before .before .before .before .before .before .before .read-categories .last .1 .1 .0) (c .before .before .before .before .before .before .before .read-categories .ensures .0) _ _ (c .before .before .before .before .before .got2 .given .1) (c .read-rest .ensures .0) (c .read-rest .ensures .1) (at-most-got _ _ (c .before .before .before .before .before .before .before .read-categories .ensures .1) (c .before .before .before .before .before .got2 .given .1)) e }
@@ -29,6 +30,7 @@ read-table-spec =
     (tie.spec
     read-categories-requires
     enum-known-got
+    at-fault-requires
     enum-known-got-2
     read-rest-requires
     returns
