@@ -1,7 +1,7 @@
 -- The answer at the end of a value is the one over the value's list.
 use Prim.Native.Nat.{ℕ, _+_, _≤_, _<_}
 use mathlib.Core.Path.{_≡_, refl, sym, ap, ap₂, _∙_}
-use mathlib.Core.Bool.{Bool, true, false, cond}
+use mathlib.Core.Bool.{true, false, cond}
 use mathlib.Core.Option.{Option, none, some}
 use mathlib.Core.List.{List, [], _∷_, map, foldl}
 use lib.ListN.{length, length-map}
@@ -9,7 +9,6 @@ use lib.Dec.{eqb, ltb}
 use borrow.Author.Tests.{lt-ltb, le-ltb, eq-eqb, ne-eqb, ltb-true, ltb-false, eqb-true, eqb-false}
 use native.Mathlib.Omega.{arith}
 use Rattle.alert_info.specs.Value.{Reading, unfit, spans, readingFrom, readingOf, partOf, refusalOf, urisOf}
-use Rattle.alert_info.specs.declared.alert_param.Span.{Span}
 use Rattle.alert_info.proofs.ReadingLaws.{reading-start, refusal-unfit, refusal-many, refusal-none, accepted-uris}
 use Rattle.alert_urn.proofs.Fields.{byTest}
 use Rattle.resolution.specs.Table.{Urn, Table}

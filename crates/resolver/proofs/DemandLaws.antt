@@ -1,9 +1,9 @@
 -- The demands hold.
-use Prim.Native.Nat.{ℕ, zero, suc, _+_, _-_, _≤_, _<_}
+use Prim.Native.Nat.{ℕ, _+_, _-_, _≤_}
 use mathlib.Core.Path.{_≡_, refl, sym, ap, ap₂, _∙_, subst}
 use mathlib.Core.Bool.{Bool, true, false, cond}
 use mathlib.Core.Option.{Option, none, some}
-use mathlib.Core.List.{List, [], _∷_, _++_, map, foldl, List·Memᴰ, List·Memᴰ·not-nil, List·Memᴰ·cases-cons}
+use mathlib.Core.List.{List, [], _∷_, _++_, map, List·Memᴰ, List·Memᴰ·not-nil, List·Memᴰ·cases-cons}
 use mathlib.Core.Logic.{_⊎_, inl, inr}
 use lib.Dec.{eqb}
 use lib.ListN.{length, take, replicate}
@@ -12,14 +12,13 @@ use borrow.Author.Tests.{eq-eqb, eqb-false}
 use native.Mathlib.Omega.{arith}
 use Rattle.alert_info.specs.Value.{refusalOf, urisOf}
 use Rattle.alert_info.proofs.Agree.{refused-exactly}
-use Rattle.resolution.specs.Names.{Name}
-use Rattle.resolution.specs.Table.{Urn, Table, WellFormed, mostParts}
+use Rattle.resolution.specs.Table.{Urn, Table}
 use Rattle.resolution.specs.Direct.{Used, AllUsed, usedOf, stepUri, changed, changes}
 use Rattle.resolution.specs.Build.{ReachableOver}
 use Rattle.node_step.specs.Uses.{usedUrn}
 use Rattle.machine_image.specs.Image.{signalIn, machineImage}
 use Rattle.machine_image.specs.Refusals as image
-use Rattle.machine_image.specs.Walk.{stepIn, walkSignal}
+use Rattle.machine_image.specs.Walk.{stepIn}
 use Rattle.machine_image.specs.Claim.{ImageClaim}
 use Rattle.machine_image.proofs.Check.{check-to}
 use Rattle.machine_image.proofs.Walk.{image-claim}
@@ -30,7 +29,7 @@ use Rattle.signal_table.specs.declared.write.Built.{Built}
 use Rattle.signal_table.proofs.Claims.{builds as every-build, refused-build, check-to-right, right-to-check}
 use Rattle.resolver.specs.declared.Resolution.{Resolution}
 use Rattle.resolver.specs.Resolve.{takenAs, directSignal, walkedSignal, refused, answered, unlessRefused, plainOf, machineOf}
-use Rattle.resolver.specs.Demands.{Demand1, Demand2, WalkClaim, Demand3, DemandOne, DemandTwo, DemandThree}
+use Rattle.resolver.specs.Demands.{WalkClaim, DemandOne, DemandTwo, DemandThree}
 use Rattle.resolver.proofs.TableLaws.{names-count}
 use Rattle.resolver.proofs.FoldLaws.{used-urn}
 

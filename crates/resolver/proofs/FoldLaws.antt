@@ -1,10 +1,10 @@
 -- What a run over a list of URIs comes to: a fold over their URNs, and two counts.
 use Prim.Native.Nat.{ℕ, suc, _+_, _<_}
-use mathlib.Core.Path.{_≡_, refl, sym, ap, ap₂, _∙_}
+use mathlib.Core.Path.{_≡_, refl, ap, ap₂, _∙_}
 use mathlib.Core.Logic.{_≢_}
 use mathlib.Core.Bool.{Bool, true, false, cond, _&&_, and-eq-true-iff}
 use mathlib.Core.Option.{Option, none, some}
-use mathlib.Core.List.{List, [], _∷_, map, foldl}
+use mathlib.Core.List.{List, [], _∷_, foldl}
 use lib.ListN.{length, drop}
 use native.Mathlib.Omega.{arith}
 use Rattle.resolution.specs.Lists.{memberBy, indexBy}
@@ -16,19 +16,16 @@ use Rattle.resolution.proofs.Lists.{index-member}
 use Rattle.resolution.proofs.Names.{name-exact}
 use Rattle.alert_urn.specs.Text.{fields}
 use Rattle.alert_urn.specs.Urn.{alertUrn, categoryOf, pathOf}
-use Rattle.alert_urn.proofs.Fields.{byTest, fields-first}
-use Rattle.node_step.specs.Arrays.{NamesIn, NodesIn}
+use Rattle.alert_urn.proofs.Fields.{fields-first}
 use Rattle.node_step.specs.Uses.{usedUrn, useOf}
-use Rattle.node_step.specs.declared.uses.Use.{Use}
-use Rattle.node_step.specs.declared.uses.Use.the-variants.{Skipped}
 use Rattle.node_step.proofs.UseRight.{uses-right}
-use Rattle.stored_table.specs.Tables.{tableOf, categoryNames}
+use Rattle.stored_table.specs.Tables.{categoryNames}
 use Rattle.stored_table.specs.Decoded.{Holds}
 use Rattle.stored_table.specs.declared.Decoded.{Decoded}
 use Rattle.resolver.specs.declared.run.Current.{Current}
 use Rattle.resolver.specs.declared.run.Progress.{Progress}
 use Rattle.resolver.specs.Resolve.{takenAs}
-use Rattle.resolver.specs.Run.{Machine, useIn, moved, afterUse, after}
+use Rattle.resolver.specs.Run.{Machine, moved, afterUse, after}
 
 -- a path cut at colons has at least one part
 some-field : (s : List ℕ) → fields 58 s ≢ []
@@ -75,7 +72,7 @@ module _ (t : List ℕ) (T : Table) (d : Decoded) (h : Holds t T d) (m : Machine
     unfolding after
     run-fold [] s a b v = let p : a ≡ a + 0 = omega arith in let q : b ≡ b + 0 = omega arith in ap₂ (at s) p q
     run-fold (uri ∷ uris) s a b v =
-        ap (λ u. foldl (after t d m) (afterUse d m (at s a b) u) uris)
+        ap (λ u. foldl (after t d m) (afterUse (d .rows) (d .parent) (d .signals) (d .nodes) m (at s a b) u) uris)
         (uses-right t T (d .«name_at») (d .«name_len») (d .categories) (categoryNames t) (d .category) (d .at) (d .len) (d .nodes) (h .names) (h .nodes) uri)
         ∙ go (usedUrn (categoryNames t) uri) refl (run-fold uris)
       where
@@ -83,7 +80,7 @@ module _ (t : List ℕ) (T : Table) (d : Decoded) (h : Holds t T d) (m : Machine
             → ((s : S) (a b : ℕ) → valid s
             → foldl (after t d m) (at s a b) uris
             ≡ at (foldl f s (usedOf (takenAs t uris))) (a + usedCount (takenAs t uris)) (b + skippedCount (takenAs t uris)))
-            → foldl (after t d m) (afterUse d m (at s a b) (useOf T o)) uris
+            → foldl (after t d m) (afterUse (d .rows) (d .parent) (d .signals) (d .nodes) m (at s a b) (useOf T o)) uris
             ≡ at (foldl f s (usedOf (o ∷ takenAs t uris))) (a + usedCount (o ∷ takenAs t uris)) (b + skippedCount (o ∷ takenAs t uris))
         go none e ih =
             let q : b + 1 + skippedCount (takenAs t uris) ≡ b + suc (skippedCount (takenAs t uris)) = omega arith in

@@ -8,34 +8,33 @@ use lib.Dec.{eqb}
 use borrow.Author.Tests.{eq-eqb}
 use Rattle.alert_info.specs.Value.{refusalOf, urisOf}
 use Rattle.alert_urn.proofs.Fields.{byTest}
-use Rattle.resolution.specs.Direct.{usedOf}
 use Rattle.resolution.proofs.Claim.{run-used}
 use Rattle.machine_image.specs.Image.{signalIn, targetIn}
 use Rattle.machine_image.specs.Refusals.{formOf}
-use Rattle.machine_image.specs.Walk.{stepIn, walkIn}
+use Rattle.machine_image.specs.Walk.{stepIn}
 use Rattle.stored_table.specs.Tables.{tableRefusal, tableOf}
 use Rattle.stored_table.specs.Decoded.{Holds, Means}
 use Rattle.stored_table.specs.declared.Decoded.{Decoded}
-use Rattle.resolver.specs.declared.run.Current.{Current}
 use Rattle.resolver.specs.declared.run.Current.the-variants.{Walk}
 use Rattle.resolver.specs.Resolve.{takenAs, refused, answered, walkedSignal, unlessRefused, machineOf}
 use Rattle.resolver.specs.Run.{Machine, resolvedFrom}
 use Rattle.resolver.proofs.FoldLaws.{Steps}
 use Rattle.resolver.proofs.AnswerLaws.{value-refused, refused-first, resolved-right}
 use Rattle.stored_table.proofs.Accepting.{accepted}
-use Rattle.signal_table.specs.Listed.{SymbolsIn, Listed, tripleLists, fewer}
+use Rattle.signal_table.specs.Listed.{SymbolsIn, Index, Listed, tripleLists, fewer}
 use Rattle.signal_table.specs.Checks.{formBy}
 use Rattle.signal_table.proofs.TableRight.{table-symbols}
 use Rattle.signal_table.proofs.CheckRight.{form-right}
 use Rattle.signal_table.proofs.NumberRight.{number-right}
 
-module _ (t : List ℕ) (d : Decoded) (h : Holds t (tableOf t) d) (m : Machine) (listed : SymbolsIn (tableOf t) (m .symbols) (m .count)) where
+module _ (t : List ℕ) (d : Decoded) (h : Holds t (tableOf t) d) (m : Machine) (listed : SymbolsIn (tableOf t) (m .symbols) (m .count))
+    (indexed : Index (m .index) (m .symbols) (fewer (m .count) 128)) where
   walk-steps : Steps t (tableOf t) d h m (λ j. Unit) (stepIn (tableOf t) (m .image)) Walk
   walk-steps =
       record {
         moves = λ j u v w. ap (λ k. Walk (targetIn (m .image) j k))
             (number-right t (d .category) (d .at) (d .len) (d .nodes) (tableOf t) (h .nodes) (d .rows) (d .parent) (d .signals) (h .numbers) (h .well-formed)
-            (m .symbols) (m .count) listed u);
+            (m .symbols) (m .count) listed (m .index) indexed u);
         stays = λ j u v w. tt;
       }
 

@@ -1,10 +1,8 @@
 -- Direct resolution on node numbers, over a whole value.
-use Prim.Native.Nat.{ℕ, _≤_, _<_}
+use Prim.Native.Nat.{ℕ, _≤_}
 use mathlib.Core.Path.{_≡_, refl, sym, ap, _∙_}
 use mathlib.Core.List.{List}
 use lib.ListN.{length}
-use Rattle.alert_info.specs.Value.{refusalOf, urisOf}
-use Rattle.resolution.specs.Table.{Urn, Table}
 use Rattle.resolution.specs.Direct.{envOf, start, step}
 use Rattle.resolution.specs.Direct as direct
 use Rattle.resolution.specs.Nodes.{nodes}

@@ -1,12 +1,17 @@
 -- One turn of a run.
-use Prim.Native.Nat.{ℕ, _+_, _-_}
+use Prim.Native.Nat.{ℕ, _+_, _-_, _≤_}
 use mathlib.Core.Path.{_≡_, refl, sym, ap, _∙_}
-use mathlib.Core.Bool.{Bool, true, false}
+use mathlib.Core.Bool.{Bool, true, false, true≢false}
 use mathlib.Core.List.{List, [], _∷_}
 use lib.ListN.{take, drop}
 use native.Mathlib.Omega.{arith}
 use Rattle.alert_info.specs.Value.{Reading, unfit, spans, add, partOf, readingFrom}
+use Rattle.alert_info.specs.Parts.{entryAt}
+use Rattle.alert_info.specs.declared.cursor.Cursor.{Cursor}
 use Rattle.alert_info.specs.declared.alert_param.Span.{Span}
+use Rattle.alert_info.specs.declared.alert_param.Found.{Found}
+use Rattle.alert_info.specs.declared.alert_param.Found.the-variants.{Last, More, None}
+use Rattle.alert_info.proofs.ReadingLaws.{reading-last, reading-more, reading-none}
 use Rattle.node_step.specs.Step.{stepNumbers}
 use Rattle.node_step.specs.declared.State.{State}
 use Rattle.node_step.specs.declared.uses.Use.{Use}
@@ -17,25 +22,29 @@ use Rattle.resolver.specs.declared.run.Current.the-variants.{Direct, Wal
 use Rattle.resolver.specs.declared.run.Progress.{Progress}
 use Rattle.machine_image.specs.Image.{targetIn}
 use Rattle.signal_table.specs.Listed.{symbolNumber}
-use Rattle.resolver.specs.Run.{Machine, useIn, moved, afterUse, after, over, runOf}
+use Rattle.resolver.specs.Run.{Machine, useIn, moved, afterUse, after, Met, over, runOf}
 use Rattle.resolver.specs.declared.run.Outcome.{Outcome}
 
 module _ (rows parent : List ℕ) (signals nodes : ℕ) (m : Machine) (now : Current) (c k : ℕ) (w : Bool) where
   pub moved-direct : {st r : State} → now ≡ Direct st → r ≡ stepNumbers rows parent signals st c k w → Direct r ≡ moved rows parent signals nodes m now c k w
   moved-direct e q = rw e (ap Direct q)
 
-  pub moved-walk : {j r n : ℕ} → now ≡ Walk j → n ≡ symbolNumber (m .symbols) (m .count) parent nodes c k w → r ≡ targetIn (m .image) j n → Walk r ≡ moved rows parent signals nodes m now c k w
+  pub moved-walk : {j r n : ℕ} → now ≡ Walk j → n ≡ symbolNumber (m .index) (m .symbols) (m .count) parent nodes c k w → r ≡ targetIn (m .image) j n → Walk r ≡ moved rows parent signals nodes m now c k w
   moved-walk {j} e f g = rw e (ap Walk (g ∙ ap (targetIn (m .image) j) f))
 
-module _ (t : List ℕ) (d : Decoded) (m : Machine) (p : Progress) (uri : List ℕ) {u : Use} (e : u ≡ useIn t d uri) where
-  pub after-skipped : u ≡ Skipped → record { current = p .current; used = p .used; skipped = p .skipped + 1 } ≡ after t d m p uri
-  unfolding after
-  after-skipped s = rw (← e, s)
+module _ (rows parent : List ℕ) (signals nodes : ℕ) (m : Machine) (p : Progress) (u : Use) where
+  pub after-skipped : u ≡ Skipped → record { current = p .current; used = p .used; skipped = p .skipped + 1 } ≡ afterUse rows parent signals nodes m p u
+  after-skipped s = rw s
 
-  pub after-used : {c k : ℕ} {w : Bool} {r : Current} → u ≡ Used c k w → r ≡ moved (d .rows) (d .parent) (d .signals) (d .nodes) m (p .current) c k w
-      → record { current = r; used = p .used + 1; skipped = p .skipped } ≡ after t d m p uri
-  unfolding after
-  after-used s q = rw (← e, s) (ap (λ (x : Current). record { current = x; used = p .used + 1; skipped = p .skipped }) q)
+  pub after-used : {c k : ℕ} {w : Bool} {r : Current} → u ≡ Used c k w → r ≡ moved rows parent signals nodes m (p .current) c k w
+      → record { current = r; used = p .used + 1; skipped = p .skipped } ≡ afterUse rows parent signals nodes m p u
+  after-used s q = rw s (ap (λ (x : Current). record { current = x; used = p .used + 1; skipped = p .skipped }) q)
+
+-- one URI more, by what it is to the table
+pub after-uri : (t : List ℕ) (d : Decoded) (m : Machine) (p : Progress) (uri : List ℕ) {u : Use} {r : Progress} → u ≡ useIn t d uri
+    → r ≡ afterUse (d .rows) (d .parent) (d .signals) (d .nodes) m p u → r ≡ after t d m p uri
+unfolding after
+after-uri t d m p uri e q = q ∙ ap (afterUse (d .rows) (d .parent) (d .signals) (d .nodes) m p) e
 
 -- one URI more is counted once
 pub after-counted : (t : List ℕ) (d : Decoded) (m : Machine) (p : Progress) (uri : List ℕ) {r : Progress} → r ≡ after t d m p uri
@@ -43,9 +52,33 @@ pub after-counted : (t : List ℕ) (d : Decoded) (m : Machine) (p : Progress) (u
 unfolding after
 after-counted t d m p uri e = ap (λ (x : Progress). x .used + x .skipped) e ∙ counted (useIn t d uri)
   where
-    counted : (u : Use) → afterUse d m p u .used + afterUse d m p u .skipped ≡ p .used + p .skipped + 1
+    by : Use → Progress
+    by = afterUse (d .rows) (d .parent) (d .signals) (d .nodes) m p
+
+    counted : (u : Use) → by u .used + by u .skipped ≡ p .used + p .skipped + 1
     counted Skipped = omega arith
     counted (Used c k w) = omega arith
+
+-- what the reader's cursor finds at a place, as the run takes it
+module _ (v : List ℕ) (at : ℕ) (f : Found) (is : f ≡ entryAt v at) where
+  pub met-more : {p : Span} {c : Cursor} → f ≡ More p c → Met v at (record { fits = true; last = false; span = p; next = c .at })
+  met-more {p} {c} e =
+      let m = reading-more v at f is p c e in
+      record { none = λ z. absurd (true≢false z); last = λ _ z. absurd (true≢false (sym z)); more = λ _ _. (m .0, m .1, m .2); inside = m .3 }
+
+  pub met-last : {p : Span} → f ≡ Last p → Met v at (record { fits = true; last = true; span = p; next = 0 })
+  met-last {p} e =
+      let m = reading-last v at f is p e in
+      record { none = λ z. absurd (true≢false z); last = λ _ _. m .0; more = λ _ z. absurd (true≢false z); inside = m .1 }
+
+  pub met-none : f ≡ None → Met v at (record { fits = false; last = true; span = record { start = 0; len = 0 }; next = 0 })
+  met-none e =
+      record { none = λ _. reading-none v at f is e; last = λ z. absurd (true≢false (sym z)); more = λ z. absurd (true≢false (sym z)); inside = omega arith }
+
+-- an outcome has the counts of its progress
+pub ended-few : {o : Outcome} {fits : Bool} {p : Progress} {n : ℕ} → o ≡ record { fits = fits; progress = p } → p .used + p .skipped ≤ n
+    → o .progress .used + o .progress .skipped ≤ n
+ended-few e h = rw e h
 
 over-add : {S : Type 0} (v : List ℕ) (f : S → List ℕ → S) (s : S) (p : Span) (r : Reading) → over v f s (add p r) ≡ over v f (f s (partOf v p)) r
 unfolding over

@@ -2,9 +2,7 @@
 use Prim.Native.Nat.{ℕ, _≤_}
 use mathlib.Core.Path.{_≡_}
 use mathlib.Core.Logic.{_↔_}
-use mathlib.Core.Bool.{cond}
 use mathlib.Core.List.{List, _++_}
-use lib.Dec.{eqb}
 use lib.ListN.{length, take, replicate}
 use Rattle.alert_info.specs.Claims.{RefusedExactly}
 use Rattle.alert_info.specs.Value.{refusalOf, urisOf}

@@ -1,19 +1,21 @@
 -- How a value is gone through: from entry to entry, each taken as it is met.
-use Prim.Native.Nat.{ℕ, _+_}
+use Prim.Native.Nat.{ℕ, _+_, _≤_, _<_}
+use mathlib.Core.Path.{_≡_}
 use mathlib.Core.Bool.{Bool, true, false, cond}
 use mathlib.Core.Option.{Option, none, some}
-use mathlib.Core.List.{List, map, foldl}
+use mathlib.Core.List.{List, [], _∷_, map, foldl}
+use lib.ListN.{length}
 use lib.Dec.{ltb}
-use Rattle.alert_info.specs.Value.{Reading, unfit, spans, partOf, readingFrom}
+use Rattle.alert_info.specs.Value.{Reading, unfit, spans, add, partOf, readingFrom}
 use Rattle.node_step.specs.Step.{stepNumbers}
 use Rattle.node_step.specs.Uses.{usesOf}
-use Rattle.node_step.specs.declared.State.{State}
 use Rattle.node_step.specs.declared.uses.Use.{Use}
 use Rattle.node_step.specs.declared.uses.Use.the-variants.{Skipped, Used}
 use Rattle.stored_table.specs.declared.Decoded.{Decoded}
 use Rattle.resolver.specs.declared.Resolution.{Resolution}
 use Rattle.resolver.specs.declared.run.Current.{Current}
 use Rattle.resolver.specs.declared.run.Current.the-variants.{Direct, Walk}
+use Rattle.resolver.specs.declared.run.Entry.{Entry}
 use Rattle.resolver.specs.declared.run.Progress.{Progress}
 use Rattle.resolver.specs.declared.run.Outcome.{Outcome}
 use Rattle.machine_image.specs.Image.{signalIn, targetIn}
@@ -24,8 +26,9 @@ use Rattle.signal_table.specs.Listed.{symbolNumber}
 abbrev pub useIn : List ℕ → Decoded → List ℕ → Use
 useIn t d uri = usesOf t (d .«name_at») (d .«name_len») (d .categories) (d .category) (d .at) (d .len) (d .nodes) uri
 
--- what a resolver goes by besides the decoded table: the stored symbols, their number, and an image
+-- what a resolver goes by besides the decoded table: the stored symbols, their index and number, and an image
 pub record Machine : Type 0 where
+  pub index : List ℕ
   pub symbols : List ℕ
   pub count : ℕ
   pub image : List ℕ
@@ -33,15 +36,23 @@ pub record Machine : Type 0 where
 -- a used URN takes direct resolution one step on, or the walk to the target that the state's row holds for its symbol
 abbrev pub moved : List ℕ → List ℕ → ℕ → ℕ → Machine → Current → ℕ → ℕ → Bool → Current
 moved rows parent signals nodes m (Direct st) c k w = Direct (stepNumbers rows parent signals st c k w)
-moved rows parent signals nodes m (Walk j) c k w = Walk (targetIn (m .image) j (symbolNumber (m .symbols) (m .count) parent nodes c k w))
+moved rows parent signals nodes m (Walk j) c k w = Walk (targetIn (m .image) j (symbolNumber (m .index) (m .symbols) (m .count) parent nodes c k w))
 
 -- one URI more
-abbrev pub afterUse : Decoded → Machine → Progress → Use → Progress
-afterUse d m p Skipped = record { current = p .current; used = p .used; skipped = p .skipped + 1 }
-afterUse d m p (Used c k w) = record { current = moved (d .rows) (d .parent) (d .signals) (d .nodes) m (p .current) c k w; used = p .used + 1; skipped = p .skipped }
+abbrev pub afterUse : List ℕ → List ℕ → ℕ → ℕ → Machine → Progress → Use → Progress
+afterUse rows parent signals nodes m p Skipped = record { current = p .current; used = p .used; skipped = p .skipped + 1 }
+afterUse rows parent signals nodes m p (Used c k w) =
+    record { current = moved rows parent signals nodes m (p .current) c k w; used = p .used + 1; skipped = p .skipped }
 
 unfoldable pub after : List ℕ → Decoded → Machine → Progress → List ℕ → Progress
-after t d m p uri = afterUse d m p (useIn t d uri)
+after t d m p uri = afterUse (d .rows) (d .parent) (d .signals) (d .nodes) m p (useIn t d uri)
+
+-- what stands at a place of a value: no entry, the last entry, or one with the place of the next
+pub record Met (v : List ℕ) (at : ℕ) (e : Entry) : Type 0 where
+  pub none : e .fits ≡ false → readingFrom v at ≡ unfit
+  pub last : e .fits ≡ true → e .last ≡ true → readingFrom v at ≡ spans (e .span ∷ [])
+  pub more : e .fits ≡ true → e .last ≡ false → (readingFrom v at ≡ add (e .span) (readingFrom v (e .next))) × (at < e .next) × (e .next ≤ length v)
+  pub inside : e .span .start + e .span .len ≤ length v
 
 -- the whole run over a reading of v, none where the value does not fit
 unfoldable pub over : {S : Type 0} → List ℕ → (S → List ℕ → S) → S → Reading → Option S

@@ -71,6 +71,7 @@ fn answer(o: Outcome, signal: u8) -> Resolution
 pub(crate) fn resolved(
     t: &[u8],
     d: Decoded,
+    index: &[u8; 136],
     symbols: &[u8; 384],
     count: usize,
     image: &[u8],
@@ -78,14 +79,14 @@ pub(crate) fn resolved(
     v: &[u8],
 ) -> Resolution
     requires { ⌜ length (now v) ≤ 4096 ⌝ }
-    ensures { λ r. ⌜ r ≡ resolvedFrom (now (t .entry)) d (record { symbols = now (symbols .entry); count = count; image = now (image .entry) }) from (now (v .entry)) ⌝ }
+    ensures { λ r. ⌜ r ≡ resolvedFrom (now (t .entry)) d (record { index = now (index .entry); symbols = now (symbols .entry); count = count; image = now (image .entry) }) from (now (v .entry)) ⌝ }
 {
     let start = Progress {
         current: from,
         used: 0,
         skipped: 0,
     };
-    let o = crate::run::run(t, d, symbols, count, image, start, v);
+    let o = crate::run::run(t, d, index, symbols, count, image, start, v);
     let p = o.progress;
     let last = p.current;
     let signal = signal_in(image, last);

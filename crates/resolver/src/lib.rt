@@ -37,8 +37,18 @@ pub fn plain(t: &[u8], v: &[u8]) -> Resolution
         return answer::value_first(v, d.refusal);
     }
     let start = State { signal: 0, shut: 0 };
-    let none = [0u8; 384];
-    answer::resolved(t, d, &none, 0, t, Current::Direct(start), v)
+    let no_index = [0u8; 136];
+    let no_symbols = [0u8; 384];
+    answer::resolved(
+        t,
+        d,
+        &no_index,
+        &no_symbols,
+        0,
+        t,
+        Current::Direct(start),
+        v,
+    )
 }
 
 // The machine resolver: the walk of the image, as it is stored, over the value v with the table t.
@@ -60,5 +70,6 @@ pub fn machine(t: &[u8], image: &[u8], v: &[u8]) -> Resolution
     if !signal_table::image::formed(&s.bytes, count, signals, categories, image) {
         return answer::value_first(v, 15);
     }
-    answer::resolved(t, d, &s.bytes, count, image, Current::Walk(0), v)
+    let index = signal_table::symbols::index(&s.bytes, count);
+    answer::resolved(t, d, &index, &s.bytes, count, image, Current::Walk(0), v)
 }

@@ -1,13 +1,15 @@
 // Going through a value from entry to entry, with the state after those passed.
 use alert_info::Cursor;
 use alert_info::Found;
+use alert_info::Span;
 use node_step::State;
 use node_step::uses::Use;
+use node_step::uses::uses;
 use stored_table::Decoded;
 ghost use mathlib.Core.Path.{_≡_};
 ghost use Prim.Native.Nat.{_+_, _≤_};
 ghost use lib.ListN.{length};
-ghost use Rattle.resolver.specs.Run.{moved, after, runFrom};
+ghost use Rattle.resolver.specs.Run.{moved, afterUse, Met, runFrom};
 
 // Where a resolver is: a state of direct resolution, or a state's number in an image.
 pub enum Current {
@@ -28,12 +30,19 @@ pub struct Outcome {
     pub progress: Progress,
 }
 
+fn ended(fits: bool, progress: Progress) -> Outcome
+    ensures { λ r. ⌜ r ≡ record { fits = fits; progress = progress } ⌝ }
+{
+    Outcome { fits, progress }
+}
+
 // A used URN takes direct resolution one step on, or the walk to the target that the state's row holds for its symbol.
 fn moved_by<'a>(
     rows: &'a [u64; 32],
     parent: &'a [u8; 64],
     signals: usize,
     nodes: usize,
+    index: &[u8; 136],
     symbols: &[u8; 384],
     count: usize,
     image: &[u8],
@@ -44,7 +53,7 @@ fn moved_by<'a>(
 ) -> Current
     ensures { λ r. ⌜
         r ≡ moved (now (rows .entry)) (now (parent .entry)) signals nodes
-        (record { symbols = now (symbols .entry); count = count; image = now (image .entry) }) current c k w
+        (record { index = now (index .entry); symbols = now (symbols .entry); count = count; image = now (image .entry) }) current c k w
         ⌝ }
 {
     match current {
@@ -53,38 +62,31 @@ fn moved_by<'a>(
             Current::Direct(node_step::step(rows, parent, signals, st, category, k, w))
         }
         Current::Walk(j) => {
-            let n = signal_table::symbols::number(symbols, count, parent, nodes, c, k, w);
+            let n = signal_table::symbols::number(index, symbols, count, parent, nodes, c, k, w);
             Current::Walk(signal_table::image::target(image, j, n))
         }
     }
 }
 
-// One URI more.
-fn taken(
-    t: &[u8],
-    d: Decoded,
+// One URI more, by what it is to the table.
+fn taken<'a>(
+    rows: &'a [u64; 32],
+    parent: &'a [u8; 64],
+    signals: usize,
+    nodes: usize,
+    index: &[u8; 136],
     symbols: &[u8; 384],
     count: usize,
     image: &[u8],
     p: Progress,
-    uri: &[u8],
+    u: Use,
 ) -> Progress
     requires { ⌜ p .used + p .skipped ≤ 4096 ⌝ }
-    ensures { λ r. ⌜ r ≡ after (now (t .entry)) d (record { symbols = now (symbols .entry); count = count; image = now (image .entry) }) p (now (uri .entry)) ⌝ }
+    ensures { λ r. ⌜
+        r ≡ afterUse (now (rows .entry)) (now (parent .entry)) signals nodes
+        (record { index = now (index .entry); symbols = now (symbols .entry); count = count; image = now (image .entry) }) p u
+        ⌝ }
 {
-    let categories = d.categories;
-    let nodes = d.nodes;
-    let u = node_step::uses::uses(
-        t,
-        &d.name_at,
-        &d.name_len,
-        categories,
-        &d.category,
-        &d.at,
-        &d.len,
-        nodes,
-        uri,
-    );
     let current = p.current;
     match u {
         Use::Skipped => Progress {
@@ -97,12 +99,12 @@ fn taken(
             node: k,
             whole: w,
         } => {
-            let signals = d.signals;
             let next = moved_by(
-                &d.rows,
-                &d.parent,
+                rows,
+                parent,
                 signals,
                 nodes,
+                index,
                 symbols,
                 count,
                 image,
@@ -120,10 +122,47 @@ fn taken(
     }
 }
 
+// An entry: where its URI lies, and where the next one begins unless it is the last; or the value does not fit.
+pub struct Entry {
+    pub fits: bool,
+    pub last: bool,
+    pub span: Span,
+    pub next: usize,
+}
+
+// The entry at a place of the value.
+fn entry_at(v: &[u8], at: usize) -> Entry
+    ensures { λ r. ⌜ Met (now (v .entry)) at r ⌝ }
+{
+    let c = Cursor { at };
+    let found = c.entry(v);
+    match found {
+        Found::More(span, next) => Entry {
+            fits: true,
+            last: false,
+            span,
+            next: next.at,
+        },
+        Found::Last(span) => Entry {
+            fits: true,
+            last: true,
+            span,
+            next: 0,
+        },
+        Found::None => Entry {
+            fits: false,
+            last: true,
+            span: Span { start: 0, len: 0 },
+            next: 0,
+        },
+    }
+}
+
 // From entry to entry through the value.
 pub(crate) fn run(
     t: &[u8],
     d: Decoded,
+    index: &[u8; 136],
     symbols: &[u8; 384],
     count: usize,
     image: &[u8],
@@ -131,36 +170,44 @@ pub(crate) fn run(
     v: &[u8],
 ) -> Outcome
     requires { ⌜ (length (now v) ≤ 4096) × (from .used + from .skipped ≡ 0) ⌝ }
-    ensures ends { λ r. ⌜ r ≡ runFrom (now (t .entry)) d (record { symbols = now (symbols .entry); count = count; image = now (image .entry) }) (now (v .entry)) from 0 ⌝ }
+    ensures ends { λ r. ⌜ r ≡ runFrom (now (t .entry)) d (record { index = now (index .entry); symbols = now (symbols .entry); count = count; image = now (image .entry) }) (now (v .entry)) from 0 ⌝ }
     ensures few { λ r. ⌜ r .progress .used + r .progress .skipped ≤ 4097 ⌝ }
 {
     let mut at = 0;
     let mut p = from;
     loop {
-        let c = Cursor { at };
-        let found = c.entry(v);
-        match found {
-            Found::More(span, next) => {
-                let start = span.start;
-                let end = start + span.len;
-                p = taken(t, d, symbols, count, image, p, &v[start..end]);
-                at = next.at;
-            }
-            Found::Last(span) => {
-                let start = span.start;
-                let end = start + span.len;
-                p = taken(t, d, symbols, count, image, p, &v[start..end]);
-                return Outcome {
-                    fits: true,
-                    progress: p,
-                };
-            }
-            Found::None => {
-                return Outcome {
-                    fits: false,
-                    progress: from,
-                };
-            }
+        let e = entry_at(v, at);
+        if !e.fits {
+            return ended(false, from);
         }
+        let start = e.span.start;
+        let end = start + e.span.len;
+        let u = uses(
+            t,
+            &d.name_at,
+            &d.name_len,
+            d.categories,
+            &d.category,
+            &d.at,
+            &d.len,
+            d.nodes,
+            &v[start..end],
+        );
+        p = taken(
+            &d.rows,
+            &d.parent,
+            d.signals,
+            d.nodes,
+            index,
+            symbols,
+            count,
+            image,
+            p,
+            u,
+        );
+        if e.last {
+            return ended(true, p);
+        }
+        at = e.next;
     }
 }

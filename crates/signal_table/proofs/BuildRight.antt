@@ -2,11 +2,11 @@
 use Prim.Native.Nat.{ℕ, zero, suc, _+_, _-_, _*_, _/_, _%_, _≤_, _<_}
 use mathlib.Core.Path.{_≡_, refl, sym, ap, ap₂, _∙_}
 use mathlib.Core.Bool.{Bool, true, false, cond}
-use mathlib.Core.List.{List, [], _∷_, _++_, map, append-assoc, append-nil, List·Memᴰ}
+use mathlib.Core.List.{List, [], _∷_, _++_, map, append-assoc, append-nil}
 use lib.Dec.{eqb, ltb}
 use borrow.Author.Tests.{ltb-false}
-use lib.ListN.{length, getD, take, replicate, length-map, length-append}
-use lib.Seq.{take-suc, take-all}
+use lib.ListN.{length, getD, take, replicate, length-map}
+use lib.Seq.{take-all}
 use native.Mathlib.Omega.{arith}
 use Rattle.resolution.specs.Table.{Table, WellFormed}
 use Rattle.resolution.specs.Direct.{start, sameState, StateOf}
@@ -14,18 +14,16 @@ use Rattle.resolution.specs.Direct as direct
 use Rattle.resolution.specs.Symbols.{symbols, stepAt}
 use Rattle.resolution.specs.Discovery.{targets}
 use Rattle.resolution.specs.Machine.{MachineState}
-use Rattle.resolution.specs.Build.{discovered, machineOf}
+use Rattle.resolution.specs.Build.{discovered}
 use Rattle.resolution.proofs.Lists.{mem-at}
 use Rattle.node_step.specs.Arrays.{Numbers}
-use Rattle.node_step.specs.Step.{bits, coded}
 use Rattle.node_step.specs.declared.State.{State}
 use Rattle.machine_image.specs.Image.{joined, stateBytes, imageOf, machineImage}
 use Rattle.machine_image.specs.Refusals.{buildRefusal, buildLength, bufferOf}
 use Rattle.machine_image.proofs.Build.{own-length}
 use Rattle.signal_table.specs.Built.{refused, accepted, builtOf}
 use Rattle.signal_table.specs.Listed.{SymbolsIn}
-use Rattle.signal_table.specs.States.{ofPair, nextPair, found, rowBytes, rowsBytes, imageBy, sizeBy, builtBy, bufferBy}
-use Rattle.signal_table.specs.declared.write.Built.{Built}
+use Rattle.signal_table.specs.States.{nextPair, found, rowBytes, rowsBytes, imageBy, sizeBy, builtBy, bufferBy}
 use Rattle.signal_table.proofs.PairsRight.{code, of-code, found-code, all-found, targets-found}
 
 joined-last : {A : Type 0} (f : A → List ℕ) (l : List A) (x : A) → joined f (l ++ x ∷ []) ≡ joined f l ++ f x

@@ -1,23 +1,22 @@
 -- What the checker says over the arrays is what it should say of the image.
-use Prim.Native.Nat.{ℕ, zero, suc, _+_, _*_, _/_, _^_, _≤_, _<_}
+use Prim.Native.Nat.{ℕ, zero, suc, _+_, _*_, _/_, _^_, _<_}
 use mathlib.Core.Path.{_≡_, refl, sym, ap, ap₂, subst, _∙_}
 use mathlib.Core.Bool.{Bool, true, false, cond, _&&_}
-use mathlib.Core.List.{List, [], _∷_}
+use mathlib.Core.List.{List, []}
 use lib.Dec.{eqb, ltb, leb}
 use borrow.Author.Tests.{le-leb, lt-ltb}
-use lib.ListN.{length, getD, take, drop}
+use lib.ListN.{length, take, drop}
 use native.Mathlib.Omega.{arith}
 use Rattle.resolution.specs.Lists.{all}
 use Rattle.resolution.specs.Names.{sameName}
 use Rattle.resolution.specs.Table.{Table, WellFormed, rowOf}
 use Rattle.resolution.specs.Direct.{start, sameState, StateOf}
 use Rattle.resolution.specs.Direct as direct
-use Rattle.resolution.specs.Symbols.{symbols, symbolAt, stepsAs, stepAt}
+use Rattle.resolution.specs.Symbols.{symbolAt, stepsAs, stepAt}
 use Rattle.resolution.specs.Machine.{machineState, target, targetRight, rowRight}
 use Rattle.resolution.proofs.TableStep.{state-of, state-start, state-step}
 use Rattle.node_step.specs.Arrays.{Numbers}
-use Rattle.node_step.specs.Step.{bits}
-use Rattle.machine_image.specs.Image.{symbolCount, stateCount, signalIn, shutIn, targetIn, statuses, storedSymbols, machineIn}
+use Rattle.machine_image.specs.Image.{symbolCount, stateCount, signalIn, shutIn, targetIn, statuses, machineIn}
 use Rattle.machine_image.specs.Refusals.{targetBelow, stateFormed, formOf, checkOf}
 use Rattle.machine_image.proofs.Joined.{statuses-length, bits-statuses}
 use Rattle.machine_image.proofs.Form.{Formed, form-to, form-symbols}

@@ -1,19 +1,16 @@
 -- What holds of every build and of every image that the checker accepts, for stored tables.
-use Prim.Native.Nat.{ℕ, _-_, _≤_, _<_}
-use mathlib.Core.Path.{_≡_, refl, sym, ap, ap₂, _∙_}
+use Prim.Native.Nat.{ℕ, _-_, _<_}
+use mathlib.Core.Path.{_≡_, refl, sym, ap, _∙_}
 use mathlib.Core.Bool.{Bool, true, false, cond}
-use mathlib.Core.List.{List, _++_}
-use lib.Dec.{eqb, ltb}
+use mathlib.Core.List.{List}
+use lib.Dec.{eqb}
 use borrow.Author.Tests.{eq-eqb, eqb-true, eqb-false}
-use lib.ListN.{length, replicate}
-use native.Mathlib.Omega.{arith}
+use lib.ListN.{replicate}
 use Rattle.resolution.specs.Names.{Parts}
-use Rattle.resolution.specs.Table.{Table}
 use Rattle.resolution.specs.Nodes.{nodes, isNode}
 use Rattle.resolution.specs.Build.{discovered, ReachableOver, machineOf}
 use Rattle.resolution.proofs.Nodes.{urn-node}
 use Rattle.stored_table.specs.Tables.{tableOf, tableRefusal}
-use Rattle.stored_table.specs.Accepted.{Accepted}
 use Rattle.stored_table.proofs.Accepting.{accepted}
 use Rattle.machine_image.specs.Image.{machineImage}
 use Rattle.machine_image.specs.Refusals.{buildRefusal, buildLength, bufferOf, checkOf}
@@ -21,7 +18,6 @@ use Rattle.machine_image.proofs.Build.{few-found, own-storable, reachable-accep
 use Rattle.machine_image.proofs.Check.{check-to, check-of}
 use Rattle.signal_table.specs.Built.{refused, builtOf, builtFrom, bufferFrom, checkFrom}
 use Rattle.signal_table.specs.Claims.{Builds, RefusedBuild, RightImage}
-use Rattle.signal_table.specs.declared.write.Built.{Built}
 
 -- each category of a well-formed table has a node
 pub all-used : (t : List ℕ) → tableRefusal t ≡ 0 → (c : ℕ) → c < tableOf t .cats → (p : Parts) × (isNode (nodes (tableOf t)) c p ≡ true)

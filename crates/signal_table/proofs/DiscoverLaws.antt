@@ -1,18 +1,17 @@
 -- Laws of discovery turn by turn: the rows written so far are those of the states found, and stay so.
 use Prim.Native.Nat.{ℕ, zero, suc, _+_, _-_, _*_, _/_, _%_, _≤_, _<_}
 use mathlib.Core.Path.{_≡_, refl, sym, ap, ap₂, subst, _∙_}
-use mathlib.Core.Logic.{_⊎_, inl, inr}
-use mathlib.Core.Bool.{Bool, true, false, cond}
+use mathlib.Core.Bool.{true}
 use mathlib.Core.List.{List, [], _∷_, _++_, append-assoc}
 use lib.Dec.{eqb}
-use lib.ListN.{length, getD, take, drop, replicate, length-append, length-take, length-drop, length-replicate}
-use lib.Seq.{take-at, take-append-le, length-take-le}
+use lib.ListN.{length, getD, take, drop, length-append, length-drop}
+use lib.Seq.{take-at, length-take-le}
 use native.Mathlib.Omega.{arith}
 use native.Mathlib.Decide.{ℕ-discrete}
 use native.Mathlib.Numerals.{add-one}
 use native.Mathlib.Nat.{suc-mul, zero-mul}
-use Rattle.resolution.specs.Lists.{memberBy, indexBy, tabulate}
-use Rattle.resolution.specs.Discovery.{expand, discover, targets}
+use Rattle.resolution.specs.Lists.{memberBy, indexBy}
+use Rattle.resolution.specs.Discovery.{expand, discover}
 use Rattle.resolution.proofs.Lists.{eqb-exact, Extends, at-extends, tabulate-length, tabulate-same}
 use Rattle.resolution.proofs.Discovery.{discover-next, discover-extends, discover-closed, discover-done}
 use Rattle.signal_table.specs.States.{Kept, found, rowBytes, rowsBytes, Turned, TurnedAt, Discovered}

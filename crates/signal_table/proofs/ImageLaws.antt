@@ -1,17 +1,19 @@
 -- Laws of reading and checking an image at a turn of a loop, over plain variables.
-use Prim.Native.Nat.{ℕ, zero, suc, _+_, _-_, _*_, _/_, _^_, _≤_, _<_}
+use Prim.Native.Nat.{ℕ, _+_, _*_, _/_, _^_, _≤_, _<_, max}
 use mathlib.Core.Path.{_≡_, refl, sym, ap, ap₂, _∙_}
-use mathlib.Core.Bool.{Bool, true, false, cond, _&&_, true≢false}
+use mathlib.Core.Bool.{Bool, true, false, not, _&&_, true≢false}
 use mathlib.Core.List.{List}
 use lib.Dec.{eqb, ltb, leb}
-use borrow.Author.Tests.{eq-eqb, ne-eqb, lt-ltb, le-ltb, le-leb, lt-leb, leb-true}
-use lib.ListN.{length, getD, take, drop}
+use borrow.Author.Tests.{not-true, not-false, eq-eqb, ne-eqb, lt-ltb, le-ltb, le-leb, lt-leb, leb-true}
+use lib.ListN.{length, getD, take, drop, length-take, List·getD-eq-default}
+use lib.Seq.{getD-take, getD-drop}
 use native.Mathlib.Omega.{arith}
 use native.Mathlib.Nat.{mul-le-mul-right}
 use native.Mathlib.Numerals.{add-one}
+use native.Mathlib.Decide.{decLt}
 use Rattle.resolution.specs.Lists.{all}
 use Rattle.resolution.specs.Names.{sameName}
-use Rattle.resolution.proofs.Lists.{all-stop}
+use Rattle.resolution.proofs.Lists.{same-test, all-to, all-of, all-stop}
 use Rattle.machine_image.specs.Image.{symbolCount, stateCount, placeOf, signalIn, shutIn, targetIn}
 use Rattle.machine_image.specs.Refusals.{targetBelow}
 use Rattle.signal_table.specs.Checks.{pairIn, stateFormedBy, formBy, targetRightBy, rowRightBy, checkBy}
@@ -20,6 +22,13 @@ use Rattle.signal_table.specs.Checks.{pairIn, stateFormedBy, formBy, tar
 pub all-more : (f : ℕ → Bool) (k : ℕ) → all k f ≡ true → f k ≡ true → all (k + 1) f ≡ true
 unfolding all
 all-more f k a b = rw (add-one, a) b
+
+-- the same by a test's answer r, and its end at the first no
+pub all-yes : (f : ℕ → Bool) (k : ℕ) {r : Bool} → r ≡ f k → not r ≡ false → all k f ≡ true → all (k + 1) f ≡ true
+all-yes f k e t a = all-more f k a (sym e ∙ not-false _ t)
+
+pub all-no : (f : ℕ → Bool) (n k : ℕ) {r : Bool} → r ≡ f k → not r ≡ true → k < n → false ≡ all n f
+all-no f n k e t h = sym (all-stop n f k h (sym e ∙ not-true _ t))
 
 pub all-done : (f : ℕ → Bool) (n k : ℕ) → k ≤ n → n ≤ k → all k f ≡ true → true ≡ all n f
 all-done f n k a b e = let i : n ≡ k = omega arith in sym (ap (λ z. all z f) i ∙ e)
@@ -50,16 +59,6 @@ module _ (im : List ℕ) (j : ℕ) {i : ℕ} (e : i ≡ placeOf im j) where
   pub pair-is : {s t : ℕ} → s ≡ getD im i 0 → t ≡ getD im (i + 1) 0 → s * 256 + t ≡ pairIn im j
   pair-is f g = let a = signal-is f in let b = shut-is g in ap₂ (λ x y. x * 256 + y) a b
 
-  -- a target
-  module _ (k : ℕ) {n v : ℕ} (g : n ≡ stateCount im) (f : v ≡ getD im (i + 2 + k) 0) where
-    pub below-no : {m : ℕ} → m ≡ getD im 0 0 → k < m → n ≤ v → false ≡ all (symbolCount im) (targetBelow im j)
-    below-no h l o =
-        sym (all-stop (symbolCount im) (targetBelow im j) k (omega arith)
-        (ap₂ ltb (sym (target-is k f)) (sym g) ∙ le-ltb v n o))
-
-    pub below-yes : v < n → targetBelow im j k ≡ true
-    below-yes o = ap₂ ltb (sym (target-is k f)) (sym g) ∙ lt-ltb v n o
-
   -- a state's form
   module _ (signals cats : ℕ) {s : ℕ} (f : s ≡ getD im i 0) where
     pub state-signal : signals ≤ s → false ≡ stateFormedBy signals cats im j
@@ -81,6 +80,51 @@ module _ (im : List ℕ) (j : ℕ) {i : ℕ} (e : i ≡ placeOf im j) where
       state-rest z e =
           let a : eqb (shutIn im j / 2 ^ cats) 0 ≡ true = ap (λ z. eqb (z / 2 ^ cats) 0) (sym (shut-is g)) ∙ eq-eqb (x / 2 ^ cats) 0 z in
           e ∙ sym (rw (low, a))
+
+-- every byte is one of 256 states
+pub below-all : (im : List ℕ) (j : ℕ) {n : ℕ} → ((k : ℕ) → getD im k 0 < 256) → 256 ≤ n → n ≡ stateCount im → true ≡ all (symbolCount im) (targetBelow im j)
+below-all im j w h g =
+    sym (all-of (symbolCount im) (targetBelow im j) (λ k l. lt-ltb (targetIn im j k) (stateCount im) (omega (arith, w (placeOf im j + 2 + k)))))
+
+-- a row's targets, by the largest of them
+below-max : (a b n : ℕ) → ltb (max a b) n ≡ (ltb a n && ltb b n)
+below-max a b n = go (decLt a n) (decLt b n)
+  where
+    go : Dec (a < n) → Dec (b < n) → ltb (max a b) n ≡ (ltb a n && ltb b n)
+    go (yes p) (yes q) = rw (lt-ltb a n p, lt-ltb b n q) (lt-ltb (max a b) n (omega arith))
+    go (yes p) (no q) = rw (lt-ltb a n p, le-ltb b n (omega arith)) (le-ltb (max a b) n (omega arith))
+    go (no p) q = rw (le-ltb a n (omega arith)) (le-ltb (max a b) n (omega arith))
+
+module _ (im : List ℕ) (j n : ℕ) {i m : ℕ} (e : i ≡ placeOf im j) (f : m ≡ getD im 0 0) (g : n ≡ stateCount im) {row : List ℕ} (h : row ≡ take m (drop (i + 2) im)) where
+  target-at : (x : ℕ) → x < m → getD row x 0 ≡ targetIn im j x
+  target-at x l = ap (λ z. getD z x 0) h ∙ getD-take m (drop (i + 2) im) x 0 l ∙ getD-drop (i + 2) im x 0 ∙ ap (λ z. getD im (z + 2 + x) 0) e
+
+  short : length row ≤ m
+  short = omega (arith, ap length h ∙ length-take m (drop (i + 2) im))
+
+  pub most-more : (k most : ℕ) → ltb most n ≡ all k (targetBelow im j) → {v : ℕ} → k < length row → v ≡ max most (getD row k 0) → ltb v n ≡ all (k + 1) (targetBelow im j)
+  unfolding all
+  most-more k most w l o =
+      ap (λ z. ltb z n) o ∙ below-max most (getD row k 0) n ∙ ap₂ (λ x y. x && y) w (ap₂ ltb (target-at k (omega (arith, short))) g)
+      ∙ ap (λ z. all z (targetBelow im j)) (sym (add-one k))
+
+  pub most-end : (k most : ℕ) → ltb most n ≡ all k (targetBelow im j) → {v : ℕ} → k ≤ length row → length row ≤ k → 0 < n → v ≡ most → ltb v n ≡ all (symbolCount im) (targetBelow im j)
+  most-end k most w a b p o = ap (λ z. ltb z n) o ∙ w ∙ same-test (all k (targetBelow im j)) (all (symbolCount im) (targetBelow im j)) to of
+    where
+      past : (x : ℕ) → k ≤ x → x < symbolCount im → targetBelow im j x ≡ true
+      past x l o =
+          lt-ltb (targetIn im j x) (stateCount im)
+          (omega (arith, g, target-at x (omega (arith, f)), List·getD-eq-default row 0 {n = x} (omega arith)))
+
+      to : all k (targetBelow im j) ≡ true → all (symbolCount im) (targetBelow im j) ≡ true
+      to t = all-of (symbolCount im) (targetBelow im j) (λ x l. by x l (decLt x k))
+        where
+          by : (x : ℕ) → x < symbolCount im → Dec (x < k) → targetBelow im j x ≡ true
+          by x l (yes q) = all-to k (targetBelow im j) t x q
+          by x l (no q) = past x (omega arith) l
+
+      of : all (symbolCount im) (targetBelow im j) ≡ true → all k (targetBelow im j) ≡ true
+      of t = all-of k (targetBelow im j) (λ x l. all-to (symbolCount im) (targetBelow im j) t x (omega (arith, short, f)))
 
 -- the form, test by test
 module _ (sy : List ℕ) (count signals cats : ℕ) (im : List ℕ) where

@@ -1,20 +1,20 @@
 -- The number of a used URN's symbol, by the arrays, is its symbol's place in the table's list.
-use Prim.Native.Nat.{ℕ, zero, suc, _+_, _*_, _≤_, _<_}
+use Prim.Native.Nat.{ℕ, zero, suc, _+_, _<_}
 use mathlib.Core.Path.{_≡_, refl, sym, ap, ap₂, _∙_}
-use mathlib.Core.Logic.{_⊎_, inl, inr}
+use mathlib.Core.Logic.{inl, inr}
 use mathlib.Core.Bool.{Bool, true, false, cond, not, _&&_, _||_, and-eq-true-iff}
-use mathlib.Core.List.{List, [], _∷_}
-use lib.Dec.{eqb, leb}
+use mathlib.Core.List.{List, []}
+use lib.Dec.{eqb}
 use borrow.Author.Tests.{eqb-true, eq-eqb, ne-eqb, le-leb}
-use lib.ListN.{length, getD, drop, drop-of-length-le}
+use lib.ListN.{drop, drop-of-length-le}
 use lib.Seq.{drop-cons}
 use native.Mathlib.Omega.{arith}
 use native.Mathlib.Nat.{add-zero, zero-add}
 use native.Mathlib.Numerals.{add-one}
 use Rattle.resolution.specs.Names.{Parts, sameParts}
 use Rattle.resolution.specs.Lists.{indexBy}
-use Rattle.resolution.specs.Table.{Urn, urn, Table, WellFormed}
-use Rattle.resolution.specs.Nodes.{nodes, isNode, number, nodeAt, RootOrNode, leaf, deepest}
+use Rattle.resolution.specs.Table.{Urn, Table, WellFormed}
+use Rattle.resolution.specs.Nodes.{nodes, number, RootOrNode, leaf, deepest}
 use Rattle.resolution.specs.Symbols.{Symbol, other, symbols, symbolAt, symbolOf, isOther, sameSymbol, symbolIndex}
 use Rattle.resolution.proofs.Lists.{same-test, mem-at}
 use Rattle.resolution.proofs.Numbers.{number-node, number-same, root-number}
@@ -22,7 +22,8 @@ use Rattle.resolution.proofs.Deepest.{deepest-node}
 use Rattle.resolution.proofs.Symbols.{symbol-exact, symbol-known}
 use Rattle.node_step.specs.Arrays.{NodesIn, Numbers}
 use Rattle.machine_image.specs.Image.{kindOf}
-use Rattle.signal_table.specs.Listed.{childless, fewer, SymbolsIn, isTriple, tripleIndex, kindFor, symbolNumber}
+use Rattle.signal_table.specs.Listed.{childless, fewer, SymbolsIn, isTriple, tripleIndex, kindFor, Index, symbolNumber}
+use Rattle.signal_table.proofs.SymbolLaws.{by-index}
 use Rattle.signal_table.proofs.SymbolsRight.{leaf-is}
 use Rattle.signal_table.proofs.PairsRight.{category-at, node-at, kind-at}
 
@@ -109,13 +110,14 @@ module _ (t ca pos len : List ℕ) (n : ℕ) (T : Table) (ni : NodesIn t ca pos 
         go true ih = sym (add-zero i)
         go false ih = ih ∙ ap (λ z. i + 1 + indexBy sameSymbol s (drop z (symbols T))) (add-one i) ∙ omega arith
 
-  pub number-right : (u : Urn)
-      → symbolNumber sy count ps n (u .cat) (number ns (u .cat) (deepest ns (u .cat) (u .path))) (sameParts (deepest ns (u .cat) (u .path)) (u .path))
+  pub number-right : (ix : List ℕ) → Index ix sy (fewer count 128) → (u : Urn)
+      → symbolNumber ix sy count ps n (u .cat) (number ns (u .cat) (deepest ns (u .cat) (u .path))) (sameParts (deepest ns (u .cat) (u .path)) (u .path))
       ≡ symbolIndex (symbolOf ns u) (symbols T)
   unfolding symbolNumber
-  number-right u =
+  number-right ix xi u =
       let g = deepest-node ns (u .cat) (u .path) in
-      ap₂ (λ x y. tripleIndex sy (u .cat) (number ns (u .cat) (deepest ns (u .cat) (u .path))) (kindFor ps x (number ns (u .cat) (deepest ns (u .cat) (u .path))) (sameParts (deepest ns (u .cat) (u .path)) (u .path))) 0 y)
+      by-index sy (u .cat) (number ns (u .cat) (deepest ns (u .cat) (u .path))) (kindFor ps (fewer n 64) (number ns (u .cat) (deepest ns (u .cat) (u .path))) (sameParts (deepest ns (u .cat) (u .path)) (u .path))) ix (fewer count 128) xi
+      ∙ ap₂ (λ x y. tripleIndex sy (u .cat) (number ns (u .cat) (deepest ns (u .cat) (u .path))) (kindFor ps x (number ns (u .cat) (deepest ns (u .cat) (u .path))) (sameParts (deepest ns (u .cat) (u .path)) (u .path))) 0 y)
       (ap (λ b. cond b n 64) (le-leb n 64 (ni .few-nodes))) (ap (λ b. cond b count 128) (le-leb count 128 (si .few-symbols)))
       ∙ ap (λ z. tripleIndex sy (u .cat) (number ns (u .cat) (deepest ns (u .cat) (u .path))) z 0 count) (kind-right (u .cat) (deepest ns (u .cat) (u .path)) (u .path) g)
       ∙ index-right (symbolOf ns u) g count 0 (zero-add count)

@@ -1,13 +1,12 @@
 -- A list p written over the front of a list b, and how a loop that goes up extends p: by a store, or by a part that was lent and came back.
 use mathlib.Core.Path.{_≡_, refl, sym, ap, _∙_}
 use mathlib.Core.List.{List, [], _∷_, _++_, append-assoc, append-nil}
-use Prim.Native.Nat.{ℕ, zero, suc, _+_, _-_, _*_, _≤_, _<_}
+use Prim.Native.Nat.{ℕ, suc, _+_, _-_, _*_, _≤_, _<_}
 use native.Mathlib.Omega.{arith}
 use native.Mathlib.Numerals.{add-one}
-use native.Mathlib.Nat.{suc-mul, mul-le-mul-right, not-suc-le-zero, le-of-suc-le-suc}
-use lib.ListN.{length, getD, set, take, drop, replicate, length-append, length-drop, length-replicate, drop-of-length-le}
+use native.Mathlib.Nat.{suc-mul, mul-le-mul-right}
+use lib.ListN.{length, getD, set, take, drop, length-append, length-drop, drop-of-length-le}
 use lib.Seq.{length-take-le, take-suc, drop-cons, set-at, take-at, drop-at, drop-drop}
-use borrow.Rule.Slice.PartMut.{putMid}
 use Rattle.resolution.specs.Lists.{tabulate}
 use Rattle.resolution.proofs.Lists.{tabulate-length}
 

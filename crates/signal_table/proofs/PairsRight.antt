@@ -1,19 +1,19 @@
 -- The step and the discovery on numbered states are the theory's.
-use Prim.Native.Nat.{ℕ, zero, suc, _+_, _*_, _/_, _%_, _^_, _≤_, _<_}
+use Prim.Native.Nat.{ℕ, _+_, _*_, _/_, _%_, _^_, _≤_, _<_}
 use mathlib.Core.Path.{_≡_, refl, sym, ap, ap₂, subst, _∙_}
-use mathlib.Core.Bool.{Bool, true, false, cond, not}
-use mathlib.Core.List.{List, [], _∷_, _++_, map, List·Memᴰ}
+use mathlib.Core.Bool.{Bool, true, false, not}
+use mathlib.Core.List.{List, [], map, List·Memᴰ}
 use lib.Dec.{eqb}
 use lib.Pow.{pow-mono}
 use borrow.Author.Tests.{eqb-true, eq-eqb}
-use lib.ListN.{length, getD, take}
+use lib.ListN.{length, getD}
 use lib.Seq.{getD-take}
 use native.Mathlib.Omega.{arith}
 use Rattle.resolution.specs.Table.{Table, WellFormed}
-use Rattle.resolution.specs.Direct.{start, envOf, sameState, StateOf}
+use Rattle.resolution.specs.Direct.{start, sameState, StateOf}
 use Rattle.resolution.specs.Direct as direct
 use Rattle.resolution.specs.Nodes.{nodes, number}
-use Rattle.resolution.specs.Symbols.{Symbol, other, symbols, symbolAt, stepsAs, stepAt}
+use Rattle.resolution.specs.Symbols.{other, symbols, symbolAt, stepsAs, stepAt}
 use Rattle.resolution.specs.Discovery.{discover, targets}
 use Rattle.resolution.specs.Build.{discovered}
 use Rattle.resolution.proofs.Lists.{same-test, mem-at}
@@ -25,7 +25,7 @@ use Rattle.node_step.specs.Arrays.{Numbers}
 use Rattle.node_step.specs.Step.{bits, coded, stepNumbers}
 use Rattle.node_step.specs.declared.State.{State}
 use Rattle.node_step.proofs.Both.{step-symbol, coded-start, coded-same, bits-below}
-use Rattle.machine_image.specs.Image.{joined, symbolBytes, storedSymbols, kindOf}
+use Rattle.machine_image.specs.Image.{symbolBytes, kindOf}
 use Rattle.machine_image.proofs.Joined.{joined-at}
 use Rattle.signal_table.specs.Listed.{SymbolsIn}
 use Rattle.signal_table.specs.States.{pairOf, ofPair, nextPair, found}

@@ -1,16 +1,16 @@
--- Laws of listing the symbols, at a turn of a loop.
-use Prim.Native.Nat.{ℕ, zero, suc, _+_, _-_, _*_, _≤_, _<_, min}
+-- Laws of listing the symbols, and of finding one's number, at a turn of a loop.
+use Prim.Native.Nat.{ℕ, zero, suc, _+_, _-_, _*_, _≤_, _<_}
 use mathlib.Core.Path.{_≡_, refl, sym, ap, ap₂, subst, _∙_}
-use mathlib.Core.Bool.{Bool, true, false, cond, not, _&&_, and-false}
+use mathlib.Core.Bool.{Bool, true, false, cond, not, _&&_, and-false, true≢false, and-eq-true-iff}
 use mathlib.Core.List.{List, [], _∷_, _++_, append-assoc, append-nil}
-use lib.Dec.{eqb, leb}
-use borrow.Author.Tests.{eq-eqb, ne-eqb, le-leb, lt-leb}
+use lib.Dec.{eqb, ltb}
+use borrow.Author.Tests.{eqb-true, eq-eqb, ne-eqb, le-leb, lt-leb, ltb-true, lt-ltb, le-ltb}
 use lib.ListN.{length, getD, set, take, length-append, length-set}
-use lib.Seq.{take-suc-set, take-all, take-append-le, length-take-le}
+use lib.Seq.{take-suc-set, take-all, take-append-le, getD-set-same, getD-set-other}
 use native.Mathlib.Omega.{arith}
 use native.Mathlib.Numerals.{add-one}
-use native.Mathlib.Decide.{ℕ-discrete}
-use Rattle.signal_table.specs.Listed.{childless, triple, nodeTriples, nodesTriples, categoryTriples, tripleLists, fewer, Listed, isTriple, tripleIndex, kindFor, symbolNumber}
+use native.Mathlib.Decide.{decLt, ℕ-discrete}
+use Rattle.signal_table.specs.Listed.{childless, triple, nodeTriples, nodesTriples, categoryTriples, tripleLists, fewer, Listed, isTriple, tripleIndex, kindFor, slot, slotAt, Index, entryAt, numberFrom, symbolNumber}
 
 pub fewer-le : (n m : ℕ) → n ≤ m → n ≡ fewer n m
 fewer-le n m h = simp (le-leb n m h)
@@ -166,7 +166,119 @@ module _ (ps : List ℕ) (n d : ℕ) (whole : Bool) where
       unfolding kindFor
       kind-inner h = let z = sym g ∙ h in sym (rw (e, ne-eqb d 0 f, z))
 
-pub number-is : (sy : List ℕ) (count : ℕ) (ps : List ℕ) (n c d : ℕ) (whole : Bool) {n′ m kind r : ℕ} → n′ ≡ fewer n 64 → m ≡ fewer count 128
-    → kind ≡ kindFor ps n′ d whole → r ≡ tripleIndex sy c d kind 0 m → r ≡ symbolNumber sy count ps n c d whole
+-- the slot
+module _ (c d kind : ℕ) where
+  pub slot-root : d ≡ 0 → c ≡ slot c d kind
+  slot-root e = sym (ap (λ b. cond b c (6 + 2 * d + kind)) (eq-eqb d 0 e))
+
+  pub slot-node : (d ≡ 0 → ⊥) → 6 + 2 * d + kind ≡ slot c d kind
+  slot-node e = sym (ap (λ b. cond b c (6 + 2 * d + kind)) (ne-eqb d 0 e))
+
+-- the index of the symbols from k on
+pub record IndexFrom (ix sy : List ℕ) (k n : ℕ) : Type 0 where
+  pub wide : length ix ≡ 136
+  pub first : (j : ℕ) → k ≤ j → j < n → slotAt sy j < 136 → getD ix (slotAt sy j) 0 ≤ j
+
+pub indexed-none : (ix sy : List ℕ) (k n : ℕ) → length ix ≡ 136 → k ≡ n → IndexFrom ix sy k n
+indexed-none ix sy k n w e = record { wide = w; first = λ j a b h. absurd (omega arith) }
+
+module _ (ix sy : List ℕ) (k n : ℕ) (v : IndexFrom ix sy k n) where
+  -- one symbol more, the one before
+  module _ {s : ℕ} (h : 0 < k) (e : s ≡ slotAt sy (k - 1)) where
+    pub indexed-put : s < 136 → IndexFrom (set ix s (k - 1)) sy (k - 1) n
+    indexed-put f = record { wide = length-set ix s (k - 1) ∙ v .wide; first = λ j a b l. go j a b l (ℕ-discrete (slotAt sy j) s) }
+      where
+        go : (j : ℕ) → k - 1 ≤ j → j < n → slotAt sy j < 136 → Dec (slotAt sy j ≡ s) → getD (set ix s (k - 1)) (slotAt sy j) 0 ≤ j
+        go j a b l (yes z) = omega (arith, ap (λ x. getD (set ix s (k - 1)) x 0) z, getD-set-same ix s (k - 1) 0 (omega (arith, v .wide)))
+        go j a b l (no z) = omega (arith, getD-set-other ix s (slotAt sy j) (k - 1) 0 z, v .first j (at-least (ℕ-discrete j (k - 1))) b l)
+          where
+            at-least : Dec (j ≡ k - 1) → k ≤ j
+            at-least (yes q) = absurd (z (ap (slotAt sy) q ∙ sym e))
+            at-least (no q) = omega arith
+
+    pub indexed-skip : 136 ≤ s → IndexFrom ix sy (k - 1) n
+    indexed-skip f = record { wide = v .wide; first = λ j a b l. go j a b l (ℕ-discrete j (k - 1)) }
+      where
+        go : (j : ℕ) → k - 1 ≤ j → j < n → slotAt sy j < 136 → Dec (j ≡ k - 1) → getD ix (slotAt sy j) 0 ≤ j
+        go j a b l (yes q) = absurd (omega (arith, ap (slotAt sy) q, e))
+        go j a b l (no q) = v .first j (omega arith) b l
+
+  pub indexed-all : k ≤ 0 → Index ix sy n
+  indexed-all h = record { wide = v .wide; first = λ j b l. v .first j (omega arith) b l }
+
+-- what the index has at a slot
+module _ (ix : List ℕ) (s : ℕ) where
+  pub entry-in : {r : ℕ} → s < 136 → r ≡ getD ix s 0 → r ≡ entryAt ix s
+  entry-in h e = e ∙ sym (ap (λ b. cond b (getD ix s 0) 0) (lt-ltb s 136 h))
+
+  pub entry-out : 136 ≤ s → 0 ≡ entryAt ix s
+  entry-out h = sym (ap (λ b. cond b (getD ix s 0) 0) (le-ltb s 136 h))
+
+-- the number, test by test
+module _ (sy : List ℕ) (m c d kind k : ℕ) where
+  module _ (h : k < m) {b : Bool} (e : b ≡ isTriple sy c d kind k) where
+    pub from-yes : b ≡ true → k ≡ numberFrom sy m c d kind k
+    unfolding numberFrom
+    from-yes f = let z = sym e ∙ f in sym (rw (lt-ltb k m h, z))
+
+    pub from-no : b ≡ false → tripleIndex sy c d kind 0 m ≡ numberFrom sy m c d kind k
+    unfolding numberFrom
+    from-no f = let z = sym e ∙ f in sym (rw (lt-ltb k m h, z))
+
+  pub from-out : m ≤ k → tripleIndex sy c d kind 0 m ≡ numberFrom sy m c d kind k
+  unfolding numberFrom
+  from-out h = sym (rw (le-ltb k m h))
+
+pub number-is : (ix sy : List ℕ) (count : ℕ) (ps : List ℕ) (n c d : ℕ) (whole : Bool) {n′ m kind s k r : ℕ} → n′ ≡ fewer n 64 → m ≡ fewer count 128
+    → kind ≡ kindFor ps n′ d whole → s ≡ slot c d kind → k ≡ entryAt ix s → r ≡ numberFrom sy m c d kind k → r ≡ symbolNumber ix sy count ps n c d whole
 unfolding symbolNumber
-number-is sy count ps n c d whole e f g h = h ∙ ap₂ (λ x y. tripleIndex sy c d x 0 y) (g ∙ ap (λ z. kindFor ps z d whole) e) f
+number-is ix sy count ps n c d whole {kind = kind} {k = k} e f g h i j =
+    let y : kind ≡ kindFor ps (fewer n 64) d whole = g ∙ ap (λ z. kindFor ps z d whole) e in
+    j ∙ ap (λ z. numberFrom sy z c d kind k) f ∙ ap₂ (numberFrom sy (fewer count 128) c d) y (i ∙ ap (entryAt ix) (h ∙ ap (slot c d) y))
+
+-- the index names the first symbol of its slot, so the number is that of the search
+module _ (sy : List ℕ) (c d kind : ℕ) where
+  slot-of : (k : ℕ) → isTriple sy c d kind k ≡ true → slotAt sy k ≡ slot c d kind
+  unfolding isTriple
+  slot-of k e =
+      let a = and-eq-true-iff (eqb (getD sy (3 * k) 0) c) (eqb (getD sy (3 * k + 1) 0) d && eqb (getD sy (3 * k + 2) 0) kind) .0 e in
+      let b = and-eq-true-iff (eqb (getD sy (3 * k + 1) 0) d) (eqb (getD sy (3 * k + 2) 0) kind) .0 (a .1) in
+      let x = eqb-true (getD sy (3 * k) 0) c (a .0) in
+      let y = eqb-true (getD sy (3 * k + 1) 0) d (b .0) in
+      let z = eqb-true (getD sy (3 * k + 2) 0) kind (b .1) in
+      ap (λ q. slot q (getD sy (3 * k + 1) 0) (getD sy (3 * k + 2) 0)) x ∙ ap₂ (slot c) y z
+
+  search-first : (k : ℕ) → isTriple sy c d kind k ≡ true → (m i : ℕ) → i ≤ k → k < i + m
+      → ((j : ℕ) → j < i + m → isTriple sy c d kind j ≡ true → k ≤ j) → tripleIndex sy c d kind i m ≡ k
+  unfolding tripleIndex
+  search-first k e zero i a b f = absurd (omega arith)
+  search-first k e (suc m) i a b f = go (isTriple sy c d kind i) refl (search-first k e m (i + 1))
+    where
+      go : (b : Bool) → isTriple sy c d kind i ≡ b
+          → (i + 1 ≤ k → k < i + 1 + m → ((j : ℕ) → j < i + 1 + m → isTriple sy c d kind j ≡ true → k ≤ j) → tripleIndex sy c d kind (i + 1) m ≡ k)
+          → cond b i (tripleIndex sy c d kind (i + 1) m) ≡ k
+      go true g ih = omega (arith, f i (omega arith) g)
+      go false g ih = by (ℕ-discrete i k)
+        where
+          by : Dec (i ≡ k) → tripleIndex sy c d kind (i + 1) m ≡ k
+          by (yes q) = absurd (true≢false (sym e ∙ ap (isTriple sy c d kind) (sym q) ∙ g))
+          by (no q) = ih (omega arith) (omega arith) (λ j h. f j (omega arith))
+
+  pub by-index : (ix : List ℕ) (m : ℕ) → Index ix sy m → numberFrom sy m c d kind (entryAt ix (slot c d kind)) ≡ tripleIndex sy c d kind 0 m
+  unfolding numberFrom
+  by-index ix m v = go (ltb k m) refl (isTriple sy c d kind k) refl
+    where
+      k : ℕ
+      k = entryAt ix (slot c d kind)
+
+      least : (j : ℕ) → j < m → isTriple sy c d kind j ≡ true → k ≤ j
+      least j h e = by (decLt (slot c d kind) 136)
+        where
+          by : Dec (slot c d kind < 136) → k ≤ j
+          by (yes l) = omega (arith, entry-in ix (slot c d kind) l refl, ap (λ s. getD ix s 0) (slot-of j e), v .first j h (omega (arith, slot-of j e)))
+          by (no l) = omega (arith, entry-out ix (slot c d kind) (omega arith))
+
+      go : (a : Bool) → ltb k m ≡ a → (b : Bool) → isTriple sy c d kind k ≡ b → cond (a && b) k (tripleIndex sy c d kind 0 m) ≡ tripleIndex sy c d kind 0 m
+      go false e b f = refl
+      go true e false f = refl
+      go true e true f = sym (search-first k f m 0 (omega arith) (omega (arith, ltb-true k m e)) (λ j h. least j (omega arith)))

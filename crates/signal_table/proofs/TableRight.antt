@@ -1,21 +1,19 @@
 -- What the builder and the checker answer for a stored table, from its decoded arrays.
-use Prim.Native.Nat.{ℕ, _≤_, _<_}
-use mathlib.Core.Path.{_≡_, refl, sym, ap, subst, _∙_}
-use mathlib.Core.Bool.{Bool, true, false, cond}
+use Prim.Native.Nat.{ℕ}
+use mathlib.Core.Path.{_≡_, sym, ap, subst, _∙_}
+use mathlib.Core.Bool.{true, false}
 use mathlib.Core.List.{List}
 use lib.Dec.{eqb}
 use borrow.Author.Tests.{eq-eqb, ne-eqb}
-use lib.ListN.{length, replicate}
+use lib.ListN.{replicate}
 use native.Mathlib.Omega.{arith}
-use Rattle.resolution.specs.Table.{Table}
 use Rattle.resolution.proofs.SymbolCount.{few-symbols}
-use Rattle.machine_image.specs.Refusals.{bufferOf, checkOf}
 use Rattle.stored_table.specs.Tables.{tableOf, tableRefusal}
 use Rattle.stored_table.specs.Decoded.{Holds, Means}
 use Rattle.stored_table.specs.Accepted.{Accepted}
 use Rattle.stored_table.specs.declared.Decoded.{Decoded}
 use Rattle.stored_table.proofs.Accepting.{accepted}
-use Rattle.signal_table.specs.Built.{refused, builtOf, builtFrom, bufferFrom, checkFrom}
+use Rattle.signal_table.specs.Built.{refused, builtFrom, bufferFrom, checkFrom}
 use Rattle.signal_table.specs.Listed.{tripleLists, fewer, Listed, SymbolsIn}
 use Rattle.signal_table.specs.States.{nextPair, builtBy, bufferBy}
 use Rattle.signal_table.specs.Checks.{checkBy}

@@ -1,18 +1,16 @@
 -- Laws of one turn of discovery: the states kept and the row written, target by target.
-use Prim.Native.Nat.{ℕ, zero, suc, _+_, _*_, _/_, _%_, _≤_, _<_}
-use mathlib.Core.Path.{_≡_, refl, sym, ap, subst, _∙_}
-use mathlib.Core.Logic.{_⊎_, inl, inr}
+use Prim.Native.Nat.{ℕ, zero, suc, _+_, _/_, _%_, _≤_, _<_}
+use mathlib.Core.Path.{_≡_, sym, ap, subst, _∙_}
 use mathlib.Core.Bool.{Bool, true, false, cond}
 use mathlib.Core.List.{List, [], _∷_, _++_}
 use lib.Dec.{eqb}
-use lib.ListN.{length, getD, set, length-append, length-set}
+use lib.ListN.{length, set, length-append, length-set}
 use native.Mathlib.Omega.{arith}
 use native.Mathlib.Decide.{ℕ-discrete}
 use native.Mathlib.Numerals.{add-one}
 use Rattle.resolution.specs.Lists.{memberBy, addBy, indexBy, tabulate}
 use Rattle.resolution.specs.Discovery.{expand, targets}
 use Rattle.resolution.proofs.Lists.{eqb-exact, Extends, add-extends, add-has, member-extends, tabulate-length, tabulate-same}
-use Rattle.resolution.proofs.Discovery.{expand-extends}
 use Rattle.signal_table.specs.States.{Kept, longer, rowBytes, Turned}
 use Rattle.signal_table.proofs.KeptLaws.{index-extends, index-add, add-longer}
 use Rattle.signal_table.proofs.Over.{over, over-all, over-set, over-two}

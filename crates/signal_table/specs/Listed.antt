@@ -1,9 +1,9 @@
 -- The symbols as the code lists them, from the nodes' categories and parents (node k at k - 1), three bytes for each.
-use Prim.Native.Nat.{ℕ, zero, suc, _+_, _*_, _≤_, min}
+use Prim.Native.Nat.{ℕ, zero, suc, _+_, _*_, _≤_, _<_, min}
 use mathlib.Core.Path.{_≡_}
-use mathlib.Core.Bool.{Bool, true, false, cond, not, _&&_}
+use mathlib.Core.Bool.{Bool, true, cond, not, _&&_}
 use mathlib.Core.List.{List, [], _∷_, _++_}
-use lib.Dec.{eqb, leb}
+use lib.Dec.{eqb, ltb, leb}
 use lib.ListN.{length, getD, take}
 use Rattle.resolution.specs.Table.{Table}
 use Rattle.resolution.specs.Symbols.{symbols}
@@ -66,6 +66,28 @@ tripleIndex sy c d kind k (suc n) = cond (isTriple sy c d kind k) k (tripleIndex
 unfoldable pub kindFor : List ℕ → ℕ → ℕ → Bool → ℕ
 kindFor ps n d whole = cond whole 0 (cond (eqb d 0) 1 (cond (childless ps d n) 0 1))
 
--- the number of that symbol, of category c
-unfoldable pub symbolNumber : List ℕ → ℕ → List ℕ → ℕ → ℕ → ℕ → Bool → ℕ
-symbolNumber sy count ps n c d whole = tripleIndex sy c d (kindFor ps (fewer n 64) d whole) 0 (fewer count 128)
+-- where a symbol stands in the index: a category's Other at its number (0 to 7), a node d at 6 + 2 d, its Other right after it (8 to 135)
+abbrev pub slot : ℕ → ℕ → ℕ → ℕ
+slot c d kind = cond (eqb d 0) c (6 + 2 * d + kind)
+
+-- the slot of symbol k
+abbrev pub slotAt : List ℕ → ℕ → ℕ
+slotAt sy k = slot (getD sy (3 * k) 0) (getD sy (3 * k + 1) 0) (getD sy (3 * k + 2) 0)
+
+-- no symbol stands before the one that the index names for its slot
+pub record Index (ix sy : List ℕ) (count : ℕ) : Type 0 where
+  pub wide : length ix ≡ 136
+  pub first : (k : ℕ) → k < count → slotAt sy k < 136 → getD ix (slotAt sy k) 0 ≤ k
+
+-- what the index has at a slot, 0 if there is no such slot
+abbrev pub entryAt : List ℕ → ℕ → ℕ
+entryAt ix s = cond (ltb s 136) (getD ix s 0) 0
+
+-- the number of the symbol c, d and kind among the first m: k if that is it, else by the search
+unfoldable pub numberFrom : List ℕ → ℕ → ℕ → ℕ → ℕ → ℕ → ℕ
+numberFrom sy m c d kind k = cond (ltb k m && isTriple sy c d kind k) k (tripleIndex sy c d kind 0 m)
+
+-- the number of the symbol of a URN of category c under node d, by the index
+unfoldable pub symbolNumber : List ℕ → List ℕ → ℕ → List ℕ → ℕ → ℕ → ℕ → Bool → ℕ
+symbolNumber ix sy count ps n c d whole =
+    numberFrom sy (fewer count 128) c d (kindFor ps (fewer n 64) d whole) (entryAt ix (slot c d (kindFor ps (fewer n 64) d whole)))

@@ -1,6 +1,6 @@
 // A machine's image: its counts, its form, its walk, and whether its rows are right.
 ghost use mathlib.Core.Path.{_≡_};
-ghost use Prim.Native.Nat.{_+_, _*_, _≤_, _<_};
+ghost use Prim.Native.Nat.{_+_, _*_, _≤_, _<_, max};
 ghost use lib.ListN.{getD};
 ghost use Rattle.resolution.specs.Lists.{all};
 ghost use Rattle.machine_image.specs.Image.{symbolCount, stateCount, placeOf, signalIn, targetIn};
@@ -55,25 +55,39 @@ fn pair(im: &[u8], j: usize) -> usize
     signal * 256 + shut
 }
 
-// The targets of state j are states.
+// The larger one.
+fn larger(a: u8, b: u8) -> u8
+    ensures { λ r. ⌜ r ≡ max a b ⌝ }
+{
+    if a < b {
+        return b;
+    }
+    a
+}
+
+// The targets of state j are states: with 256 states every byte is one, else the largest target tells.
+// The loop has no way out in the middle, so that the compiler can read many bytes at a time.
 fn targets_below(im: &[u8], n: usize, j: usize) -> bool
-    requires { ⌜ (j < 65536) × (n ≡ stateCount (now im)) ⌝ }
+    requires { ⌜ (j < n) × (n ≤ 256) × (n ≡ stateCount (now im)) ⌝ }
     ensures { λ r. ⌜ r ≡ all (symbolCount (now (im .entry))) (targetBelow (now (im .entry)) j) ⌝ }
 {
+    if 256 <= n {
+        return true;
+    }
     let m = at(im, 0);
     let i = place(im, j) + 2;
+    let row = alert_urn::text::part(im, i, m);
+    let mut most = 0;
     let mut k = 0;
-    while k < m {
-        if n <= at(im, i + k) {
-            return false;
-        }
+    while k < row.len() {
+        most = larger(most, row[k]);
         k += 1;
     }
-    true
+    crate::states::wide(most) < n
 }
 
 fn state_formed(signals: usize, categories: usize, im: &[u8], n: usize, j: usize) -> bool
-    requires { ⌜ (categories ≤ 8) × (j < 65536) × (n ≡ stateCount (now im)) ⌝ }
+    requires { ⌜ (categories ≤ 8) × (j < n) × (n ≤ 256) × (n ≡ stateCount (now im)) ⌝ }
     ensures { λ r. ⌜ r ≡ stateFormedBy signals categories (now (im .entry)) j ⌝ }
 {
     let i = place(im, j);

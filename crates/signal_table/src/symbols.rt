@@ -3,7 +3,7 @@ ghost use mathlib.Core.Path.{_≡_};
 ghost use mathlib.Core.List.{List, [], _∷_, _++_};
 ghost use Prim.Native.Nat.{ℕ, _+_, _*_, _≤_, _<_};
 ghost use lib.ListN.{length};
-ghost use Rattle.signal_table.specs.Listed.{Listed, childless, nodeTriples, categoryTriples, tripleLists, fewer, isTriple, tripleIndex, kindFor, symbolNumber};
+ghost use Rattle.signal_table.specs.Listed.{Listed, childless, nodeTriples, categoryTriples, tripleLists, fewer, isTriple, tripleIndex, kindFor, slot, slotAt, Index, entryAt, numberFrom, symbolNumber};
 
 // How many symbols there are, and three bytes for each.
 pub struct Symbols {
@@ -192,8 +192,67 @@ fn kind_for(parents: &[u8; 64], n: usize, d: u8, whole: bool) -> u8
     1
 }
 
+// Where a symbol stands in the index.
+fn slot(c: u8, d: u8, kind: u8) -> usize
+    ensures { λ r. ⌜ r ≡ slot c d kind ⌝ }
+{
+    if d == 0 {
+        return crate::states::wide(c);
+    }
+    6 + 2 * crate::states::wide(d) + crate::states::wide(kind)
+}
+
+// The same of symbol k.
+fn slot_at(bytes: &[u8; 384], k: usize) -> usize
+    requires { ⌜ k < 128 ⌝ }
+    ensures { λ r. ⌜ r ≡ slotAt (now (bytes .entry)) k ⌝ }
+{
+    let at = 3 * k;
+    slot(bytes[at], bytes[at + 1], bytes[at + 2])
+}
+
+// The index of the first symbols: at each one's slot the number of the first that has it.
+pub fn index(bytes: &[u8; 384], count: usize) -> [u8; 136]
+    ensures { λ r. ⌜ Index r (now (bytes .entry)) (fewer count 128) ⌝ }
+{
+    let mut index = [0u8; 136];
+    let mut k = at_most(count, 128);
+    while 0 < k {
+        k -= 1;
+        let s = slot_at(bytes, k);
+        if s < 136 {
+            index[s] = k as u8;
+        }
+    }
+    index
+}
+
+// What the index has at a slot, 0 if there is no such slot.
+fn entry_at(index: &[u8; 136], s: usize) -> usize
+    ensures { λ r. ⌜ r ≡ entryAt (now (index .entry)) s ⌝ }
+{
+    if s < 136 {
+        return crate::states::wide(index[s]);
+    }
+    0
+}
+
+// The number of the symbol c, d and kind among the first m: k if that is it, else by the search.
+fn number_from(bytes: &[u8; 384], m: usize, c: u8, d: u8, kind: u8, k: usize) -> u8
+    requires { ⌜ m ≤ 128 ⌝ }
+    ensures { λ r. ⌜ r ≡ numberFrom (now (bytes .entry)) m c d kind k ⌝ }
+{
+    if k < m {
+        if is_symbol(bytes, c, d, kind, k) {
+            return k as u8;
+        }
+    }
+    find(bytes, m, c, d, kind)
+}
+
 // The number of the symbol of a used URN, by its category, the deepest node above it, and whether it is that node.
 pub fn number(
+    index: &[u8; 136],
     bytes: &[u8; 384],
     count: usize,
     parents: &[u8; 64],
@@ -202,10 +261,11 @@ pub fn number(
     d: u8,
     whole: bool,
 ) -> u8
-    ensures { λ r. ⌜ r ≡ symbolNumber (now (bytes .entry)) count (now (parents .entry)) nodes c d whole ⌝ }
+    ensures { λ r. ⌜ r ≡ symbolNumber (now (index .entry)) (now (bytes .entry)) count (now (parents .entry)) nodes c d whole ⌝ }
 {
     let n = at_most(nodes, 64);
     let m = at_most(count, 128);
     let kind = kind_for(parents, n, d, whole);
-    find(bytes, m, c, d, kind)
+    let k = entry_at(index, slot(c, d, kind));
+    number_from(bytes, m, c, d, kind, k)
 }

@@ -1,4 +1,4 @@
-use mathlib.Core.Path.{_≡_, sym, _∙_}
+use mathlib.Core.Path.{sym, _∙_}
 use borrow.Author.Tests.{not-true, not-false}
 use native.Mathlib.Omega.{arith}
 use Rattle.alert_info.proofs.ReadingLaws.{refusal-long}
@@ -6,63 +6,47 @@ use Rattle.resolver.proofs.MachineLaws.{machine-right, machine-long, ma
 use borrow.Author.Needs.{needs}
 use Rattle.resolver.proofs.machine.Statement.{statement}
 use Rattle.resolver.proofs.machine.Tie as tie
-use Rattle.resolver.proofs.machine.Reads as reads
-use Rattle.resolver.proofs.machine.Lts as lts
-use Rattle.resolver.proofs.answer.refused.Reads as refused-reads
-use Rattle.resolver.proofs.answer.resolved.Reads as resolved-reads
-use Rattle.resolver.proofs.answer.value_first.Reads as value-first-reads
-use Rattle.signal_table.proofs.image.formed.Reads as formed-reads
-use Rattle.signal_table.proofs.symbols.list.Reads as list-reads
-use Rattle.stored_table.proofs.decode.Reads as decode-reads
 
--- src/lib.rt:42:9
 refused-requires : tie.Need-refused-requires
 refused-requires c κs = search needs
 
--- src/lib.rt:42:9
 returns : tie.Need-returns
 returns c = c .refused .ensures ∙ machine-long _ _ _ (refusal-long _ (c .before .if1 .taken)) (omega arith)
 
--- src/lib.rt:44:13
 decode-requires : tie.Need-decode-requires
 decode-requires c κs = search needs
 
--- src/lib.rt:46:9
 value-first-requires : tie.Need-value-first-requires
 value-first-requires c κs = search needs
 
--- src/lib.rt:46:9
 returns-2 : tie.Need-returns-2
 returns-2 c = c .value-first .ensures ∙ machine-table _ _ _ (c .before .before .decode .ensures .refusal) (c .before .if2 .taken)
 
--- src/lib.rt:51:13
 list-requires : tie.Need-list-requires
 list-requires c κs = search needs
 
--- src/lib.rt:53:9
 formed-requires : tie.Need-formed-requires
 formed-requires c κs = search needs
 
--- src/lib.rt:54:9
 value-first-requires-2 : tie.Need-value-first-requires-2
 value-first-requires-2 c κs = search needs
 
--- src/lib.rt:54:9
 returns-3 : tie.Need-returns-3
 returns-3 c = let z = sym (c .before .before .before .before .before .before .before .before .before .before .decode .ensures .refusal) ∙ c .before .before .before .before .before .before .before .before .before .if2 .left in
     let h = c .before .before .before .before .before .before .before .before .before .before .decode .ensures .holds z in
     c .value-first2 .ensures ∙ machine-form _ _ _ z (sym (form-listed _ _ (c .before .before .before .before .before .before .before .before .before .before .decode .ensures) (c .before .before .before .before .before .before .before .before .before .if2 .left) (c .before .before .before .before .before .list .ensures .0) _ (c .before .before .formed .ensures)) ∙ not-true _ (c .before .if3 .taken))
 
--- src/lib.rt:56:5
+index-requires : tie.Need-index-requires
+index-requires c κs = search needs
+
 resolved-requires : tie.Need-resolved-requires
 resolved-requires c κs = search needs
 
--- src/lib.rt:38:1
 returns-4 : tie.Need-returns-4
-returns-4 c = let z = sym (c .before .before .before .before .before .before .before .before .before .before .before .before .decode .ensures .refusal) ∙ c .before .before .before .before .before .before .before .before .before .before .before .if2 .left in
-    let h = c .before .before .before .before .before .before .before .before .before .before .before .before .decode .ensures .holds z in
-    let f = sym (form-listed _ _ (c .before .before .before .before .before .before .before .before .before .before .before .before .decode .ensures) (c .before .before .before .before .before .before .before .before .before .before .before .if2 .left) (c .before .before .before .before .before .before .before .list .ensures .0) _ (c .before .before .before .before .formed .ensures)) ∙ not-false _ (c .before .before .before .if3 .left) in
-    c .resolved .ensures ∙ machine-right _ _ h _ (symbols-listed _ _ (c .before .before .before .before .before .before .before .before .before .before .before .before .decode .ensures) (c .before .before .before .before .before .before .before .before .before .before .before .if2 .left) (c .before .before .before .before .before .before .before .list .ensures .0)) _ (omega arith) z f
+returns-4 c = let z = sym (c .before .before .before .before .before .before .before .before .before .before .before .before .before .before .before .before .decode .ensures .refusal) ∙ c .before .before .before .before .before .before .before .before .before .before .before .before .before .before .before .if2 .left in
+    let h = c .before .before .before .before .before .before .before .before .before .before .before .before .before .before .before .before .decode .ensures .holds z in
+    let f = sym (form-listed _ _ (c .before .before .before .before .before .before .before .before .before .before .before .before .before .before .before .before .decode .ensures) (c .before .before .before .before .before .before .before .before .before .before .before .before .before .before .before .if2 .left) (c .before .before .before .before .before .before .before .before .before .before .before .list .ensures .0) _ (c .before .before .before .before .before .before .before .before .formed .ensures)) ∙ not-false _ (c .before .before .before .before .before .before .before .if3 .left) in
+    c .resolved .ensures ∙ machine-right _ _ h _ (symbols-listed _ _ (c .before .before .before .before .before .before .before .before .before .before .before .before .before .before .before .before .decode .ensures) (c .before .before .before .before .before .before .before .before .before .before .before .before .before .before .before .if2 .left) (c .before .before .before .before .before .before .before .before .before .before .before .list .ensures .0)) (c .before .before .before .before .index .ensures) _ (omega (arith, c .before .before .before .before .before .before .before .before .before .before .before .before .before .before .before .before .before .if1 .left)) z f
 
 pub machine-spec : {M : Type 1} → statement M
 machine-spec =
@@ -77,5 +61,6 @@ machine-spec =
     formed-requires
     value-first-requires-2
     returns-3
+    index-requires
     resolved-requires
     returns-4)

@@ -1,4 +1,4 @@
-use mathlib.Core.Path.{_≡_, sym, _∙_}
+use mathlib.Core.Path.{sym, _∙_}
 use native.Mathlib.Omega.{arith}
 use Rattle.alert_info.proofs.ReadingLaws.{refusal-long}
 use Rattle.resolver.specs.Resolve.{plainOf}
@@ -7,43 +7,30 @@ use Rattle.resolver.proofs.PlainLaws.{plain-right}
 use borrow.Author.Needs.{needs}
 use Rattle.resolver.proofs.plain.Statement.{statement}
 use Rattle.resolver.proofs.plain.Tie as tie
-use Rattle.resolver.proofs.plain.Reads as reads
-use Rattle.resolver.proofs.plain.Lts as lts
-use Rattle.resolver.proofs.answer.refused.Reads as refused-reads
-use Rattle.resolver.proofs.answer.resolved.Reads as resolved-reads
-use Rattle.resolver.proofs.answer.value_first.Reads as value-first-reads
-use Rattle.stored_table.proofs.decode.Reads as decode-reads
 
--- src/lib.rt:26:9
 refused-requires : tie.Need-refused-requires
 refused-requires c κs = search needs
 
--- src/lib.rt:26:9
 returns : tie.Need-returns
 unfolding plainOf
 returns c = c .refused .ensures ∙ value-refused _ _ _ (refusal-long _ (c .before .if1 .taken)) (omega arith)
 
--- src/lib.rt:28:9
 decode-requires : tie.Need-decode-requires
 decode-requires c κs = search needs
 
--- src/lib.rt:30:9
 value-first-requires : tie.Need-value-first-requires
 value-first-requires c κs = search needs
 
--- src/lib.rt:30:9
 returns-2 : tie.Need-returns-2
 unfolding plainOf
 returns-2 c = c .value-first .ensures ∙ refused-first _ _ _ (c .before .before .before .decode .ensures .refusal) (c .before .if2 .taken)
 
--- src/lib.rt:34:5
 resolved-requires : tie.Need-resolved-requires
 resolved-requires c κs = search needs
 
--- src/lib.rt:22:1
 returns-3 : tie.Need-returns-3
-returns-3 c = let z = sym (c .before .before .before .before .decode .ensures .refusal) ∙ c .before .before .if2 .left in
-    c .resolved .ensures ∙ plain-right _ _ (c .before .before .before .before .decode .ensures .holds z) _ _ (omega arith) z
+returns-3 c = let z = sym (c .before .before .before .before .before .decode .ensures .refusal) ∙ c .before .before .before .if2 .left in
+    c .resolved .ensures ∙ plain-right _ _ (c .before .before .before .before .before .decode .ensures .holds z) _ _ (omega arith) z
 
 pub plain-spec : {M : Type 1} → statement M
 plain-spec =

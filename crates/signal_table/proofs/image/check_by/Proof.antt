@@ -1,8 +1,5 @@
-use native.Mathlib.Omega.{arith}
 use Rattle.signal_table.proofs.ImageLaws.{form-few}
 use borrow.Author.Tests.{not-true, not-false}
-use mathlib.Core.Path.{_≡_, sym, ap, _∙_}
-use mathlib.Core.Bool.{cond}
 use Rattle.signal_table.specs.States.{nextPair}
 use Rattle.signal_table.proofs.ImageLaws.{check-form, check-start, check-wrong, check-right}
 use borrow.Author.Needs.{needs}

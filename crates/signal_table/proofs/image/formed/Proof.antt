@@ -1,6 +1,4 @@
 use borrow.Author.Tests.{not-true, not-false}
-use mathlib.Core.Path.{_≡_, sym, _∙_}
-use native.Mathlib.Omega.{arith}
 use Rattle.signal_table.proofs.ImageLaws.{form-cats, form-count, form-short, form-length, form-symbols, form-none, form-many, form-states}
 use borrow.Author.Needs.{needs}
 use Rattle.signal_table.proofs.image.formed.Statement.{statement}

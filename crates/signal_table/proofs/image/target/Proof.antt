@@ -1,4 +1,4 @@
-use mathlib.Core.Path.{_≡_, ap, _∙_}
+use mathlib.Core.Path.{ap, _∙_}
 use Prim.Native.Nat.{_+_}
 use lib.ListN.{getD}
 use Rattle.machine_image.specs.Image.{placeOf}
@@ -6,37 +6,25 @@ use Rattle.signal_table.proofs.ImageLaws.{target-is}
 use borrow.Author.Needs.{needs}
 use Rattle.signal_table.proofs.image.target.Statement.{statement}
 use Rattle.signal_table.proofs.image.target.Tie as tie
-use Rattle.signal_table.proofs.image.target.Reads as reads
-use Rattle.signal_table.proofs.image.target.Lts as lts
-use Rattle.signal_table.proofs.image.byte.Reads as byte-reads
-use Rattle.signal_table.proofs.image.place.Reads as place-reads
-use Rattle.signal_table.proofs.states.wide.Reads as wide-reads
 
--- src/image.rt:222:9
 wide-requires : tie.Need-wide-requires
 wide-requires c κs = search needs
 
--- src/image.rt:223:9
 wide-requires-2 : tie.Need-wide-requires-2
 wide-requires-2 c κs = search needs
 
--- src/image.rt:224:13
 place-requires : tie.Need-place-requires
 place-requires c κs = search needs
 
--- src/image.rt:224:13
 add-i : tie.Need-add-i
 add-i c = search needs
 
--- src/image.rt:225:14
 add-byte : tie.Need-add-byte
 add-byte c = search needs
 
--- src/image.rt:225:5
 byte-requires : tie.Need-byte-requires
 byte-requires c κs = search needs
 
--- src/image.rt:219:1
 returns : tie.Need-returns
 returns c = let a = c .before .before .before .before .before .args in
     target-is (a .im .now) (a .j) (c .before .place .ensures .0 ∙ ap (placeOf (a .im .now)) (c .before .before .before .wide .ensures .0)) (a .k)

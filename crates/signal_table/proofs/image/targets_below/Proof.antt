@@ -1,20 +1,24 @@
 use native.Mathlib.Omega.{arith}
 use Prim.Native.Nat.{_≤_, _-_}
-use mathlib.Core.Path.{_≡_, refl}
-use mathlib.Core.Bool.{true}
-use lib.ListN.{getD}
+use mathlib.Core.Path.{_≡_}
+use lib.Dec.{ltb}
+use lib.ListN.{length}
+use borrow.Author.Tests.{lt-ltb}
 use Rattle.resolution.specs.Lists.{all}
 use Rattle.machine_image.specs.Refusals.{targetBelow}
-use Rattle.signal_table.proofs.ImageLaws.{all-more, all-done, below-no, below-yes}
+use Rattle.signal_table.proofs.ImageLaws.{below-all, most-more, most-end}
 use borrow.Author.Needs.{needs}
 use Rattle.signal_table.proofs.image.targets_below.Statement.{statement}
 use Rattle.signal_table.proofs.image.targets_below.Tie as tie
 
 abbrev Inv-loop : tie.InvT-loop
-Inv-loop im n j m i k₀ k = (k ≤ getD im 0 0) × (all k (targetBelow im j) ≡ true)
+Inv-loop im n j m i row most₀ k₀ most k = (k ≤ length row) × (ltb most n ≡ all k (targetBelow im j))
 
 abbrev μ-loop : tie.MeasureT-loop
-μ-loop im n j m i k₀ k = getD im 0 0 - k
+μ-loop im n j m i row most₀ k₀ most k = length row - k
+
+returns : tie.Need-returns Inv-loop μ-loop
+returns c = let a = c .before .before .args in below-all (a .im .now) (a .j) (λ k. omega (arith, c .before .shared-slice-known .given k)) (c .if1 .taken) (c .before .before .pre .2)
 
 at-requires : tie.Need-at-requires Inv-loop μ-loop
 at-requires c κs = search needs
@@ -25,34 +29,35 @@ place-requires c κs = search needs
 add-i : tie.Need-add-i Inv-loop μ-loop
 add-i c = search needs
 
+part-requires : tie.Need-part-requires Inv-loop μ-loop
+part-requires c κs = search needs
+
 loop-holds : tie.Need-loop-holds Inv-loop μ-loop
 unfolding all
-loop-holds c = (omega arith, refl)
+loop-holds c = (omega arith, lt-ltb 0 (c .before .before .before .before .before .args .n) (omega arith))
 
-add-at : tie.Need-add-at Inv-loop μ-loop
-add-at c = search needs
+shared-slice-read-larger : tie.Need-shared-slice-read-larger Inv-loop μ-loop
+shared-slice-read-larger c = search needs
 
-at-requires-2 : tie.Need-at-requires-2 Inv-loop μ-loop
-at-requires-2 c κs = search needs
-
-returns : tie.Need-returns Inv-loop μ-loop
-returns c = below-no (c .before .before .before .before .before .before .before .args .im .now) (c .before .before .before .before .before .before .before .args .j) (c .before .before .before .before .place .ensures .0) (c .before .before .before .loop .k) (c .before .before .before .before .before .before .before .pre .1) (c .before .at2 .ensures .0) (c .before .before .before .before .before .at .ensures .0) (c .before .before .loop-test .taken) (c .if1 .taken)
+larger-requires : tie.Need-larger-requires Inv-loop μ-loop
+larger-requires c κs = search needs
 
 add-k : tie.Need-add-k Inv-loop μ-loop
 add-k c = search needs
 
 loop-less : tie.Need-loop-less Inv-loop μ-loop
-loop-less c = omega (arith, c .before .before .before .before .before .at .ensures .0)
+loop-less c = omega arith
 
 loop-again : tie.Need-loop-again Inv-loop μ-loop
-loop-again c = (
-  omega (arith, c .before .before .before .before .before .at .ensures .0),
-  all-more (targetBelow (c .before .before .before .before .before .before .before .args .im .now) (c .before .before .before .before .before .before .before .args .j)) (c .before .before .before .loop .k) (c .before .before .before .loop .inv .1)
-      (below-yes (c .before .before .before .before .before .before .before .args .im .now) (c .before .before .before .before .before .before .before .args .j) (c .before .before .before .before .place .ensures .0) (c .before .before .before .loop .k) (c .before .before .before .before .before .before .before .pre .1) (c .before .at2 .ensures .0) (c .if1 .left)),
-)
+loop-again c = let a = c .before .before .before .before .before .before .before .before .before .args in
+    (omega arith, most-more (a .im .now) (a .j) (a .n) (c .before .before .before .before .before .place .ensures .0) (c .before .before .before .before .before .before .at .ensures .0) (c .before .before .before .before .before .before .before .before .before .pre .2) (c .before .before .before .before .part .ensures) (c .before .before .before .loop .k) (c .before .before .before .loop .most) (c .before .before .before .loop .inv .1) (c .before .before .loop-test .taken) (c .larger .ensures))
+
+wide-requires : tie.Need-wide-requires Inv-loop μ-loop
+wide-requires c κs = search needs
 
 returns-2 : tie.Need-returns-2 Inv-loop μ-loop
-returns-2 c = all-done (targetBelow (c .before .before .before .before .before .args .im .now) (c .before .before .before .before .before .args .j)) (getD (c .before .before .before .before .before .args .im .now) 0 0) (c .before .loop .k) (c .before .loop .inv .0) (omega (arith, c .before .before .before .at .ensures .0, c .loop-test .left)) (c .before .loop .inv .1)
+returns-2 c = let a = c .before .before .before .before .before .before .before .before .args in
+    most-end (a .im .now) (a .j) (a .n) (c .before .before .before .before .place .ensures .0) (c .before .before .before .before .before .at .ensures .0) (c .before .before .before .before .before .before .before .before .pre .2) (c .before .before .before .part .ensures) (c .before .before .loop .k) (c .before .before .loop .most) (c .before .before .loop .inv .1) (c .before .before .loop .inv .0) (c .before .loop-test .left) (omega arith) (c .wide .ensures .0)
 
 pub targets-below-spec : {M : Type 1} → statement M
 targets-below-spec =
@@ -60,14 +65,16 @@ targets-below-spec =
     (tie.spec
     Inv-loop
     μ-loop
+    returns
     at-requires
     place-requires
     add-i
+    part-requires
     loop-holds
-    add-at
-    at-requires-2
-    returns
+    shared-slice-read-larger
+    larger-requires
     add-k
     loop-less
     loop-again
+    wide-requires
     returns-2)

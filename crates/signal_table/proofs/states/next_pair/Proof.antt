@@ -1,5 +1,3 @@
-use native.Mathlib.Omega.{arith}
-use mathlib.Core.Path.{_≡_, ap, _∙_}
 use Rattle.signal_table.proofs.PairLaws.{next-is, next-small}
 use borrow.Author.Needs.{needs}
 use Rattle.signal_table.proofs.states.next_pair.Statement.{statement}

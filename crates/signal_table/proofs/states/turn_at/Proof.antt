@@ -1,4 +1,4 @@
-use mathlib.Core.Path.{_≡_, refl}
+use mathlib.Core.Path.{refl}
 use native.Mathlib.Omega.{arith}
 use Rattle.signal_table.specs.States.{nextPair}
 use Rattle.signal_table.proofs.DiscoverLaws.{turned-in, turned-out, lent-same}

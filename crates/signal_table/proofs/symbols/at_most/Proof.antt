@@ -1,6 +1,5 @@
 use native.Mathlib.Omega.{arith}
 use Rattle.signal_table.proofs.SymbolLaws.{fewer-le, fewer-gt}
-use borrow.Author.Needs.{needs}
 use Rattle.signal_table.proofs.symbols.at_most.Statement.{statement}
 use Rattle.signal_table.proofs.symbols.at_most.Tie as tie
 

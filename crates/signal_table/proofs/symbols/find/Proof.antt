@@ -7,9 +7,6 @@ use Rattle.signal_table.proofs.SymbolLaws.{index-found, index-more, ind
 use borrow.Author.Needs.{needs}
 use Rattle.signal_table.proofs.symbols.find.Statement.{statement}
 use Rattle.signal_table.proofs.symbols.find.Tie as tie
-use Rattle.signal_table.proofs.symbols.find.Reads as reads
-use Rattle.signal_table.proofs.symbols.find.Lts as lts
-use Rattle.signal_table.proofs.symbols.is_symbol.Reads as is-symbol-reads
 
 abbrev Inv-loop : tie.InvT-loop
 Inv-loop bytes n c d kind k₀ k = (k ≤ n) × (tripleIndex bytes c d kind 0 n ≡ tripleIndex bytes c d kind k (n - k))
@@ -17,39 +14,30 @@ Inv-loop bytes n c d kind k₀ k = (k ≤ n) × (tripleIndex bytes c d kind 0 n 
 abbrev μ-loop : tie.MeasureT-loop
 μ-loop bytes n c d kind k₀ k = n - k
 
--- src/symbols.rt:169:5
 loop-holds : tie.Need-loop-holds Inv-loop μ-loop
 loop-holds c = let a = c .args in (omega arith, ap (tripleIndex (a .bytes .now) (a .c) (a .d) (a .kind) 0) (sym (sub-zero (a .n))))
 
--- src/symbols.rt:170:12
 is-symbol-requires : tie.Need-is-symbol-requires Inv-loop μ-loop
 is-symbol-requires c κs = search needs
 
--- src/symbols.rt:171:20
 cast-result : tie.Need-cast-result Inv-loop μ-loop
 cast-result c = search needs
 
--- src/symbols.rt:171:13
 returns : tie.Need-returns Inv-loop μ-loop
 returns c = let a = c .before .before .before .before .args in index-found (a .bytes .now) (a .c) (a .d) (a .kind) (a .n) (c .before .before .before .loop .k) (c .before .before .before .loop .inv .1) (c .before .before .loop-test .taken) (c .before .is-symbol .ensures) (c .if1 .taken)
 
--- src/symbols.rt:173:9
 add-k : tie.Need-add-k Inv-loop μ-loop
 add-k c = search needs
 
--- src/symbols.rt:169:5
 loop-less : tie.Need-loop-less Inv-loop μ-loop
 loop-less c = omega arith
 
--- src/symbols.rt:169:5
 loop-again : tie.Need-loop-again Inv-loop μ-loop
 loop-again c = let a = c .before .before .before .before .args in (omega arith, index-more (a .bytes .now) (a .c) (a .d) (a .kind) (a .n) (c .before .before .before .loop .k) (c .before .before .before .loop .inv .1) (c .before .before .loop-test .taken) (c .before .is-symbol .ensures) (c .if1 .left))
 
--- src/symbols.rt:175:5
 cast-result-2 : tie.Need-cast-result-2 Inv-loop μ-loop
 cast-result-2 c = search needs
 
--- src/symbols.rt:164:1
 returns-2 : tie.Need-returns-2 Inv-loop μ-loop
 returns-2 c = let a = c .before .before .args in index-end (a .bytes .now) (a .c) (a .d) (a .kind) (a .n) (c .before .loop .k) (c .before .loop .inv .1) (c .before .loop .inv .0) (c .loop-test .left)
 

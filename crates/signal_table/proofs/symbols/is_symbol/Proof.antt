@@ -2,42 +2,31 @@ use Rattle.signal_table.proofs.SymbolLaws.{triple-category, triple-node
 use borrow.Author.Needs.{needs}
 use Rattle.signal_table.proofs.symbols.is_symbol.Statement.{statement}
 use Rattle.signal_table.proofs.symbols.is_symbol.Tie as tie
-use Rattle.signal_table.proofs.symbols.is_symbol.Reads as reads
-use Rattle.signal_table.proofs.symbols.is_symbol.Lts as lts
 
--- src/symbols.rt:153:14
 mul-at : tie.Need-mul-at
 mul-at c = search needs
 
--- src/symbols.rt:154:8
 element-copy-out-if1 : tie.Need-element-copy-out-if1
 element-copy-out-if1 c = search needs
 
--- src/symbols.rt:155:9
 returns : tie.Need-returns
 returns c = let a = c .before .before .args in triple-category (a .bytes .now) (a .c) (a .d) (a .kind) (a .k) (c .if1 .taken)
 
--- src/symbols.rt:157:14
 add-if2 : tie.Need-add-if2
 add-if2 c = search needs
 
--- src/symbols.rt:157:8
 element-copy-out-if2 : tie.Need-element-copy-out-if2
 element-copy-out-if2 c = search needs
 
--- src/symbols.rt:158:9
 returns-2 : tie.Need-returns-2
 returns-2 c = let a = c .before .before .before .before .args in triple-node (a .bytes .now) (a .c) (a .d) (a .kind) (a .k) (c .before .before .if1 .left) (c .if2 .taken)
 
--- src/symbols.rt:160:11
 add-result : tie.Need-add-result
 add-result c = search needs
 
--- src/symbols.rt:160:5
 element-copy-out-result : tie.Need-element-copy-out-result
 element-copy-out-result c = search needs
 
--- src/symbols.rt:149:1
 returns-3 : tie.Need-returns-3
 returns-3 c = let a = c .before .before .before .before .before .args in triple-kind (a .bytes .now) (a .c) (a .d) (a .kind) (a .k) (c .before .before .before .if1 .left) (c .before .if2 .left)
 

@@ -2,27 +2,19 @@ use Rattle.signal_table.proofs.SymbolLaws.{kind-whole, kind-root, kind-
 use borrow.Author.Needs.{needs}
 use Rattle.signal_table.proofs.symbols.kind_for.Statement.{statement}
 use Rattle.signal_table.proofs.symbols.kind_for.Tie as tie
-use Rattle.signal_table.proofs.symbols.kind_for.Reads as reads
-use Rattle.signal_table.proofs.symbols.kind_for.Lts as lts
-use Rattle.signal_table.proofs.symbols.is_leaf.Reads as is-leaf-reads
 
--- src/symbols.rt:184:9
 returns : tie.Need-returns
 returns c = let a = c .before .args in kind-whole (a .parents .now) (a .n) (a .d) (a .whole) (c .if1 .taken)
 
--- src/symbols.rt:187:9
 returns-2 : tie.Need-returns-2
 returns-2 c = let a = c .before .before .args in kind-root (a .parents .now) (a .n) (a .d) (a .whole) (c .before .if1 .left) (c .if2 .taken)
 
--- src/symbols.rt:189:8
 is-leaf-requires : tie.Need-is-leaf-requires
 is-leaf-requires c κs = search needs
 
--- src/symbols.rt:190:9
 returns-3 : tie.Need-returns-3
 returns-3 c = let a = c .before .before .before .before .args in kind-leaf (a .parents .now) (a .n) (a .d) (a .whole) (c .before .before .before .if1 .left) (c .before .before .if2 .left) (c .before .is-leaf .ensures) (c .if3 .taken)
 
--- src/symbols.rt:179:1
 returns-4 : tie.Need-returns-4
 returns-4 c = let a = c .before .before .before .before .args in kind-inner (a .parents .now) (a .n) (a .d) (a .whole) (c .before .before .before .if1 .left) (c .before .before .if2 .left) (c .before .is-leaf .ensures) (c .if3 .left)
 

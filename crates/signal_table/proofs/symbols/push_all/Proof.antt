@@ -1,5 +1,5 @@
 use native.Mathlib.Omega.{arith}
-use Prim.Native.Nat.{ℕ, _≤_, _-_}
+use Prim.Native.Nat.{_≤_, _-_}
 use Rattle.signal_table.specs.Listed.{Listed, tripleLists}
 use Rattle.signal_table.proofs.SymbolLaws.{lists-start, lists-more, lists-end}
 use borrow.Author.Needs.{needs}

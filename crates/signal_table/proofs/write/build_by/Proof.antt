@@ -1,6 +1,6 @@
-use mathlib.Core.Path.{_≡_, refl, ap, _∙_}
+use mathlib.Core.Path.{refl, ap, _∙_}
 use native.Mathlib.Omega.{arith}
-use lib.ListN.{length, replicate}
+use lib.ListN.{replicate}
 use Rattle.signal_table.specs.States.{nextPair}
 use Rattle.signal_table.proofs.WriteLaws.{first-length, built-many, built-short, built-done, rows-fit}
 use borrow.Author.Needs.{needs}

@@ -1,0 +1,65 @@
+use native.Mathlib.Omega.{arith}
+use Prim.Native.Nat.{_≤_}
+use mathlib.Core.Path.{refl}
+use Rattle.signal_table.specs.Listed.{fewer}
+use Rattle.signal_table.proofs.SymbolLaws.{IndexFrom, indexed-none, indexed-put, indexed-skip, indexed-all}
+use borrow.Author.Needs.{needs}
+use Rattle.signal_table.proofs.symbols.index.Statement.{statement}
+use Rattle.signal_table.proofs.symbols.index.Tie as tie
+
+abbrev Inv-loop : tie.InvT-loop
+Inv-loop bytes count index₀ k₀ index k = (k ≤ 128) × IndexFrom index bytes k (fewer count 128)
+
+abbrev μ-loop : tie.MeasureT-loop
+μ-loop bytes count index₀ k₀ index k = k
+
+at-most-requires : tie.Need-at-most-requires Inv-loop μ-loop
+at-most-requires c κs = search needs
+
+loop-holds : tie.Need-loop-holds Inv-loop μ-loop
+loop-holds c = (c .at-most .ensures .1, indexed-none _ _ _ _ refl (c .at-most .ensures .0))
+
+sub-k : tie.Need-sub-k Inv-loop μ-loop
+sub-k c = search needs
+
+slot-at-requires : tie.Need-slot-at-requires Inv-loop μ-loop
+slot-at-requires c κs = omega arith
+
+cast-index : tie.Need-cast-index Inv-loop μ-loop
+cast-index c = omega arith
+
+array-write-index : tie.Need-array-write-index Inv-loop μ-loop
+array-write-index c = search needs
+
+loop-less : tie.Need-loop-less Inv-loop μ-loop
+loop-less c = omega arith
+
+loop-again : tie.Need-loop-again Inv-loop μ-loop
+loop-again c = (omega arith, indexed-put _ (c .before .before .before .before .before .args .bytes .now) _ _ (c .before .before .before .loop .inv .1) (c .before .before .loop-test .taken) (c .before .slot-at .ensures) (c .if1 .taken))
+
+loop-less-2 : tie.Need-loop-less-2 Inv-loop μ-loop
+loop-less-2 c = omega arith
+
+loop-again-2 : tie.Need-loop-again-2 Inv-loop μ-loop
+loop-again-2 c = (omega arith, indexed-skip _ (c .before .before .before .before .before .args .bytes .now) _ _ (c .before .before .before .loop .inv .1) (c .before .before .loop-test .taken) (c .before .slot-at .ensures) (c .if1 .left))
+
+returns : tie.Need-returns Inv-loop μ-loop
+returns c = indexed-all _ _ _ _ (c .before .loop .inv .1) (c .loop-test .left)
+
+pub index-spec : {M : Type 1} → statement M
+index-spec =
+    tie.close
+    (tie.spec
+    Inv-loop
+    μ-loop
+    at-most-requires
+    loop-holds
+    sub-k
+    slot-at-requires
+    cast-index
+    array-write-index
+    loop-less
+    loop-again
+    loop-less-2
+    loop-again-2
+    returns)
