@@ -20,7 +20,6 @@ word-at t = and 1 word-kinds.ps (is 1 word-kinds.ps μ-word t) word.Pre
 abbrev word-below : ℕ → In 1 word-kinds.ps
 word-below t = and 1 word-kinds.ps (falls 1 word-kinds.ps _<_ μ-word t) word.Pre
 
--- src/lib.rt:55:9
 word-before-requires : (t : ℕ) → word-lts.Need-before-requires (
   before-reads.Asked,
   before-reads.Learnt,
@@ -31,7 +30,6 @@ word-before-requires : (t : ℕ) → word-lts.Need-before-requires (
 ) (word-at t) word.Post
 word-before-requires t c κs = tt
 
--- src/lib.rt:55:9
 word-returns : (t : ℕ) → word-lts.Need-returns (
   before-reads.Asked,
   before-reads.Learnt,
@@ -42,7 +40,6 @@ word-returns : (t : ℕ) → word-lts.Need-returns (
 ) (word-at t) word.Post
 word-returns t c = word-zero _ _ _ (c .before2 .ensures) (c .before .if1 .taken)
 
--- src/lib.rt:57:10
 word-after-requires : (t : ℕ) → word-lts.Need-after-requires (
   before-reads.Asked,
   before-reads.Learnt,
@@ -53,7 +50,6 @@ word-after-requires : (t : ℕ) → word-lts.Need-after-requires (
 ) (word-at t) word.Post
 word-after-requires t c κs = tt
 
--- src/lib.rt:57:29
 word-sub-word : (t : ℕ) → word-lts.Need-sub-word (
   before-reads.Asked,
   before-reads.Learnt,
@@ -64,7 +60,6 @@ word-sub-word : (t : ℕ) → word-lts.Need-sub-word (
 ) (word-at t) word.Post
 word-sub-word t c = search needs
 
--- src/lib.rt:57:5
 word-word-requires : (t : ℕ) → word-lts.Need-word-requires (
   before-reads.Asked,
   before-reads.Learnt,
@@ -75,7 +70,6 @@ word-word-requires : (t : ℕ) → word-lts.Need-word-requires (
 ) (word-at t) word.Post
 word-word-requires t c κs = search needs
 
--- src/lib.rt:51:1
 word-returns-2 : (t : ℕ) → word-lts.Need-returns-2 (
   before-reads.Asked,
   before-reads.Learnt,

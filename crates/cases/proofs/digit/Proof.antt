@@ -4,24 +4,18 @@ use Rattle.cases.specs.Numbers.{digitOf}
 use borrow.Author.Needs.{needs}
 use Rattle.cases.proofs.digit.Statement.{statement}
 use Rattle.cases.proofs.digit.Tie as tie
-use Rattle.cases.proofs.digit.Reads as reads
-use Rattle.cases.proofs.digit.Lts as lts
 
--- src/lib.rt:66:9
 returns : tie.Need-returns
 unfolding digitOf
 returns c = (simp (lt-ltb _ _ (c .if1 .taken)), omega arith)
 
--- src/lib.rt:69:9
 returns-2 : tie.Need-returns-2
 unfolding digitOf
 returns-2 c = (simp (le-ltb _ _ (c .before .if1 .left), lt-ltb _ _ (c .if2 .taken)), omega arith)
 
--- src/lib.rt:71:5
 cast-result : tie.Need-cast-result
 cast-result c = search needs
 
--- src/lib.rt:61:1
 returns-3 : tie.Need-returns-3
 unfolding digitOf
 returns-3 c = (simp (le-ltb _ _ (c .before .if1 .left), le-ltb _ _ (c .if2 .left)), omega arith)

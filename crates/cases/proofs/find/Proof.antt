@@ -1,5 +1,5 @@
 use denote.Ref.{now}
-use mathlib.Core.Path.{_≡_, refl, sym, _∙_}
+use mathlib.Core.Path.{_≡_, sym, _∙_}
 use Prim.Native.Nat.{_+_, _-_}
 use lib.ListN.{length, drop}
 use native.Mathlib.Omega.{arith}
@@ -8,8 +8,6 @@ use Rattle.cases.proofs.LineLaws.{find-next, find-here, find-none}
 use borrow.Author.Needs.{needs}
 use Rattle.cases.proofs.find.Statement.{statement}
 use Rattle.cases.proofs.find.Tie as tie
-use Rattle.cases.proofs.find.Reads as reads
-use Rattle.cases.proofs.find.Lts as lts
 
 abbrev Inv-loop : tie.InvT-loop
 Inv-loop s mark at₀ at = length (takeTo mark s) ≡ at + length (takeTo mark (drop at s))
@@ -17,31 +15,24 @@ Inv-loop s mark at₀ at = length (takeTo mark s) ≡ at + length (takeTo mark (
 abbrev μ-loop : tie.MeasureT-loop
 μ-loop s mark at₀ at = length s - at
 
--- src/lib.rt:20:5
 loop-holds : tie.Need-loop-holds Inv-loop μ-loop
 loop-holds c = omega arith
 
--- src/lib.rt:21:12
 shared-slice-read-if1 : tie.Need-shared-slice-read-if1 Inv-loop μ-loop
 shared-slice-read-if1 c = search needs
 
--- src/lib.rt:22:13
 returns : tie.Need-returns Inv-loop μ-loop
 returns c = sym (c .before .before .before .loop .inv ∙ find-here (c .before .before .before .before .args .mark) (now (c .before .before .before .before .args .s)) (c .before .before .before .loop .at) (search needs) (c .if1 .taken))
 
--- src/lib.rt:24:9
 add-at : tie.Need-add-at Inv-loop μ-loop
 add-at c = search needs
 
--- src/lib.rt:20:5
 loop-less : tie.Need-loop-less Inv-loop μ-loop
 loop-less c = search needs
 
--- src/lib.rt:20:5
 loop-again : tie.Need-loop-again Inv-loop μ-loop
 loop-again c = c .before .before .before .loop .inv ∙ find-next (c .before .before .before .before .args .mark) (now (c .before .before .before .before .args .s)) (c .before .before .before .loop .at) (search needs) (c .if1 .left)
 
--- src/lib.rt:16:1
 returns-2 : tie.Need-returns-2 Inv-loop μ-loop
 returns-2 c = sym (c .before .loop .inv ∙ find-none (c .before .before .args .mark) (now (c .before .before .args .s)) (c .before .loop .at) (search needs))
 

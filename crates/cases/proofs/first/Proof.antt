@@ -4,18 +4,13 @@ use denote.Ref.{now}
 use borrow.Author.Needs.{needs}
 use Rattle.cases.proofs.first.Statement.{statement}
 use Rattle.cases.proofs.first.Tie as tie
-use Rattle.cases.proofs.first.Reads as reads
-use Rattle.cases.proofs.first.Lts as lts
 
--- src/lib.rt:12:22
 shared-slice-read-result : tie.Need-shared-slice-read-result
 shared-slice-read-result c = search needs
 
--- src/lib.rt:9:1
 returns : tie.Need-returns
 returns c = search needs
 
--- src/lib.rt:9:1
 returns-2 : tie.Need-returns-2
 returns-2 c = sym (List·getD-eq-default (now (c .before .args .s)) 0 (search needs))
 

@@ -4,34 +4,26 @@ use Rattle.cases.specs.Numbers.{hexDigit}
 use borrow.Author.Needs.{needs}
 use Rattle.cases.proofs.hex_digit.Statement.{statement}
 use Rattle.cases.proofs.hex_digit.Tie as tie
-use Rattle.cases.proofs.hex_digit.Reads as reads
-use Rattle.cases.proofs.hex_digit.Lts as lts
 
--- src/lib.rt:95:9
 returns : tie.Need-returns
 unfolding hexDigit
 returns c = (simp (lt-ltb _ _ (c .if1 .taken)), omega arith)
 
--- src/lib.rt:98:9
 returns-2 : tie.Need-returns-2
 unfolding hexDigit
 returns-2 c = (simp (le-ltb _ _ (c .before .if1 .left), le-leb _ _ (c .if2 .taken)), omega arith)
 
--- src/lib.rt:101:9
 returns-3 : tie.Need-returns-3
 unfolding hexDigit
 returns-3 c = (simp (le-ltb _ _ (c .before .before .if1 .left), lt-leb _ _ (c .before .if2 .left), lt-ltb _ _ (c .if3 .taken)), omega arith)
 
--- src/lib.rt:104:9
 returns-4 : tie.Need-returns-4
 unfolding hexDigit
 returns-4 c = (simp (le-ltb _ _ (c .before .before .before .if1 .left), lt-leb _ _ (c .before .before .if2 .left), le-ltb _ _ (c .before .if3 .left), lt-ltb _ _ (c .if4 .taken)), omega arith)
 
--- src/lib.rt:106:5
 add-result : tie.Need-add-result
 add-result c = search needs
 
--- src/lib.rt:90:1
 returns-5 : tie.Need-returns-5
 unfolding hexDigit
 returns-5 c = (simp (le-ltb _ _ (c .before .before .before .if1 .left), lt-leb _ _ (c .before .before .if2 .left), le-ltb _ _ (c .before .if3 .left), le-ltb _ _ (c .if4 .left)), omega arith)

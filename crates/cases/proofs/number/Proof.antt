@@ -1,15 +1,12 @@
 use denote.Ref.{now}
 use mathlib.Core.Path.{_≡_, refl, sym, _∙_}
-use Prim.Native.Nat.{_+_, _-_}
+use Prim.Native.Nat.{_-_}
 use lib.ListN.{length, drop}
 use Rattle.cases.specs.Numbers.{numberOf}
 use Rattle.cases.proofs.NumberLaws.{number-next, number-end}
 use borrow.Author.Needs.{needs}
 use Rattle.cases.proofs.number.Statement.{statement}
 use Rattle.cases.proofs.number.Tie as tie
-use Rattle.cases.proofs.number.Reads as reads
-use Rattle.cases.proofs.number.Lts as lts
-use Rattle.cases.proofs.more_digits.Reads as more-digits-reads
 
 abbrev Inv-loop : tie.InvT-loop
 Inv-loop s n₀ at₀ n at = numberOf 0 s ≡ numberOf n (drop at s)
@@ -17,31 +14,24 @@ Inv-loop s n₀ at₀ n at = numberOf 0 s ≡ numberOf n (drop at s)
 abbrev μ-loop : tie.MeasureT-loop
 μ-loop s n₀ at₀ n at = length s - at
 
--- src/lib.rt:87:5
 loop-holds : tie.Need-loop-holds Inv-loop μ-loop
 loop-holds c = refl
 
--- src/lib.rt:88:28
 shared-slice-read-more-digits : tie.Need-shared-slice-read-more-digits Inv-loop μ-loop
 shared-slice-read-more-digits c = search needs
 
--- src/lib.rt:88:9
 more-digits-requires : tie.Need-more-digits-requires Inv-loop μ-loop
 more-digits-requires c κs = search needs
 
--- src/lib.rt:89:9
 add-at : tie.Need-add-at Inv-loop μ-loop
 add-at c = search needs
 
--- src/lib.rt:87:5
 loop-less : tie.Need-loop-less Inv-loop μ-loop
 loop-less c = search needs
 
--- src/lib.rt:87:5
 loop-again : tie.Need-loop-again Inv-loop μ-loop
 loop-again c = c .before .before .before .loop .inv ∙ number-next (now (c .before .before .before .before .before .args .s)) (c .before .before .before .loop .n) (c .before .before .before .loop .at) (search needs) _ (c .more-digits .ensures)
 
--- src/lib.rt:82:1
 returns : tie.Need-returns Inv-loop μ-loop
 returns c = sym (c .before .loop .inv ∙ number-end (now (c .before .before .before .args .s)) (c .before .loop .n) (c .before .loop .at) (search needs))
 

@@ -3,10 +3,6 @@ use native.Mathlib.Omega.{arith}
 use borrow.Author.Needs.{needs}
 use Rattle.conformance.proofs.answer_all.Statement.{statement}
 use Rattle.conformance.proofs.answer_all.Tie as tie
-use Rattle.conformance.proofs.answer_all.Reads as reads
-use Rattle.conformance.proofs.answer_all.Lts as lts
-use Rattle.cases.proofs.before.Reads as before-reads
-use Rattle.conformance.proofs.answer.Reads as answer-reads
 
 abbrev Inv-loop : tie.InvT-loop
 Inv-loop text end at₀ at = Unit
@@ -14,47 +10,36 @@ Inv-loop text end at₀ at = Unit
 abbrev μ-loop : tie.MeasureT-loop
 μ-loop text end at₀ at = end - at
 
--- src/main.rt:26:5
 loop-holds : tie.Need-loop-holds Inv-loop μ-loop
 loop-holds c = tt
 
--- src/main.rt:27:34
 sub-before : tie.Need-sub-before Inv-loop μ-loop
 sub-before c = search needs
 
--- src/main.rt:27:34
 part-before-start : tie.Need-part-before-start Inv-loop μ-loop
 part-before-start c = search needs
 
--- src/main.rt:27:34
 part-before-end : tie.Need-part-before-end Inv-loop μ-loop
 part-before-end c = search needs
 
--- src/main.rt:27:13
 before-requires : tie.Need-before-requires Inv-loop μ-loop
 before-requires c κs = search needs
 
--- src/main.rt:28:9
 answer-requires : tie.Need-answer-requires Inv-loop μ-loop
 answer-requires c κs = search needs
 
--- src/main.rt:29:14
 add-at : tie.Need-add-at Inv-loop μ-loop
 add-at c = search needs
 
--- src/main.rt:29:14
 add-at-2 : tie.Need-add-at-2 Inv-loop μ-loop
 add-at-2 c = search needs
 
--- src/main.rt:26:5
 loop-less : tie.Need-loop-less Inv-loop μ-loop
 loop-less c = omega arith
 
--- src/main.rt:26:5
 loop-again : tie.Need-loop-again Inv-loop μ-loop
 loop-again c = tt
 
--- src/main.rt:23:1
 returns : tie.Need-returns Inv-loop μ-loop
 returns c = search needs
 

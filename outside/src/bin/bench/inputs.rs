@@ -36,6 +36,16 @@ fn alike(letter: usize) -> Bytes {
     Draft { categories, signals: std::iter::once(Vec::new()).chain(signals).collect() }.bytes()
 }
 
+/// 31 signals with 8 URNs of 8 parts each, in categories whose names differ in the last letter only: refused with 11
+/// after each path has been looked for among 64 nodes.
+fn deep() -> Bytes {
+    let name = |category: u8| [b"long-category-".as_slice(), &[category]].concat();
+    let urn = |category: u8| [name(category).as_slice(), b":a:a:a:a:a:a:a:a"].concat();
+    let signal: Vec<Bytes> = (b'a'..=b'h').map(urn).collect();
+    let signals = std::iter::once(Vec::new()).chain(vec![signal; 31]).collect();
+    Draft { categories: (b'a'..=b'h').map(name).collect(), signals }.bytes()
+}
+
 fn example(name: &str) -> Bytes {
     let file = Path::new(env!("CARGO_MANIFEST_DIR")).join("../examples/tables").join(name);
     std::fs::read(&file).unwrap_or_else(|e| panic!("{}: {e}", file.display()))
@@ -93,9 +103,11 @@ impl Inputs {
             urns(&["category-0:0", "category-7:7"], 32),
             urns(&["c0:p0:p1:p2:p3", "c7:p0:p1:p2:p3:p4:p5:p6:p7"], 32),
         ];
-        let refused = [0, 10, 19]
+        let mut refused = [0, 10, 19]
             .map(|letter| (format!("7,397 bytes, refused with 12, letter {letter} differs"), alike(letter)))
             .to_vec();
+        let deep = deep();
+        refused.push((format!("{} bytes, refused with 11, 64 nodes", deep.len()), deep));
         Inputs { values, tables, used, refused }
     }
 
