@@ -1,14 +1,15 @@
 -- A table of classes agrees with the byte rules: one test, which antt computes over its 256 entries, and one law.
 -- Assumes nothing.
-use mathlib.Core.Path.{_≡_, refl, sym, subst}
+use mathlib.Core.Path.{_≡_, refl, sym, ap, ap₂, _∙_, subst}
 use mathlib.Core.Logic.{⊎-elim}
 use native.Mathlib.Nat.{not-suc-le-zero, le-of-suc-le-suc, eq-or-lt-of-le}
 use mathlib.Core.List.{List, []}
-use mathlib.Core.Bool.{Bool, true, false}
+use mathlib.Core.Bool.{Bool, true, false, _&&_, and-assoc}
 use Prim.Native.Nat.{ℕ, zero, suc, _/_, _%_, _^_, _<_}
 use native.Mathlib.Omega.{arith}
 use borrow.Author.Tests.{eqb-true}
 use lib.Dec.{T, eqb}
+use lib.Bits.{bitAnd, and-shr, and-mod}
 use lib.ListN.{length, getD}
 use Rattle.alert_info.specs.Bytes.{Classes, inClass}
 use Rattle.alert_info.proofs.Table.{at, both, every}
@@ -67,3 +68,32 @@ table-right t h k b hk hb =
     is-true : (x : Bool) → T x → x ≡ true
     is-true true u = refl
     is-true false u = absurd u
+
+digits : (i j : ℕ) → i < 2 → j < 2 → eqb (bitAnd i j) 1 ≡ (eqb i 1 && eqb j 1)
+digits zero zero h l = refl
+digits zero (suc zero) h l = refl
+digits (suc zero) zero h l = refl
+digits (suc zero) (suc zero) h l = refl
+digits (suc (suc i)) j h l = absurd (omega arith)
+digits zero (suc (suc j)) h l = absurd (omega arith)
+digits (suc zero) (suc (suc j)) h l = absurd (omega arith)
+
+-- what two entries have in common has a class's bit if both have it
+both-bits : (k x y : ℕ) → bit k (bitAnd x y) ≡ (bit k x && bit k y)
+both-bits k x y =
+    ap (λ z. eqb (z % 2) 1) (and-shr x y k) ∙ ap (λ z. eqb z 1) (and-mod (x / 2 ^ k) (y / 2 ^ k) 1)
+    ∙ digits (x / 2 ^ k % 2) (y / 2 ^ k % 2) (omega arith) (omega arith)
+
+-- the same of four entries of a table, x to w, for the bytes a to d
+module _ (t : List ℕ) (right-table : Classes t) (k : ℕ) (hk : k < 5) {a b c d x y z w : ℕ}
+    (ha : a < 256) (hb : b < 256) (hc : c < 256) (hd : d < 256)
+    (ex : x ≡ getD t a 0) (ey : y ≡ getD t b 0) (ez : z ≡ getD t c 0) (ew : w ≡ getD t d 0) where
+  entry : {b x : ℕ} → b < 256 → x ≡ getD t b 0 → bit k x ≡ inClass k b
+  unfolding Classes
+  entry {b} h e = ap (bit k) e ∙ right-table k b hk h
+
+  pub four-right : bit k (bitAnd (bitAnd x y) (bitAnd z w)) ≡ (inClass k a && (inClass k b && (inClass k c && inClass k d)))
+  four-right =
+      both-bits k (bitAnd x y) (bitAnd z w) ∙ ap₂ (λ p q. p && q) (both-bits k x y) (both-bits k z w)
+      ∙ and-assoc (bit k x) (bit k y) (bit k z && bit k w)
+      ∙ ap₂ (λ p q. p && q) (entry ha ex) (ap₂ (λ p q. p && q) (entry hb ey) (ap₂ (λ p q. p && q) (entry hc ez) (entry hd ew)))

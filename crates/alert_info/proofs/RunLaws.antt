@@ -57,33 +57,3 @@ pub by-test {ℓ} : {A : Type ℓ} (P : A → Type 0) (b : Bool) (x y : A) → (
     (cond b x y)
 by-test P true x y f g = f refl
 by-test P false x y f g = g refl
-
--- the four tests one after the other; a, b, c and d are what they gave
-no-and : (x r : Bool) → x ≡ false → false ≡ (x && r)
-no-and x r e = sym (ap (λ (z : Bool). z && r) e)
-
-yes-and : (x r : Bool) → x ≡ true → r ≡ (x && r)
-yes-and x r e = sym (ap (λ (z : Bool). z && r) e)
-
-module _ (p : ℕ → Bool) (s : List ℕ) (at : ℕ) (a : Bool) (is-a : a ≡ p (getD s at 0)) where
-  pub four-1 : a ≡ false → false ≡ fourAt p s at
-  four-1 f = no-and (p (getD s at 0)) (p (getD s (at + 1) 0) && (p (getD s (at + 2) 0) && p (getD s (at + 3) 0)))
-      (sym is-a ∙ f)
-
-  module _ (ta : a ≡ true) (b : Bool) (is-b : b ≡ p (getD s (at + 1) 0)) where
-    past-1 : (p (getD s (at + 1) 0) && (p (getD s (at + 2) 0) && p (getD s (at + 3) 0))) ≡ fourAt p s at
-    past-1 = yes-and (p (getD s at 0)) (p (getD s (at + 1) 0) && (p (getD s (at + 2) 0) && p (getD s (at + 3) 0)))
-        (sym is-a ∙ ta)
-
-    pub four-2 : b ≡ false → false ≡ fourAt p s at
-    four-2 f = no-and (p (getD s (at + 1) 0)) (p (getD s (at + 2) 0) && p (getD s (at + 3) 0)) (sym is-b ∙ f) ∙ past-1
-
-    module _ (tb : b ≡ true) (c : Bool) (is-c : c ≡ p (getD s (at + 2) 0)) where
-      past-2 : (p (getD s (at + 2) 0) && p (getD s (at + 3) 0)) ≡ fourAt p s at
-      past-2 = yes-and (p (getD s (at + 1) 0)) (p (getD s (at + 2) 0) && p (getD s (at + 3) 0)) (sym is-b ∙ tb) ∙ past-1
-
-      pub four-3 : c ≡ false → false ≡ fourAt p s at
-      four-3 f = no-and (p (getD s (at + 2) 0)) (p (getD s (at + 3) 0)) (sym is-c ∙ f) ∙ past-2
-
-      pub four-4 : c ≡ true → (d : Bool) → d ≡ p (getD s (at + 3) 0) → d ≡ fourAt p s at
-      four-4 tc d is-d = is-d ∙ yes-and (p (getD s (at + 2) 0)) (p (getD s (at + 3) 0)) (sym is-c ∙ tc) ∙ past-2

@@ -1,7 +1,9 @@
 // What each byte may be part of.
 // The table's rows are laid out by hand; `rt fmt` would give each number a line of its own.
 ghost use mathlib.Core.Path.{_≡_};
+ghost use mathlib.Core.Bool.{_&&_};
 ghost use Prim.Native.Nat.{_<_};
+ghost use lib.ListN.{getD};
 ghost use Rattle.alert_info.specs.Bytes.{inClass, Classes};
 
 // The classes, each a bit of a byte's number in the table:
@@ -66,4 +68,22 @@ pub(crate) fn has(classes: &[u8; 256], b: u8, class: u8) -> bool
 {
     let i = b as usize;
     (classes[i] >> class) % 2 == 1
+}
+
+// The classes of byte b.
+fn of(classes: &[u8; 256], b: u8) -> u8
+    ensures { λ r. ⌜ r ≡ getD (now (classes .entry)) b 0 ⌝ }
+{
+    let i = b as usize;
+    classes[i]
+}
+
+// Four bytes are all in a class: one test for the four.
+pub(crate) fn have(classes: &[u8; 256], a: u8, b: u8, c: u8, d: u8, class: u8) -> bool
+    requires { ⌜ (class < 5) × Classes (now classes) ⌝ }
+    ensures { λ r. ⌜ r ≡ (inClass class a && (inClass class b && (inClass class c && inClass class d))) ⌝ }
+{
+    let first = of(classes, a) & of(classes, b);
+    let second = of(classes, c) & of(classes, d);
+    ((first & second) >> class) % 2 == 1
 }

@@ -4,6 +4,7 @@ use crate::classes::ESCAPABLE;
 use crate::classes::TEXT;
 use crate::classes::TOKEN;
 use crate::classes::has;
+use crate::classes::have;
 ghost use mathlib.Core.Path.{_≡_};
 ghost use Prim.Native.Nat.{_<_, _≤_, _+_};
 ghost use lib.ListN.{length, getD};
@@ -44,16 +45,7 @@ impl Cursor {
         ensures { λ r. ⌜ r ≡ fourAt (inClass class) (now (s .entry)) (self .at) ⌝ }
     {
         let at = self.at;
-        if !has(classes, s[at], class) {
-            return false;
-        }
-        if !has(classes, s[at + 1], class) {
-            return false;
-        }
-        if !has(classes, s[at + 2], class) {
-            return false;
-        }
-        has(classes, s[at + 3], class)
+        have(classes, s[at], s[at + 1], s[at + 2], s[at + 3], class)
     }
 
     // Past the bytes of a class, four at a time: a quicker way through the most of them.
