@@ -14,13 +14,13 @@
 extern "C" {
 #endif
 
-/* Refusal numbers. Where several hold, the smaller is given. */
+/* What is wrong, by its number; if more than one applies, the smallest is given. */
 enum {
     ALERT_INFO_ACCEPTED = 0,
-    ALERT_INFO_TOO_LONG = 1,         /* value over 4,096 bytes */
-    ALERT_INFO_MISFIT = 2,           /* value does not fit the rule */
-    ALERT_INFO_TOO_MANY_ENTRIES = 3, /* over 64 entries */
-    ALERT_INFO_NO_ENTRY = 18         /* no entry k */
+    ALERT_INFO_TOO_LONG = 1,         /* the value is longer than 4,096 bytes */
+    ALERT_INFO_MISFIT = 2,           /* the value is not of the field's form: docs/RULES.md, section 1 */
+    ALERT_INFO_TOO_MANY_ENTRIES = 3, /* the value has more than 64 entries */
+    ALERT_INFO_NO_ENTRY = 18         /* the value has fewer than k + 1 entries */
 };
 
 /* A part of the value: `len` bytes from value[start] on. */

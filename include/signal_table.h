@@ -14,27 +14,24 @@
 extern "C" {
 #endif
 
-/* Refusal numbers. Where several hold, the smaller is given, except 5 and 6: the table is read from the left and the
- * first of these two met decides, left-over bytes last. */
+/* What is wrong, by its number; if more than one applies, the smallest is given. Between 5 and 6 it is the one that a
+ * reader from the left meets first; bytes after the last signal come last. */
 enum {
     SIGNAL_TABLE_ACCEPTED = 0,
-    SIGNAL_TABLE_TOO_LONG = 4,        /* table over 8,192 bytes */
-    SIGNAL_TABLE_WRONG_END = 5,       /* table ends too soon, or has bytes left over */
-    SIGNAL_TABLE_OUT_OF_RANGE = 6,    /* a count or length outside its range */
-    SIGNAL_TABLE_BAD_FORM = 7,        /* a category name or URN of bad form, or over 8 parts */
-    SIGNAL_TABLE_BAD_CATEGORY = 8,    /* a category listed twice, used by no signal, or named by a URN and not listed */
-    SIGNAL_TABLE_TWO_OF_CATEGORY = 9, /* a signal with two URNs of one category */
-    SIGNAL_TABLE_BAD_DEFAULT = 10,    /* signal 0 has a URN */
-    SIGNAL_TABLE_SAME_PLACES = 11,    /* two signals with the same places */
-    SIGNAL_TABLE_TOO_MANY_NODES = 12, /* over 64 nodes */
-    MACHINE_TOO_MANY_STATES = 13,     /* over 256 reachable states */
-    MACHINE_NO_ROOM = 14,             /* machine buffer shorter than the image */
-    MACHINE_BAD_FORM = 15,            /* image: too short to hold its two counts, or of another length than they give,
-                                         symbols other than the table's, a state count outside 1 to 256, a signal not
-                                         in the table, a shut bit at or above the category count, or a target at or
-                                         above the state count */
-    MACHINE_WRONG_START = 16,         /* state 0 is not signal 0 with nothing shut */
-    MACHINE_WRONG_ROW = 17            /* some row leads to a wrong pair */
+    SIGNAL_TABLE_TOO_LONG = 4,        /* the table is longer than 8,192 bytes */
+    SIGNAL_TABLE_WRONG_END = 5,       /* it stops before its counts and lengths are met, or goes on after its last signal */
+    SIGNAL_TABLE_OUT_OF_RANGE = 6,    /* one of its counts or lengths is out of range */
+    SIGNAL_TABLE_BAD_FORM = 7,        /* a category's name or a URN is of wrong form; a URN has more than 8 parts */
+    SIGNAL_TABLE_BAD_CATEGORY = 8,    /* a category stands twice, or no signal uses it; a URN names one that is not there */
+    SIGNAL_TABLE_TWO_OF_CATEGORY = 9, /* one signal has two URNs of the same category */
+    SIGNAL_TABLE_BAD_DEFAULT = 10,    /* signal 0 names a URN */
+    SIGNAL_TABLE_SAME_PLACES = 11,    /* two signals have equal places in all categories */
+    SIGNAL_TABLE_TOO_MANY_NODES = 12, /* there are more than 64 nodes */
+    MACHINE_TOO_MANY_STATES = 13,     /* the machine would have more than 256 states */
+    MACHINE_NO_ROOM = 14,             /* the image does not fit the buffer */
+    MACHINE_BAD_FORM = 15,            /* the image is not of the form that the table asks for: docs/RULES.md, section 6 */
+    MACHINE_WRONG_START = 16,         /* state 0 is not signal 0 with every category open */
+    MACHINE_WRONG_ROW = 17            /* a row leads to a state whose signal or shut set is wrong */
 };
 
 /* No image is longer than this: a buffer of so many bytes has room for every machine. */

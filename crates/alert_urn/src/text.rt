@@ -5,7 +5,7 @@ ghost use Rattle.resolution.specs.Names.{sameName};
 ghost use Rattle.alert_urn.specs.Text.{within, labelByte, labelRun, labelOk, upTo, past, nameOk, nameLength, covers, wordOf};
 
 // lo ≤ x ≤ hi
-pub fn in_range(x: u8, lo: u8, hi: u8) -> bool
+pub(crate) fn in_range(x: u8, lo: u8, hi: u8) -> bool
     ensures { λ r. ⌜ r ≡ within lo hi x ⌝ }
 {
     if x < lo {
@@ -15,7 +15,7 @@ pub fn in_range(x: u8, lo: u8, hi: u8) -> bool
 }
 
 // A letter, a digit or a hyphen.
-pub fn label_byte(b: u8) -> bool
+pub(crate) fn label_byte(b: u8) -> bool
     ensures { λ r. ⌜ r ≡ labelByte b ⌝ }
 {
     if in_range(b, 97, 122) {
@@ -31,7 +31,7 @@ pub fn label_byte(b: u8) -> bool
 }
 
 // How many bytes at the front may stand in a label.
-pub fn label_run(s: &[u8]) -> usize
+pub(crate) fn label_run(s: &[u8]) -> usize
     ensures { λ r. ⌜ r ≡ labelRun (now (s .entry)) ⌝ }
 {
     let mut i = 0;
@@ -67,7 +67,7 @@ fn run_label(s: &[u8], n: usize) -> bool
 }
 
 // A label: 1 to 27 letters, digits and hyphens, no hyphen first or last.
-pub fn label(s: &[u8]) -> bool
+fn label(s: &[u8]) -> bool
     ensures { λ r. ⌜ r ≡ labelOk (now (s .entry)) ⌝ }
 {
     let k = label_run(s);
@@ -124,7 +124,7 @@ fn any_name_end(s: &[u8]) -> usize
 }
 
 // The same, with one look at each byte where the name has no `@`.
-pub fn name_end(s: &[u8]) -> usize
+pub(crate) fn name_end(s: &[u8]) -> usize
     ensures { λ r. ⌜ r ≡ nameLength (now (s .entry)) ⌝ }
 {
     let k = label_run(s);
@@ -239,8 +239,8 @@ pub fn before_colon(s: &[u8]) -> &[u8]
     ensures { λ r. ⌜ now r ≡ upTo 58 (now (s .entry)) ⌝ }
 {
     let a = 0;
-    let k = find(s, 58);
-    &s[a..k]
+    let end = find(s, 58);
+    &s[a..end]
 }
 
 // The bytes after the first colon.

@@ -7,7 +7,7 @@ ghost use Rattle.alert_urn.specs.Urn.{bytes, lower, begins, namesIn, res
 const SCHEME: [u8; 10] = [117, 114, 110, 58, 97, 108, 101, 114, 116, 58];
 
 // A letter as a small one.
-pub fn lower_of(x: u8) -> u8
+fn lower_of(x: u8) -> u8
     ensures { λ r. ⌜ r ≡ lower x ⌝ }
 {
     if crate::text::in_range(x, 65, 90) {
@@ -17,7 +17,7 @@ pub fn lower_of(x: u8) -> u8
 }
 
 // The URI begins with `urn:alert:`, in any letter case. Small letters are the usual case: they are compared at once.
-pub fn begins_alert(s: &[u8]) -> bool
+fn begins_alert(s: &[u8]) -> bool
     ensures { λ r. ⌜ r ≡ begins (bytes "urn:alert:") (now (s .entry)) ⌝ }
 {
     let n = s.len();
@@ -42,7 +42,7 @@ pub fn begins_alert(s: &[u8]) -> bool
 }
 
 // How many names stand between the colons, or 0 if one of them is of bad form.
-pub fn names(s: &[u8]) -> usize
+fn names(s: &[u8]) -> usize
     ensures { λ r. ⌜ r ≡ namesIn (now (s .entry)) ⌝ }
 {
     let n = s.len();
@@ -65,7 +65,7 @@ pub fn names(s: &[u8]) -> usize
 }
 
 // What stands after `urn:alert:` is a category and one or more parts.
-pub fn rest_formed(s: &[u8]) -> bool
+fn rest_formed(s: &[u8]) -> bool
     ensures { λ r. ⌜ r ≡ restOk (now (s .entry)) ⌝ }
 {
     2 <= names(s)

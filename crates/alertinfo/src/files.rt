@@ -1,4 +1,6 @@
-// The program's arguments, and the files that they name.
+// The program's arguments, and the files that they name. `-` names standard input.
+use libc::STDERR_FILENO;
+use libc::STDIN_FILENO;
 ghost use Rattle.io.specs.Counts.{Counts};
 
 // How much of a buffer was filled; or that it could not be.
@@ -20,19 +22,25 @@ fn unreadable(fd: i32) -> bool {
     libc::read(fd, &mut probe) < 0
 }
 
+// The file with this name, opened; `-` is standard input.
+fn open(path: &[u8]) -> i32 {
+    if check::same(path, b"-") {
+        return STDIN_FILENO;
+    }
+    os::open_read(path)
+}
+
 // The start of the file with this name, as much as fits.
 fn read(path: &[u8], buf: &mut [u8]) -> Got
     ensures { λ r. ⌜ Counts (r .n) (now (buf .exit)) ⌝ }
 {
-    let fd = os::open_read(path);
+    let fd = open(path);
     if fd < 0 {
-        os::fail(path);
         return Got { ok: false, n: 0 };
     }
     let n = io::read_full(fd, buf);
     if n == 0 {
         if unreadable(fd) {
-            os::fail(path);
             libc::close(fd);
             return Got { ok: false, n: 0 };
         }
@@ -41,13 +49,34 @@ fn read(path: &[u8], buf: &mut [u8]) -> Got
     Got { ok: true, n }
 }
 
-// The start of the file that argument i names.
+// The start of the file that argument i names. A file that cannot be read is named on standard error.
 pub fn file(i: usize, buf: &mut [u8]) -> Got
     ensures { λ r. ⌜ Counts (r .n) (now (buf .exit)) ⌝ }
 {
     let mut name = io::buffer();
     let n = os::arg(i, &mut name);
-    read(&name[..n], buf)
+    let got = read(&name[..n], buf);
+    if !got.ok {
+        os::fail(&name[..n]);
+    }
+    got
+}
+
+// The same of an argument that may also be a value, and is none.
+fn file_for_value(i: usize, buf: &mut [u8]) -> Got
+    ensures { λ r. ⌜ Counts (r .n) (now (buf .exit)) ⌝ }
+{
+    let mut name = io::buffer();
+    let n = os::arg(i, &mut name);
+    let got = read(&name[..n], buf);
+    if !got.ok {
+        io::write_all(STDERR_FILENO, &name[..n]);
+        io::write_all(
+            STDERR_FILENO,
+            b": neither a file that can be read nor a value, which begins with '<'\n",
+        );
+    }
+    got
 }
 
 // How many bytes there are without a line end, LF or CR LF, behind them.
@@ -82,7 +111,7 @@ pub fn value(i: usize, buf: &mut [u8]) -> Got
             return Got { ok: true, n };
         }
     }
-    let got = file(i, buf);
+    let got = file_for_value(i, buf);
     let m = got.n;
     let k = without_line_end(&buf[..m]);
     Got { ok: got.ok, n: k }

@@ -6,24 +6,25 @@ mod words;
 use libc::STDERR_FILENO;
 use libc::STDOUT_FILENO;
 
-fn usage() {
-    io::write_all(STDERR_FILENO, b"usage: alertinfo entries VALUE\n");
-    io::write_all(STDERR_FILENO, b"       alertinfo build TABLE MACHINE\n");
-    io::write_all(STDERR_FILENO, b"       alertinfo check TABLE MACHINE\n");
+fn usage(to: i32) {
+    io::write_all(to, b"usage: alertinfo entries VALUE\n");
+    io::write_all(to, b"       alertinfo build TABLE MACHINE\n");
+    io::write_all(to, b"       alertinfo check TABLE MACHINE\n");
+    io::write_all(to, b"       alertinfo resolve TABLE VALUE [MACHINE]\n");
     io::write_all(
-        STDERR_FILENO,
-        b"       alertinfo resolve TABLE VALUE [MACHINE]\n",
+        to,
+        b"TABLE and MACHINE are files. VALUE is a file, or the value itself if it begins with '<'.\n",
     );
     io::write_all(
-        STDERR_FILENO,
-        b"TABLE and MACHINE are files. VALUE is a file, or the value itself if it begins with '<'.\n",
+        to,
+        b"A file that is read may be -, standard input. Status: 0 an answer, 1 refused, 2 no answer.\n",
     );
 }
 
 // The URIs of a value, one a line after its number.
 fn list(v: &[u8]) {
     let n = alert_info::entries(v);
-    words::count(n as u64, b" entries\n");
+    words::counted(n as u64, b" entry\n", b" entries\n");
     let mut k = 0;
     while k < n {
         words::count(k as u64, b" ");
@@ -158,5 +159,9 @@ fn main() {
             return;
         }
     }
-    usage();
+    if files::is(1, b"--help") {
+        usage(STDOUT_FILENO);
+        return;
+    }
+    usage(STDERR_FILENO);
 }

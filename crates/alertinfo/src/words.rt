@@ -7,6 +7,15 @@ pub fn count(n: u64, after: &[u8]) {
     io::write_all(STDOUT_FILENO, after);
 }
 
+// A number and the word for one, or for another number.
+pub fn counted(n: u64, one: &[u8], many: &[u8]) {
+    if n == 1 {
+        count(n, one);
+    } else {
+        count(n, many);
+    }
+}
+
 // A refusal number with what it says.
 pub fn refused(k: u8) {
     io::write_all(STDOUT_FILENO, b"refused ");
@@ -23,48 +32,57 @@ pub fn refused(k: u8) {
 
 fn of_value(k: u8) {
     match k {
-        1 => io::write_all(STDOUT_FILENO, b"value over 4,096 bytes"),
-        2 => io::write_all(STDOUT_FILENO, b"value does not fit the rule of the field"),
-        _ => io::write_all(STDOUT_FILENO, b"over 64 entries"),
+        1 => io::write_all(STDOUT_FILENO, b"the value is longer than 4,096 bytes"),
+        2 => io::write_all(STDOUT_FILENO, b"the value is not of the field's form"),
+        _ => io::write_all(STDOUT_FILENO, b"the value has more than 64 entries"),
     }
     ;
 }
 
 fn of_table(k: u8) {
     match k {
-        4 => io::write_all(STDOUT_FILENO, b"table over 8,192 bytes"),
+        4 => io::write_all(STDOUT_FILENO, b"the table is longer than 8,192 bytes"),
         5 => io::write_all(
             STDOUT_FILENO,
-            b"table ends too soon, or has bytes left over",
+            b"the table stops early, or goes on after its last signal",
         ),
-        6 => io::write_all(STDOUT_FILENO, b"a count or length outside its range"),
+        6 => io::write_all(
+            STDOUT_FILENO,
+            b"a count or a length in the table is out of range",
+        ),
         7 => io::write_all(
             STDOUT_FILENO,
-            b"a category name or URN of bad form, or over 8 parts",
+            b"a name or a URN in the table is of wrong form, or has more than 8 parts",
         ),
         8 => io::write_all(
             STDOUT_FILENO,
-            b"a category listed twice, used by no signal, or named by a URN and not listed",
+            b"a category stands twice, or no signal uses it, or a URN names one that is not listed",
         ),
-        9 => io::write_all(STDOUT_FILENO, b"a signal with two URNs of one category"),
-        10 => io::write_all(STDOUT_FILENO, b"signal 0 has a URN"),
-        11 => io::write_all(STDOUT_FILENO, b"two signals with the same places"),
-        _ => io::write_all(STDOUT_FILENO, b"over 64 nodes"),
+        9 => io::write_all(
+            STDOUT_FILENO,
+            b"one signal has two URNs of the same category",
+        ),
+        10 => io::write_all(STDOUT_FILENO, b"signal 0 names a URN"),
+        11 => io::write_all(STDOUT_FILENO, b"two signals have equal places"),
+        _ => io::write_all(STDOUT_FILENO, b"the table has more than 64 nodes"),
     }
     ;
 }
 
 fn of_machine(k: u8) {
     match k {
-        13 => io::write_all(STDOUT_FILENO, b"over 256 reachable states"),
-        14 => io::write_all(STDOUT_FILENO, b"machine buffer shorter than the image"),
+        13 => io::write_all(
+            STDOUT_FILENO,
+            b"the machine would have more than 256 states",
+        ),
+        14 => io::write_all(STDOUT_FILENO, b"the image does not fit the buffer"),
         15 => io::write_all(
             STDOUT_FILENO,
-            b"not an image for this table: its length, symbols, state count, a signal, a shut bit or a target",
+            b"the image is not of the form that this table asks for",
         ),
-        16 => io::write_all(STDOUT_FILENO, b"state 0 is not signal 0 with nothing shut"),
-        17 => io::write_all(STDOUT_FILENO, b"some row leads to a wrong pair"),
-        _ => io::write_all(STDOUT_FILENO, b"no entry with that number"),
+        16 => io::write_all(STDOUT_FILENO, b"state 0 is not the start"),
+        17 => io::write_all(STDOUT_FILENO, b"a row leads to a state with the wrong pair"),
+        _ => io::write_all(STDOUT_FILENO, b"the value has no such entry"),
     }
     ;
 }

@@ -5,28 +5,31 @@ use Rattle.alertinfo.proofs.list.Statement.{statement}
 use Rattle.alertinfo.proofs.list.Tie as tie
 
 abbrev Inv-loop : tie.InvT-loop
-Inv-loop v n k₀ t5 t6 k = Unit {0}
+Inv-loop v n k₀ t6 t7 k = Unit {0}
 
 abbrev μ-loop : tie.MeasureT-loop
-μ-loop v n k₀ t5 t6 k = n - k
+μ-loop v n k₀ t6 t7 k = n - k
 
 entries-requires : tie.Need-entries-requires Inv-loop μ-loop
 entries-requires c κs = search needs
+
+slice-aggregate-counted : tie.Need-slice-aggregate-counted Inv-loop μ-loop
+slice-aggregate-counted c = search needs
+
+slice-aggregate-counted-2 : tie.Need-slice-aggregate-counted-2 Inv-loop μ-loop
+slice-aggregate-counted-2 c = search needs
+
+counted-requires : tie.Need-counted-requires Inv-loop μ-loop
+counted-requires c κs = search needs
+
+loop-holds : tie.Need-loop-holds Inv-loop μ-loop
+loop-holds c = tt
 
 slice-aggregate-count : tie.Need-slice-aggregate-count Inv-loop μ-loop
 slice-aggregate-count c = search needs
 
 count-requires : tie.Need-count-requires Inv-loop μ-loop
 count-requires c κs = search needs
-
-loop-holds : tie.Need-loop-holds Inv-loop μ-loop
-loop-holds c = tt
-
-slice-aggregate-count-2 : tie.Need-slice-aggregate-count-2 Inv-loop μ-loop
-slice-aggregate-count-2 c = search needs
-
-count-requires-2 : tie.Need-count-requires-2 Inv-loop μ-loop
-count-requires-2 c κs = search needs
 
 entry-requires : tie.Need-entry-requires Inv-loop μ-loop
 entry-requires c κs = search needs
@@ -59,11 +62,12 @@ list-spec =
     Inv-loop
     μ-loop
     entries-requires
+    slice-aggregate-counted
+    slice-aggregate-counted-2
+    counted-requires
+    loop-holds
     slice-aggregate-count
     count-requires
-    loop-holds
-    slice-aggregate-count-2
-    count-requires-2
     entry-requires
     write-all-requires
     slice-aggregate-write-all

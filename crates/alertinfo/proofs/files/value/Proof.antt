@@ -16,8 +16,8 @@ same-length c = search needs
 returns : tie.Need-returns
 returns c = search needs
 
-file-requires : tie.Need-file-requires
-file-requires c κs = search needs
+file-for-value-requires : tie.Need-file-for-value-requires
+file-for-value-requires c κs = search needs
 
 slice-reshare-prefix-without-line-end : tie.Need-slice-reshare-prefix-without-line-end
 slice-reshare-prefix-without-line-end c = search needs
@@ -32,7 +32,7 @@ same-length-2 : tie.Need-same-length-2
 same-length-2 c = search needs
 
 returns-2 : tie.Need-returns-2
-returns-2 c = counts _ _ (omega (arith, c .without-line-end .ensures .0, c .before .before .before .before .file .ensures .0, c .before .before .before .before .file .ensures .1))
+returns-2 c = counts _ _ (omega (arith, c .without-line-end .ensures .0, c .before .before .before .before .file-for-value .ensures .0, c .before .before .before .before .file-for-value .ensures .1))
 
 pub value-spec : {M : Type 1} → statement M
 value-spec =
@@ -42,7 +42,7 @@ value-spec =
     slice-read-if2
     same-length
     returns
-    file-requires
+    file-for-value-requires
     slice-reshare-prefix-without-line-end
     slice-aggregate-without-line-end
     without-line-end-requires
