@@ -1,9 +1,11 @@
 pub mod Agree
 mod ClassTable
 mod Complete
+pub mod EntryLaws
 pub mod Lands
 mod PartLaws
 mod PassLaws
+mod Place
 mod QuoteLaws
 pub mod ReadingLaws
 mod RunLaws
