@@ -1,4 +1,5 @@
 pub mod Agree
+pub mod ByteLaws
 mod ClassTable
 mod Complete
 pub mod EntryLaws

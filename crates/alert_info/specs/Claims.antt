@@ -1,15 +1,22 @@
 -- What is claimed of the definitions: the reading agrees with the grammar, each refusal number is given exactly where it
--- is due, and entries lie where the grammar has them. The proofs are in proofs/Agree.antt and proofs/EntryLaws.antt.
+-- is due, and entries lie where the grammar has them. The proofs are in proofs/Agree.antt, proofs/EntryLaws.antt and
+-- proofs/ByteLaws.antt.
 -- Assumes nothing.
 use mathlib.Core.Path.{_≡_}
 use mathlib.Core.Logic.{_↔_, _⊎_}
+use mathlib.Core.Bool.{true}
 use mathlib.Core.List.{List, [], _++_, map}
 use Prim.Native.Nat.{ℕ, zero, suc, _≤_, _<_}
 use lib.ListN.{length}
+use Rattle.alert_info.specs.Bytes.{inClass}
 use Rattle.alert_info.specs.Grammar.{Value, Before}
 use Rattle.alert_info.specs.Value.{unfit, spans, readingOf, partOf, refusalOf, urisOf}
 use Rattle.alert_info.specs.Value.{entriesOf, entryOf, nowhere, spanOf, entryRefusalOf}
 use Rattle.alert_info.specs.declared.alert_param.Span.{Span}
+
+-- no byte rule takes a number that is no byte
+abbrev pub ClassesOfBytes : Type 0
+ClassesOfBytes = (k b : ℕ) → inClass k b ≡ true → b < 256
 
 -- s is a value with the URIs us exactly if it is read, and us are the parts that are read
 abbrev pub Agrees : Type 0
