@@ -13,4 +13,5 @@ pub mod Discovery
 pub mod Build
 pub mod Claim
 pub mod Laws
+pub mod Meaning
 pub mod Examples
