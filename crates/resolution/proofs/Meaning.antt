@@ -26,7 +26,7 @@ use Rattle.resolution.proofs.Table.{find-sound, find-row, row-place}
 use Rattle.resolution.proofs.Direct.{search-hit, search-last}
 use Rattle.resolution.proofs.Nodes.{urn-exact, place-from}
 use Rattle.resolution.proofs.Deepest.{deep-above, above-deep, deepest-node, leaf-ends}
-use Rattle.resolution.proofs.Step.{step-still, step-takes}
+use Rattle.resolution.proofs.Step.{step-still, step-shut, step-takes}
 use Rattle.resolution.proofs.Claim.{used-append, counts-add}
 use Rattle.resolution.proofs.Discovery.{reached-next}
 
@@ -177,7 +177,7 @@ search-longest env row c q r p s a b f h e = by (a .rest) (a .joined)
             (ap (firstHit env row c) (sym order) ∙ e)
 
 pub step-law : (t : Table) (st : State) → StateOf t st → (u : Urn) → u .cat < t .cats → StepLaw t st u
-step-law t st g u known = record { shut = shut; not-under = not-under; taken = taken }
+step-law t st g u known = record { shut = step-shut (envOf t) st u; not-under = not-under; taken = taken }
   where
     row : Row
     row = rowOf t (st .signal)
@@ -188,15 +188,12 @@ step-law t st g u known = record { shut = shut; not-under = not-under; taken = t
     here : q ≡ place t (st .signal) (u .cat)
     here = row-place t (st .signal) (u .cat) known
 
-    shut : getD (st .status) (u .cat) Open ≡ Shut → step (envOf t) st u ≡ st
-    shut e = step-still (envOf t) st u (ap (λ z. takesUrn z q (u .path)) e)
-
     not-under : ((x : Name) (r : Parts) → place t (st .signal) (u .cat) ++ x ∷ r ≢ u .path) → step (envOf t) st u ≡ st
     not-under n = go (takesUrn (getD (st .status) (u .cat) Open) q (u .path)) refl (getD (st .status) (u .cat) Open) refl
       where
         go : (b : Bool) → takesUrn (getD (st .status) (u .cat) Open) q (u .path) ≡ b → (o : Status) → getD (st .status) (u .cat) Open ≡ o → step (envOf t) st u ≡ st
         go false e o i = step-still (envOf t) st u e
-        go true e Shut i = shut i
+        go true e Shut i = step-shut (envOf t) st u i
         go true e Open i =
             let k = proper-to q (u .path) (ap (λ z. takesUrn z q (u .path)) (sym i) ∙ e) in
             absurd (n (k .0) (k .1) (ap (λ z. z ++ k .0 ∷ k .1) (sym here) ∙ k .2))
