@@ -4,23 +4,24 @@ use mathlib.Core.Path.{_≡_, refl, sym, ap, _∙_}
 use mathlib.Core.Logic.{_⊎_, inl, inr, _↔_, _≢_}
 use mathlib.Core.Bool.{Bool, true, false, not, _&&_, _||_, false≢true, true≢false, and-eq-true-iff}
 use mathlib.Core.Option.{Option, none, some}
-use mathlib.Core.List.{List, [], _∷_, _++_, foldl, foldl-append, append-assoc, append-nil, List·Memᴰ, List·Memᴰ·head, List·Memᴰ·tail, List·Memᴰ·cases-cons, List·Memᴰ·not-nil, List·Memᴰ·append-cases, List·Memᴰ·eq-of-singleton, Memᴰ·append-left, Memᴰ·append-right}
+use mathlib.Core.List.{List, [], _∷_, _++_, foldl, foldl-append, append-assoc, append-nil, map, List·Memᴰ, List·Memᴰ·head, List·Memᴰ·tail, List·Memᴰ·cases-cons, List·Memᴰ·not-nil, List·Memᴰ·append-cases, List·Memᴰ·eq-of-singleton, Memᴰ·append-left, Memᴰ·append-right}
 use lib.Dec.{eqb}
 use borrow.Author.Tests.{eqb-true, eq-eqb, ne-eqb}
 use lib.ListN.{length, getD, set}
 use lib.Seq.{set-getD}
 use native.Mathlib.Omega.{arith}
 use native.Mathlib.Decide.{decLt}
-use Rattle.resolution.specs.Lists.{memberBy}
+use Rattle.resolution.specs.Lists.{memberBy, indexBy}
 use Rattle.resolution.specs.Names.{Name, Parts, sameParts, properAncestor, Above, longer, candidates}
 use Rattle.resolution.specs.Table.{Urn, urn, Table, Row, placeIn, place, rowOf, find, partsOf, mostParts}
-use Rattle.resolution.specs.Direct.{Status, Open, Shut, State, start, Env, envOf, Hit, firstHit, takesUrn, openIf, move, step, direct, StateOf, usedOf, stepUri, changes}
+use Rattle.resolution.specs.Direct.{Status, Open, Shut, State, start, Env, envOf, Hit, firstHit, takesUrn, openIf, move, step, direct, StateOf, usedOf, stepUri, changes, sameState}
 use Rattle.resolution.specs.Says.{Says, Given}
 use Rattle.resolution.specs.Nodes.{sameUrn, isNode, hasUnder, isRoot, leaf, deepest}
-use Rattle.resolution.specs.Machine.{Machine, walkStep, walk}
-use Rattle.resolution.specs.Discovery.{Reached}
-use Rattle.resolution.specs.Meaning.{UrisLaw, Once, PlaceLaw, PartsLaw, ChangesLaw, GivenLaw, SaysLaw, Taken, StepLaw, RunLaw, WalkLaw, LeafLaw, DeepestLaw, ReachedLaw}
-use Rattle.resolution.proofs.Lists.{member-of}
+use Rattle.resolution.specs.Machine.{MachineState, Machine, walkStep, walk}
+use Rattle.resolution.specs.Symbols.{symbols, stepAt}
+use Rattle.resolution.specs.Discovery.{targets, Reached}
+use Rattle.resolution.specs.Meaning.{UrisLaw, Once, PlaceLaw, PartsLaw, ChangesLaw, GivenLaw, SaysLaw, Taken, StepLaw, RunLaw, WalkLaw, LeafLaw, DeepestLaw, ReachedLaw, MachineOfLaw, AskedLaw}
+use Rattle.resolution.proofs.Lists.{member-of, tabulate-length}
 use Rattle.resolution.proofs.Names.{parts-exact, between, above-self, above-trans, longer-append, longer-first, proper-to, proper-of}
 use Rattle.resolution.proofs.Table.{find-sound, find-row, row-place}
 use Rattle.resolution.proofs.Direct.{search-hit, search-last}
@@ -29,6 +30,7 @@ use Rattle.resolution.proofs.Deepest.{deep-above, above-deep, deepest-n
 use Rattle.resolution.proofs.Step.{step-still, step-shut, step-takes}
 use Rattle.resolution.proofs.Claim.{used-append, counts-add}
 use Rattle.resolution.proofs.Discovery.{reached-next}
+use Rattle.resolution.proofs.Build.{machine-state}
 
 pub uris-law : UrisLaw
 uris-law = record { used-one = λ u. refl; skipped-one = refl; in-order = used-append; used-counted = λ l. refl; all-counted = counts-add }
@@ -292,3 +294,17 @@ reached-law {S} next count begin =
     follow : (P : S → Type 0) → ((s : S) (k : ℕ) → P s → k < count → P (next s k)) → (ks : List ℕ) (s : S) → P s → ((k : ℕ) → List·Memᴰ k ks → k < count) → P (foldl next s ks)
     follow P keeps [] s p b = p
     follow P keeps (k ∷ ks) s p b = follow P keeps ks (next s k) (keeps s k p (b k (List·Memᴰ·head refl))) (λ x i. b x (List·Memᴰ·tail i))
+
+pub machine-of-law : (t : Table) (l : List State) → MachineOfLaw t l
+machine-of-law t l =
+    record {
+      pairs = again l;
+      rows = λ j h. ap (λ (e : MachineState). length (e .row)) (machine-state t l j h) ∙ tabulate-length (λ k. indexBy sameState (stepAt t (getD l j (start (t .cats))) k) l) (length (symbols t));
+    }
+  where
+    again : (k : List State) → map (λ (e : MachineState). e .pair) (map (λ st. record { pair = st; row = targets sameState (stepAt t) (length (symbols t)) l st }) k) ≡ k
+    again [] = refl
+    again (st ∷ k) = ap (λ z. st ∷ z) (again k)
+
+pub asked-law : (t : Table) → AskedLaw t
+asked-law t = record { of-table = λ a b c. record { some-signal = a; silent = b; named = c }; of-urn = λ u h n. record { known = h; some-part = n } }
