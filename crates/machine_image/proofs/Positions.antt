@@ -1,7 +1,6 @@
 -- The laws of specs/Positions.antt, proved.
 use Prim.Native.Nat.{ℕ, zero, suc, _+_, _*_, _/_, _%_, _^_, _<_}
 use mathlib.Core.Path.{_≡_, refl, sym, ap, _∙_}
-use mathlib.Core.Bool.{Bool}
 use mathlib.Core.Option.{none, some}
 use mathlib.Core.List.{List, [], _∷_, _++_, foldl-append}
 use lib.ListN.{length, getD, List·getD-append}
@@ -11,7 +10,7 @@ use Rattle.resolution.specs.Table.{Table}
 use Rattle.resolution.specs.Direct.{Status, Open, Shut, stepUri}
 use Rattle.resolution.specs.Nodes.{nodes}
 use Rattle.resolution.specs.Symbols.{other, symbols, symbolAt}
-use Rattle.resolution.specs.Machine.{Machine, machineState, target}
+use Rattle.resolution.specs.Machine.{Machine, machineState}
 use Rattle.node_step.specs.Step.{bits}
 use Rattle.machine_image.specs.Image.{joined, kindOf, symbolBytes, storedSymbols, stateBytes, imageOf}
 use Rattle.machine_image.specs.Storable.{Storable}

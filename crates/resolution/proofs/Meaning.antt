@@ -1,39 +1,33 @@
 -- The laws of specs/Meaning.antt, proved.
-use Prim.Native.Nat.{ℕ, zero, suc, _+_, _≤_, _<_, max}
+use Prim.Native.Nat.{ℕ, _+_, _≤_, _<_, max}
 use mathlib.Core.Path.{_≡_, refl, sym, ap, _∙_}
-use mathlib.Core.Logic.{_⊎_, inl, inr, _↔_, _≢_}
-use mathlib.Core.Bool.{Bool, true, false, not, _&&_, _||_, false≢true, true≢false, and-eq-true-iff}
+use mathlib.Core.Logic.{_⊎_, inl, inr, _≢_}
+use mathlib.Core.Bool.{Bool, true, false, true≢false}
 use mathlib.Core.Option.{Option, none, some}
-use mathlib.Core.List.{List, [], _∷_, _++_, foldl, foldl-append, append-assoc, append-nil, map, List·Memᴰ, List·Memᴰ·head, List·Memᴰ·tail, List·Memᴰ·cases-cons, List·Memᴰ·not-nil, List·Memᴰ·append-cases, List·Memᴰ·eq-of-singleton, Memᴰ·append-left, Memᴰ·append-right}
+use mathlib.Core.List.{List, [], _∷_, _++_, foldl-append, append-assoc, append-nil, List·Memᴰ, List·Memᴰ·head, List·Memᴰ·tail, List·Memᴰ·cases-cons, List·Memᴰ·not-nil, List·Memᴰ·append-cases, List·Memᴰ·eq-of-singleton, Memᴰ·append-left, Memᴰ·append-right}
 use lib.Dec.{eqb}
 use borrow.Author.Tests.{eqb-true, eq-eqb, ne-eqb}
 use lib.ListN.{length, getD, set}
 use lib.Seq.{set-getD}
 use native.Mathlib.Omega.{arith}
 use native.Mathlib.Decide.{decLt}
-use Rattle.resolution.specs.Lists.{memberBy, indexBy}
-use Rattle.resolution.specs.Names.{Name, Parts, sameParts, properAncestor, Above, longer, candidates}
+use Rattle.resolution.specs.Names.{Name, Parts, sameParts, Above, longer, candidates}
 use Rattle.resolution.specs.Table.{Urn, urn, Table, Row, placeIn, place, rowOf, find, partsOf, mostParts}
-use Rattle.resolution.specs.Direct.{Status, Open, Shut, State, start, Env, envOf, Hit, firstHit, takesUrn, openIf, move, step, direct, StateOf, usedOf, stepUri, changes, sameState}
+use Rattle.resolution.specs.Direct.{Status, Open, Shut, State, start, Env, envOf, Hit, firstHit, takesUrn, openIf, move, step, StateOf}
 use Rattle.resolution.specs.Says.{Says, Given}
-use Rattle.resolution.specs.Nodes.{sameUrn, isNode, hasUnder, isRoot, leaf, deepest}
-use Rattle.resolution.specs.Machine.{MachineState, Machine, walkStep, walk}
-use Rattle.resolution.specs.Symbols.{symbols, stepAt}
-use Rattle.resolution.specs.Discovery.{targets, Reached}
-use Rattle.resolution.specs.Meaning.{UrisLaw, Once, PlaceLaw, PartsLaw, ChangesLaw, GivenLaw, SaysLaw, Taken, StepLaw, RunLaw, WalkLaw, LeafLaw, DeepestLaw, ReachedLaw, MachineOfLaw, AskedLaw}
-use Rattle.resolution.proofs.Lists.{member-of, tabulate-length}
-use Rattle.resolution.proofs.Names.{parts-exact, between, above-self, above-trans, longer-append, longer-first, proper-to, proper-of}
+use Rattle.resolution.specs.Meaning.{UrisLaw, AskedLaw, Once, PlaceLaw, PartsLaw, ChangesLaw, GivenLaw, SaysLaw, Taken, StepLaw, RunLaw}
+use Rattle.resolution.proofs.Names.{parts-exact, between, longer-append, longer-first, proper-to, proper-of}
 use Rattle.resolution.proofs.Table.{find-sound, find-row, row-place}
 use Rattle.resolution.proofs.Direct.{search-hit, search-last}
-use Rattle.resolution.proofs.Nodes.{urn-exact, place-from}
-use Rattle.resolution.proofs.Deepest.{deep-above, above-deep, deepest-node, leaf-ends}
+use Rattle.resolution.proofs.Nodes.{place-from}
 use Rattle.resolution.proofs.Step.{step-still, step-shut, step-takes}
 use Rattle.resolution.proofs.Claim.{used-append, counts-add}
-use Rattle.resolution.proofs.Discovery.{reached-next}
-use Rattle.resolution.proofs.Build.{machine-state}
 
 pub uris-law : UrisLaw
 uris-law = record { used-one = λ u. refl; skipped-one = refl; in-order = used-append; used-counted = λ l. refl; all-counted = counts-add }
+
+pub asked-law : (t : Table) → AskedLaw t
+asked-law t = record { of-table = λ a b c. record { some-signal = a; silent = b; named = c }; of-urn = λ u h n. record { known = h; some-part = n } }
 
 pub place-law : (t : Table) (s : ℕ) → PlaceLaw t s
 place-law t s = record { named = named; unnamed = λ c n. from-none c n (place-from sig c) }
@@ -239,72 +233,3 @@ step-law t st g u known = record { shut = step-shut (envOf t) st u; not-under = 
 
 pub run-law : (t : Table) → RunLaw t
 run-law t = record { at-start = refl; one-more = λ us u. foldl-append (step (envOf t)) (start (t .cats)) us (u ∷ []) }
-
-pub walk-law : (t : Table) (m : Machine) → WalkLaw t m
-walk-law t m =
-    record {
-      at-start = refl;
-      used = λ l u. foldl-append (stepUri (walkStep t m)) 0 l (some u ∷ []);
-      skipped = λ l. foldl-append (stepUri (walkStep t m)) 0 l (none ∷ []);
-    }
-
-pub leaf-law : (ns : List Urn) (c : ℕ) → LeafLaw ns c
-unfolding leaf
-leaf-law ns c = record { root = refl; ends = ends; goes-on = λ p n e. under ns p n (is-under p n e) (λ u m. m) }
-  where
-    ends : (p : Parts) → leaf ns c p ≡ true → (x : Name) (r : Parts) → isNode ns c (p ++ x ∷ r) ≡ false
-    ends p e x r = go (isNode ns c (p ++ x ∷ r)) refl
-      where
-        go : (b : Bool) → isNode ns c (p ++ x ∷ r) ≡ b → b ≡ false
-        go false i = refl
-        go true i = absurd (leaf-ends ns c p x r e i)
-
-    is-under : (p : Parts) → p ≢ [] → leaf ns c p ≡ false → hasUnder ns c p ≡ true
-    is-under [] n e = absurd (n refl)
-    is-under (x ∷ p) n e = go (hasUnder ns c (x ∷ p)) refl
-      where
-        go : (b : Bool) → hasUnder ns c (x ∷ p) ≡ b → b ≡ true
-        go true i = refl
-        go false i = let w : true ≡ false = rw i at e in absurd (true≢false w)
-
-    under : (ms : List Urn) (p : Parts) → p ≢ [] → hasUnder ms c p ≡ true → ((u : Urn) → List·Memᴰ u ms → List·Memᴰ u ns) → (x : Name) × (r : Parts) × (isNode ns c (p ++ x ∷ r) ≡ true)
-    under [] p n h sub = absurd (false≢true h)
-    under (v ∷ ms) p n h sub = go (eqb (v .cat) c && properAncestor p (v .path)) refl (λ k. under ms p n k (λ u m. sub u (List·Memᴰ·tail m)))
-      where
-        go : (b : Bool) → eqb (v .cat) c && properAncestor p (v .path) ≡ b → (hasUnder ms c p ≡ true → (x : Name) × (r : Parts) × (isNode ns c (p ++ x ∷ r) ≡ true))
-            → (x : Name) × (r : Parts) × (isNode ns c (p ++ x ∷ r) ≡ true)
-        go false e ih = ih (rw e at h)
-        go true e ih =
-            let k = and-eq-true-iff (eqb (v .cat) c) (properAncestor p (v .path)) .0 e in
-            let w = proper-to p (v .path) (k .1) in
-            let i : v ≡ urn c (p ++ w .0 ∷ w .1) = λ z. record { cat = eqb-true (v .cat) c (k .0) z; path = sym (w .2) z } in
-            (w .0, w .1, ap (λ y. memberBy sameUrn y ns) (sym i) ∙ member-of sameUrn urn-exact v ns (sub v (List·Memᴰ·head refl)))
-
-pub deepest-law : (ns : List Urn) (c : ℕ) (u : Parts) → DeepestLaw ns c u
-deepest-law ns c u = record { a-node = deepest-node ns c u; above = deep-above ns c u; most = λ p. above-deep ns c p u }
-
-pub reached-law : {S : Type 0} (next : S → ℕ → S) (count : ℕ) (begin : S) → ReachedLaw next count begin
-reached-law {S} next count begin =
-    record {
-      start-reached = record { by = []; listed = λ k i. absurd (List·Memᴰ·not-nil i); leads = refl };
-      next-reached = λ s k r h. reached-next next count begin s r k h;
-      no-other = λ P p keeps s r. rw (← r .leads) (follow P keeps (r .by) begin p (r .listed));
-    }
-  where
-    follow : (P : S → Type 0) → ((s : S) (k : ℕ) → P s → k < count → P (next s k)) → (ks : List ℕ) (s : S) → P s → ((k : ℕ) → List·Memᴰ k ks → k < count) → P (foldl next s ks)
-    follow P keeps [] s p b = p
-    follow P keeps (k ∷ ks) s p b = follow P keeps ks (next s k) (keeps s k p (b k (List·Memᴰ·head refl))) (λ x i. b x (List·Memᴰ·tail i))
-
-pub machine-of-law : (t : Table) (l : List State) → MachineOfLaw t l
-machine-of-law t l =
-    record {
-      pairs = again l;
-      rows = λ j h. ap (λ (e : MachineState). length (e .row)) (machine-state t l j h) ∙ tabulate-length (λ k. indexBy sameState (stepAt t (getD l j (start (t .cats))) k) l) (length (symbols t));
-    }
-  where
-    again : (k : List State) → map (λ (e : MachineState). e .pair) (map (λ st. record { pair = st; row = targets sameState (stepAt t) (length (symbols t)) l st }) k) ≡ k
-    again [] = refl
-    again (st ∷ k) = ap (λ z. st ∷ z) (again k)
-
-pub asked-law : (t : Table) → AskedLaw t
-asked-law t = record { of-table = λ a b c. record { some-signal = a; silent = b; named = c }; of-urn = λ u h n. record { known = h; some-part = n } }

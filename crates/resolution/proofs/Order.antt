@@ -1,20 +1,20 @@
--- The laws of specs/Meaning.antt about the order of nodes and of symbols, proved.
+-- The laws of specs/MachineMeaning.antt about the order of nodes and of symbols, and about the symbol of a URN, proved.
 use Prim.Native.Nat.{ℕ, zero, suc, _+_, _*_, _≤_, _<_}
 use mathlib.Core.Path.{_≡_, refl, sym, ap, _∙_}
 use mathlib.Core.Logic.{_⊎_, inl, inr, _≢_}
-use mathlib.Core.Bool.{Bool, true, false, cond, not, _||_, false≢true, true≢false}
+use mathlib.Core.Bool.{Bool, true, false, cond, not, _||_, false≢true}
 use mathlib.Core.List.{List, [], _∷_, _++_, foldl, foldl-append, append-assoc, append-nil, List·Memᴰ, List·Memᴰ·head, List·Memᴰ·tail, List·Memᴰ·cases-cons, List·Memᴰ·not-nil, List·Memᴰ·append-cases, List·Memᴰ·eq-of-singleton}
 use lib.Dec.{eqb}
 use borrow.Author.Tests.{eqb-true}
 use lib.ListN.{length, getD, take, length-append}
-use lib.Seq.{getD-at, take-append-seam}
+use lib.Seq.{take-append-seam}
 use native.Mathlib.Omega.{arith}
 use Rattle.resolution.specs.Lists.{addBy}
 use Rattle.resolution.specs.Names.{Parts, sameParts, Above}
 use Rattle.resolution.specs.Table.{Urn, urn, Table}
 use Rattle.resolution.specs.Nodes.{sameUrn, member, past, addUrn, addSignal, nodes, isNode, number, nodeAt, isRoot, leaf, deepest}
-use Rattle.resolution.specs.Symbols.{Symbol, node, other, symbolOf, nodeSymbols, symbolsFrom, symbols, symbolAt}
-use Rattle.resolution.specs.Meaning.{nodesOf, AppearanceLaw, SymbolOfLaw, one, rank, Before, SymbolsLaw}
+use Rattle.resolution.specs.Symbols.{Symbol, node, other, symbolOf, nodeSymbols, symbolsFrom, symbols}
+use Rattle.resolution.specs.MachineMeaning.{AppearanceLaw, SymbolOfLaw, one, rank, Before, SymbolsLaw}
 use Rattle.resolution.proofs.Lists.{Extends, extends-self, extends-trans, add-extends, mem-at, member-of}
 use Rattle.resolution.proofs.Names.{parts-exact, above-self}
 use Rattle.resolution.proofs.Nodes.{urn-exact, nodes-all}

@@ -14,4 +14,5 @@ pub mod Build
 pub mod Claim
 pub mod Laws
 pub mod Meaning
+pub mod MachineMeaning
 pub mod Examples
