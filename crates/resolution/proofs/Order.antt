@@ -20,6 +20,7 @@ use Rattle.resolution.proofs.Names.{parts-exact, above-self}
 use Rattle.resolution.proofs.Nodes.{urn-exact, nodes-all}
 use Rattle.resolution.proofs.Numbers.{number-at}
 use Rattle.resolution.proofs.Deepest.{deep-above, deep-most}
+use Rattle.resolution.proofs.Alike.{leaf-own}
 use Rattle.resolution.proofs.Symbols.{node-listed, other-listed, listed}
 
 fold-extends : {A : Type 0} (f : List Urn → A → List Urn) → ((s : List Urn) (a : A) → Extends s (f s a)) → (s : List Urn) (l : List A) → Extends s (foldl f s l)
@@ -85,12 +86,8 @@ symbol-of-law ns u = record { own = own; under-leaf = as-node; under-other = λ 
     made : Bool → Symbol
     made o = record { cat = u .cat; path = d; other = o }
 
-    or-true : (b : Bool) → b || true ≡ true
-    or-true true = refl
-    or-true false = refl
-
     as-node : leaf ns c d ≡ true → symbolOf ns u ≡ node c d
-    as-node e = ap made (ap (λ z. not (sameParts d (u .path) || z)) e ∙ ap not (or-true (sameParts d (u .path))))
+    as-node e = ap made (leaf-own ns c (u .path) d e)
 
     as-other : (b : Bool) → sameParts d (u .path) ≡ b → d ≢ u .path → leaf ns c d ≡ false → symbolOf ns u ≡ other c d
     as-other true e n l = absurd (n (parts-exact .to d (u .path) e))
