@@ -7,7 +7,7 @@ use mathlib.Core.Option.{Option, none, some}
 use mathlib.Core.List.{List, [], _∷_, _++_, foldl-append, append-assoc, append-nil, List·Memᴰ, List·Memᴰ·head, List·Memᴰ·tail, List·Memᴰ·cases-cons, List·Memᴰ·not-nil, List·Memᴰ·append-cases, List·Memᴰ·eq-of-singleton, Memᴰ·append-left, Memᴰ·append-right}
 use lib.Dec.{eqb}
 use borrow.Author.Tests.{eqb-true, eq-eqb, ne-eqb}
-use lib.ListN.{length, getD, set}
+use lib.ListN.{length, getD, set, length-replicate, getD-replicate}
 use lib.Seq.{set-getD}
 use native.Mathlib.Omega.{arith}
 use native.Mathlib.Decide.{decLt}
@@ -17,7 +17,7 @@ use Rattle.resolution.specs.Direct.{Status, Open, Shut, State, start, En
 use Rattle.resolution.specs.Says.{Says, Given}
 use Rattle.resolution.specs.Meaning.{UrisLaw, AskedLaw, Once, PlaceLaw, PartsLaw, ChangesLaw, GivenLaw, SaysLaw, Taken, StepLaw, RunLaw}
 use Rattle.resolution.proofs.Names.{parts-exact, between, longer-append, longer-first, proper-to, proper-of}
-use Rattle.resolution.proofs.Table.{find-sound, find-row, row-place}
+use Rattle.resolution.proofs.Table.{find-sound, find-below, find-row, row-place, row-length}
 use Rattle.resolution.proofs.Direct.{search-hit, search-last}
 use Rattle.resolution.proofs.Nodes.{place-from}
 use Rattle.resolution.proofs.Step.{step-still, step-shut, step-takes}
@@ -30,7 +30,7 @@ pub asked-law : (t : Table) → AskedLaw t
 asked-law t = record { of-table = λ a b c. record { some-signal = a; silent = b; named = c }; of-urn = λ u h n. record { known = h; some-part = n } }
 
 pub place-law : (t : Table) (s : ℕ) → PlaceLaw t s
-place-law t s = record { named = named; unnamed = λ c n. from-none c n (place-from sig c) }
+place-law t s = record { named = named; unnamed = λ c n. from-none c n (place-from sig c); row-length = row-length sig 0 (t .cats); row-place = row-place t s }
   where
     sig : List Urn
     sig = getD (t .signals) s []
@@ -201,6 +201,7 @@ step-law t st g u known = record { shut = step-shut (envOf t) st u; not-under = 
           signal = hh .0 .signal;
           no-shorter = rw (← here) (lies .0);
           no-longer = rw j′ at (lies .1);
+          listed = omega (arith, find-below (t .cats) 0 (t .signals) (set row (u .cat) (hh .0 .at)) (hh .0 .signal) (found .0));
           fits = find-sound t (set row (u .cat) (hh .0 .at)) (hh .0 .signal) (found .0);
           longest = λ p s a b h e.
               let w = find-row (t .cats) 0 (t .signals) s h in
@@ -232,4 +233,11 @@ step-law t st g u known = record { shut = step-shut (envOf t) st u; not-under = 
         differ true e n = absurd (n (parts-exact .to (hh .0 .at) (u .path) e))
 
 pub run-law : (t : Table) → RunLaw t
-run-law t = record { at-start = refl; one-more = λ us u. foldl-append (step (envOf t)) (start (t .cats)) us (u ∷ []) }
+run-law t =
+    record {
+      signal-0 = refl;
+      each-status = length-replicate (t .cats) Open;
+      all-open = λ c h. getD-replicate (t .cats) c Open Shut h;
+      at-start = refl;
+      one-more = λ us u. foldl-append (step (envOf t)) (start (t .cats)) us (u ∷ []);
+    }

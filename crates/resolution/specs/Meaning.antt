@@ -29,10 +29,12 @@ pub record AskedLaw (t : Table) : Type 0 where
 abbrev pub Once : List Urn → Type 0
 Once sig = (u v : Urn) → List·Memᴰ u sig → List·Memᴰ v sig → u .cat ≡ v .cat → u ≡ v
 
--- a signal's place: the path that it names in the category, or the root
+-- a signal's place: the path that it names in the category, or the root; its row has one for each category of the table
 pub record PlaceLaw (t : Table) (s : ℕ) : Type 0 where
   pub named : Once (getD (t .signals) s []) → (u : Urn) → List·Memᴰ u (getD (t .signals) s []) → place t s (u .cat) ≡ u .path
   pub unnamed : (c : ℕ) → ((u : Urn) → List·Memᴰ u (getD (t .signals) s []) → u .cat ≢ c) → place t s c ≡ []
+  pub row-length : length (rowOf t s) ≡ t .cats
+  pub row-place : (c : ℕ) → c < t .cats → getD (rowOf t s) c [] ≡ place t s c
 
 -- parts: those of all URNs of a signal, without the categories; and the most that one signal has
 pub record PartsLaw : Type 0 where
@@ -66,7 +68,8 @@ pub record Taken (t : Table) (st : State) (u : Urn) : Type 0 where
   -- the place is the URN or an ancestor of it, and no shorter than the present place
   pub no-shorter : Above (place t (st .signal) (u .cat)) at
   pub no-longer : Above at (u .path)
-  -- the signal has that place, and the current signal's places in every other category
+  -- the signal is one of the table's, with that place, and with the current signal's places in every other category
+  pub listed : signal < length (t .signals)
   pub fits : rowOf t signal ≡ set (rowOf t (st .signal)) (u .cat) at
   -- no longer place has such a signal
   pub longest : (p : Parts) (s : ℕ) → Above (place t (st .signal) (u .cat)) p → Above p (u .path) → s < length (t .signals)
@@ -84,7 +87,10 @@ pub record StepLaw (t : Table) (st : State) (u : Urn) : Type 0 where
   -- every other is taken
   pub taken : getD (st .status) (u .cat) Open ≡ Open → (x : Name) (r : Parts) → place t (st .signal) (u .cat) ++ x ∷ r ≡ u .path → Taken t st u
 
--- the URNs of a list are taken one after the other, from the start on
+-- direct resolution starts with signal 0 and every category open, and takes the URNs of a list one after the other
 pub record RunLaw (t : Table) : Type 0 where
+  pub signal-0 : start (t .cats) .signal ≡ 0
+  pub each-status : length (start (t .cats) .status) ≡ t .cats
+  pub all-open : (c : ℕ) → c < t .cats → getD (start (t .cats) .status) c Shut ≡ Open
   pub at-start : direct t [] ≡ start (t .cats)
   pub one-more : (us : List Urn) (u : Urn) → direct t (us ++ u ∷ []) ≡ step (envOf t) (direct t us) u
