@@ -1,11 +1,12 @@
--- The image of a machine, where its bytes stand, the form, the check, the build, the walk, and the machine of an image.
+-- The image of a machine, the form, the check, the build, the walk, the machine of an image, and the laws of
+-- specs/Positions.antt.
 pub mod Joined
 pub mod Form
 pub mod Stored
-pub mod Positions
 pub mod Bytes
 pub mod Check
 pub mod Build
 pub mod Walk
 pub mod Uris
 pub mod Read
+pub mod Positions

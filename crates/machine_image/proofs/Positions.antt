@@ -12,12 +12,16 @@ use Rattle.resolution.specs.Nodes.{nodes}
 use Rattle.resolution.specs.Symbols.{other, symbols, symbolAt}
 use Rattle.resolution.specs.Machine.{Machine, machineState}
 use Rattle.node_step.specs.Step.{bits}
-use Rattle.machine_image.specs.Image.{joined, kindOf, symbolBytes, storedSymbols, stateBytes, imageOf}
+use Rattle.machine_image.specs.Image.{joined, kindOf, symbolBytes, storedSymbols, stateBytes, imageOf, machineIn}
 use Rattle.machine_image.specs.Storable.{Storable}
+use Rattle.machine_image.specs.Refusals.{formOf}
 use Rattle.machine_image.specs.Walk.{stepIn}
-use Rattle.machine_image.specs.Positions.{LayoutLaw, ImageWalkLaw}
+use Rattle.machine_image.specs.Positions.{LayoutLaw, ImageWalkLaw, FormLaw, CheckLaw}
 use Rattle.machine_image.proofs.Joined.{joined-at, stored-length}
-use Rattle.machine_image.proofs.Stored.{image-parts, image-symbols, image-low, image-high, state-byte, image-length}
+use Rattle.machine_image.proofs.Stored.{image-parts, image-symbols, image-low, image-high, state-byte, image-machine, image-length, image-formed}
+use Rattle.machine_image.proofs.Form.{form-to, form-of}
+use Rattle.machine_image.proofs.Check.{check-of, check-form, check-start, check-rows}
+use Rattle.machine_image.proofs.Read.{machine-storable, image-again}
 
 abbrev bit : Status → ℕ
 bit Open = 0
@@ -91,3 +95,13 @@ image-walk-law T im =
       skipped = λ l. foldl-append (stepUri (stepIn T im)) 0 l (none ∷ []);
       signal = λ l. refl;
     }
+
+pub form-law : (T : Table) (im : List ℕ) → FormLaw T im
+form-law T im =
+    record {
+      of-machine = λ f bytes. (machine-storable T im (form-to T im f), image-again T im (form-to T im f) bytes);
+      every-machine = λ m ok e. (ap (formOf T) (sym e) ∙ form-of T (imageOf T m) (image-formed T m ok), ap (machineIn T) (sym e) ∙ image-machine T m ok);
+    }
+
+pub check-law : (T : Table) (im : List ℕ) → CheckLaw T im
+check-law T im = record { form-wrong = check-form T im; start-wrong = check-start T im; row-wrong = check-rows T im; all-right = check-of T im }
