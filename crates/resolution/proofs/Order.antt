@@ -146,6 +146,10 @@ module _ (t : Table) where
       not-root [] n = absurd (n refl)
       not-root (x ∷ p) n = refl
 
+  -- the same in its category
+  rank-in : (c k : ℕ) (n : Urn) → k < length ns → nodeAt ns k ≡ n → n .cat ≡ c → (o : Bool) → rank ns (record { cat = c; path = n .path; other = o }) ≡ 2 * suc k + one o
+  rank-in c k n h e i o = ap (λ z. rank ns (record { cat = z; path = n .path; other = o })) (sym i) ∙ own-rank k n h e o
+
   own-symbol : (c k : ℕ) (n : Urn) → k < length ns → nodeAt ns k ≡ n → n .cat ≡ c → (o : Bool) → (o ≡ true → leaf ns c (n .path) ≡ false) → Own c k (record { cat = c; path = n .path; other = o })
   own-symbol c k n h e i o l =
       record {
@@ -160,7 +164,7 @@ module _ (t : Table) where
       same-urn = λ z. record { cat = sym i z; path = n .path }
 
       r : rank ns (record { cat = c; path = n .path; other = o }) ≡ 2 * suc k + one o
-      r = ap (λ z. rank ns (record { cat = z; path = n .path; other = o })) (sym i) ∙ own-rank k n h e o
+      r = rank-in c k n h e i o
 
       at-most : (o : Bool) → one o ≤ 1
       at-most false = omega arith
@@ -196,23 +200,17 @@ module _ (t : Table) where
 
       two-sorted : n .cat ≡ c → (l : Bool) → Sorted ns (node c (n .path) ∷ cond l [] (other c (n .path) ∷ []))
       two-sorted i true = (λ y m. absurd (List·Memᴰ·not-nil m), tt)
-      two-sorted i false = (λ y m. rw (List·Memᴰ·eq-of-singleton m) (inr (refl, omega (arith, r false, r true))), (λ y m. absurd (List·Memᴰ·not-nil m), tt))
-        where
-          r : (o : Bool) → rank ns (record { cat = c; path = n .path; other = o }) ≡ 2 * suc k + one o
-          r o = ap (λ z. rank ns (record { cat = z; path = n .path; other = o })) (sym i) ∙ own-rank k n inside here o
+      two-sorted i false = (λ y m. rw (List·Memᴰ·eq-of-singleton m) (inr (refl, omega (arith, rank-in c k n inside here i false, rank-in c k n inside here i true))), (λ y m. absurd (List·Memᴰ·not-nil m), tt))
 
       top : n .cat ≡ c → (l : Bool) → leaf ns c (n .path) ≡ l → (s : Symbol) → List·Memᴰ s (node c (n .path) ∷ cond l [] (other c (n .path) ∷ [])) → rank ns s < 2 * suc (suc k)
       top i l q s m = first (List·Memᴰ·cases-cons m)
         where
-          r : (o : Bool) → rank ns (record { cat = c; path = n .path; other = o }) ≡ 2 * suc k + one o
-          r o = ap (λ z. rank ns (record { cat = z; path = n .path; other = o })) (sym i) ∙ own-rank k n inside here o
-
           second : (l : Bool) → List·Memᴰ s (cond l [] (other c (n .path) ∷ [])) → rank ns s < 2 * suc (suc k)
           second true j = absurd (List·Memᴰ·not-nil j)
-          second false j = rw (List·Memᴰ·eq-of-singleton j) (omega (arith, r true))
+          second false j = rw (List·Memᴰ·eq-of-singleton j) (omega (arith, rank-in c k n inside here i true))
 
           first : (s ≡ node c (n .path)) ⊎ List·Memᴰ s (cond l [] (other c (n .path) ∷ [])) → rank ns s < 2 * suc (suc k)
-          first (inl w) = rw w (omega (arith, r false))
+          first (inl w) = rw w (omega (arith, rank-in c k n inside here i false))
           first (inr j) = second l j
 
       go : (b : Bool) → eqb (n .cat) c ≡ b → Sorted ns (nodeSymbols ns c ms) × ((s : Symbol) → List·Memᴰ s (nodeSymbols ns c ms) → Own c (suc k) s)
