@@ -1,0 +1,4 @@
+pub mod Padding
+pub mod Tabulated
+pub mod Readings
+pub mod SectionLaws
