@@ -15,9 +15,11 @@ use Rattle.resolution.specs.Names.{Parts}
 use Rattle.resolution.specs.Table.{Urn, Table, placeIn}
 use Rattle.resolution.specs.Nodes.{nodes, addUrn, addSignal}
 use Rattle.resolution.proofs.Lists.{tabulate-length, tabulate-at}
-use Rattle.stored_table.specs.Tables.{any, noTwo, sameCat, noUrn}
-use Rattle.stored_table.specs.Held.{Tagged, tag, taggedFrom, joined, sameKey, slotIn}
-use Rattle.stored_table.proofs.Tabulated.{all-join, any-join}
+use Rattle.table_sections.specs.Held.{Tagged, tag, taggedFrom, joined}
+use Rattle.signal_places.specs.Tests.{any, noTwo}
+use Rattle.signal_places.specs.Verdict.{sameCat, noUrn}
+use Rattle.signal_places.specs.Slots.{sameKey, slotIn}
+use Rattle.signal_places.proofs.TestLaws.{all-join, any-join}
 
 pub map-tab : {A B : Type 0} (g : A → B) (f : ℕ → A) (n : ℕ) → map g (tabulate f n) ≡ tabulate (λ i. g (f i)) n
 unfolding tabulate

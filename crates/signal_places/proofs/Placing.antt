@@ -1,36 +1,33 @@
--- From the nodes and the slots to the rows: 11, 12, and what the arrays of an accepted table hold.
+-- From the slots to the rows: 9 to 12, and the places of a table that is not refused.
 use Prim.Native.Nat.{ℕ, suc, zero, _+_, _*_, _-_, _≤_, _<_}
 use mathlib.Core.Path.{_≡_, refl, ap, ap₂, sym, _∙_, subst}
-use mathlib.Core.Logic.{inl, inr, _≢_}
-use mathlib.Core.Bool.{Bool, true, false, cond, _&&_, and-eq-true-iff}
-use mathlib.Core.List.{List, [], _∷_, _++_, map, foldl}
+use mathlib.Core.Logic.{_≢_}
+use mathlib.Core.Bool.{Bool, true, false, cond, _&&_, and-eq-true-iff, false≢true}
+use mathlib.Core.List.{List, [], _∷_}
 use native.Mathlib.Omega.{arith}
 use native.Mathlib.Nat.{zero-add}
-use lib.ListN.{length, getD, length-append, List·getD-eq-default}
+use lib.ListN.{length, getD, List·getD-eq-default}
 use lib.Dec.{eqb, ltb}
 use borrow.Author.Tests.{eq-eqb, ne-eqb, eqb-true, le-leb, lt-leb, ltb-true, ltb-false}
 use Rattle.alert_urn.specs.Text.{all, fields}
 use Rattle.alert_urn.proofs.Fields.{byTest, same-fields, fields-first}
 use Rattle.resolution.specs.Lists.{tabulate}
-use Rattle.resolution.specs.Names.{Name, Parts, sameParts}
-use Rattle.resolution.specs.Table.{Urn, urn, Table, Row, placeIn, place, rowFrom, rowOf, sameRow}
-use Rattle.resolution.specs.Nodes.{nodes, number, nodeAt, addUrn, RootOrNode}
-use Rattle.resolution.proofs.Lists.{tabulate-length, tabulate-at}
+use Rattle.resolution.specs.Names.{Parts, sameParts}
+use Rattle.resolution.specs.Table.{Urn, Table, Row, placeIn, place, rowFrom, rowOf, sameRow}
+use Rattle.resolution.specs.Nodes.{nodes, number, RootOrNode}
 use Rattle.resolution.proofs.Names.{row-exact}
 use Rattle.resolution.proofs.Table.{row-place, row-length}
 use Rattle.resolution.proofs.Nodes.{row-nodes}
-use Rattle.resolution.proofs.Numbers.{number-at, root-number}
-use Rattle.node_step.specs.Arrays.{stretch, pack, numbersFrom, NamesIn, NodesIn, Numbers}
+use Rattle.resolution.proofs.Numbers.{root-number}
+use Rattle.node_step.specs.Arrays.{stretch, pack, numbersFrom}
 use Rattle.node_step.proofs.NumberLaws.{numbers-length, numbers-at, numbers-bytes, numbers-same, Anchored}
 use Rattle.node_step.proofs.PackedLaws.{pack-same}
-use Rattle.stored_table.specs.Tables.{noTwo, samePlaces, single, distinct, fewNodes, verdict, tableOf, tableRefusal, categoryNames}
-use Rattle.stored_table.specs.Held.{Tagged, tag, nodeUrn, pathUrn, keyAt, sameKey, slotIn, Nodes, Numbered, AllAdded, placeNumber, packedFrom, sameSlots, samePlacesAt}
-use Rattle.stored_table.specs.Stages.{ListedAs, SlotsAs}
-use Rattle.stored_table.specs.declared.read.Counts.{Counts}
-use Rattle.stored_table.specs.Decoded.{Means}
-use Rattle.stored_table.proofs.Accepting.{accepted, node-parts}
-use Rattle.stored_table.proofs.Tabulated.{same-test}
-use Rattle.stored_table.proofs.Flat.{map-tab, whatOf, tagged-what, nodes-joined, all-alike, two-alike, tab-list, tab-shift, sameTag, single-tags, firstPlace, first-place, pathIn, slot-place}
+use Rattle.table_sections.specs.Held.{Tagged, tag, Padded}
+use Rattle.signal_places.specs.Tests.{noTwo}
+use Rattle.signal_places.specs.Verdict.{samePlaces, single, plain, distinct, fewNodes, verdict}
+use Rattle.signal_places.specs.Slots.{urnOf, Listing, Numbering, Placed, InRange, keyAt, sameKey, slotIn, placeNumber, packedFrom, sameSlots, samePlacesAt}
+use Rattle.signal_places.proofs.TestLaws.{same-test}
+use Rattle.signal_places.proofs.Flat.{all-alike, two-alike, tab-list, tab-shift, sameTag, single-tags, plain-tags, tagged-below, firstPlace, first-place, pathIn, slot-place}
 
 -- a slot that is taken is its URN's
 pub slot-key : (f : ℕ → Tagged ℕ) (s c n i : ℕ) → slotIn f s c n ≡ suc i → (i < n) × (sameKey (tag s c) (f i) ≡ true)
@@ -65,23 +62,56 @@ packed-is (x ∷ l) f k (suc n) h e =
     let r = packed-is l f (k + 1) n (omega arith) (λ j i. let y : k + 1 + j ≡ k + suc j = omega arith in ap f y ∙ e (suc j) (omega arith)) in
     omega (arith, ap f z, e 0 (omega arith), r)
 
-some-fields : (w : List ℕ) → fields 58 w ≡ [] → ⊥
-some-fields w e = let z : length (fields 58 w) ≡ 0 = ap length e in omega (arith, z, ap length (fields-first 58 w .1))
+-- 9 and 10
+module _ {T : Table} {signal category : List ℕ} {path : ℕ → Parts} {n m : ℕ} (L : Listing T signal category path n m) where
+  pub in-range : InRange signal category m
+  in-range = (
+    λ i h. omega (arith, tagged-below 0 (T .signals) (urnOf signal category path) m (L .urns) i h, L .signals, L .few-signals),
+    λ i h. omega (arith, L .known i h, L .few-categories),
+  )
 
-module _ (t nameAt nameLen signal category pathAt pathLen slots : List ℕ) (l : Counts) (S : SlotsAs t nameAt nameLen signal category pathAt pathLen slots l) where
-  abbrev T : Table
-  T = tableOf t
+  single-as : {b : Bool} → (InRange signal category m → b ≡ noTwo sameKey (tabulate (keyAt signal category) m)) → single T ≡ b
+  unfolding single
+  single-as e =
+      single-tags 0 (T .signals) ∙ ap (noTwo sameTag) (sym (L .urns))
+      ∙ two-alike sameTag sameKey (urnOf signal category path) (keyAt signal category) m (λ i j h k. refl) ∙ sym (e in-range)
 
-  abbrev L : ListedAs t nameAt nameLen signal category pathAt pathLen l
-  L = S .listed
+  pub is-nine : {b : Bool} → (InRange signal category m → b ≡ noTwo sameKey (tabulate (keyAt signal category) m)) → b ≡ false → 9 ≡ verdict T
+  unfolding verdict
+  is-nine e z = sym (rw (single-as e ∙ z))
+
+  plain-as : {b : Bool} → (m ≡ 0 → b ≡ true) → (0 < m → b ≡ ltb 0 (getD signal 0 0)) → plain T ≡ b
+  unfolding plain
+  plain-as f g = sym (plain-tags (T .signals) (urnOf signal category path) m (L .urns) f g)
+
+  pub is-ten : {a b : Bool} → (InRange signal category m → a ≡ noTwo sameKey (tabulate (keyAt signal category) m)) → a ≡ true
+      → (m ≡ 0 → b ≡ true) → (0 < m → b ≡ ltb 0 (getD signal 0 0)) → b ≡ false → 10 ≡ verdict T
+  unfolding verdict
+  is-ten e x f g z = sym (rw (single-as e ∙ x, plain-as f g ∙ z))
+
+-- a table that passed them, with each URN in its slot
+pub record Slotted (T : Table) (signal category : List ℕ) (path : ℕ → Parts) (n m : ℕ) (slots : List ℕ) : Type 0 where
+  pub listing : Listing T signal category path n m
+  pub once : single T ≡ true
+  pub silent : plain T ≡ true
+  pub slot : (s c : ℕ) → c < 8 → getD slots (8 * s + c) 0 ≡ slotIn (keyAt signal category) s c m
+
+pub slotted : {T : Table} {signal category : List ℕ} {path : ℕ → Parts} {n m : ℕ} (L : Listing T signal category path n m) {a b : Bool} {slots : List ℕ}
+    → (InRange signal category m → a ≡ noTwo sameKey (tabulate (keyAt signal category) m)) → a ≡ true → (m ≡ 0 → b ≡ true) → (0 < m → b ≡ ltb 0 (getD signal 0 0)) → b ≡ true
+    → (InRange signal category m → a ≡ true → (s c : ℕ) → c < 8 → getD slots (8 * s + c) 0 ≡ slotIn (keyAt signal category) s c m) → Slotted T signal category path n m slots
+slotted L e x f g y v = record { listing = L; once = single-as L e ∙ x; silent = plain-as L f g ∙ y; slot = v (in-range L) x }
+
+module _ {T : Table} {signal category : List ℕ} {path : ℕ → Parts} {n m : ℕ} {slots : List ℕ} (S : Slotted T signal category path n m slots) where
+  abbrev L : Listing T signal category path n m
+  L = S .listing
 
   abbrev tu : ℕ → Tagged Urn
-  tu i = tag (getD signal i 0) (pathUrn t category pathAt pathLen i)
+  tu = urnOf signal category path
 
   abbrev slot : ℕ → ℕ → ℕ
   slot s c = getD slots (8 * s + c) 0
 
-  once : noTwo sameTag (tabulate tu (l .urns)) ≡ true
+  once : noTwo sameTag (tabulate tu m) ≡ true
   unfolding single
   once = ap (noTwo sameTag) (L .urns) ∙ sym (single-tags 0 (T .signals)) ∙ S .once
 
@@ -89,201 +119,131 @@ module _ (t nameAt nameLen signal category pathAt pathLen slots : List ℕ) (l :
   place-slot : (s c : ℕ) → c < 8 → place T s c ≡ pathIn tu (slot s c)
   place-slot s c h =
       sym (first-place 0 s (T .signals) c) ∙ ap₂ (λ z (y : List (Tagged Urn)). firstPlace y z c) (zero-add s) (sym (L .urns))
-      ∙ slot-place tu s c (l .urns) once ∙ ap (pathIn tu) (sym (S .slot s c h))
+      ∙ slot-place tu s c m once ∙ ap (pathIn tu) (sym (S .slot s c h))
 
-  -- 11 by texts
-  same-slot : (x y : ℕ) → sameParts (pathIn tu x) (pathIn tu y) ≡ sameSlots t pathAt pathLen x y
-  unfolding sameSlots
-  same-slot zero zero = refl
-  same-slot zero (suc j) = ap (sameParts []) (fields-first 58 (stretch t pathAt pathLen j) .1) ∙ sym (rw (ne-eqb (suc j) 0 (λ z. omega arith)))
-  same-slot (suc i) zero = ap (λ (p : Parts). sameParts p []) (fields-first 58 (stretch t pathAt pathLen i) .1) ∙ sym (rw (ne-eqb (suc i) 0 (λ z. omega arith)))
-  same-slot (suc i) (suc j) =
-      let x : suc i - 1 ≡ i = omega arith in
-      let y : suc j - 1 ≡ j = omega arith in
-      same-fields 58 (stretch t pathAt pathLen i) (stretch t pathAt pathLen j) ∙ sym (rw (ne-eqb (suc i) 0 (λ z. omega arith), ne-eqb (suc j) 0 (λ z. omega arith), x, y))
-
-  rows-texts : (a b : ℕ) → samePlaces (T .cats) (getD (T .signals) a []) (getD (T .signals) b []) ≡ samePlacesAt t slots pathAt pathLen (l .categories) a b
-  rows-texts a b =
-      ap (λ n. samePlaces n (getD (T .signals) a []) (getD (T .signals) b [])) (L .cats)
-      ∙ row-all (getD (T .signals) a []) (getD (T .signals) b []) 0 (l .categories)
-      ∙ all-alike (λ i. sameParts (place T a (0 + i)) (place T b (0 + i))) (λ c. sameSlots t pathAt pathLen (slot a c) (slot b c)) (λ i. i) (λ c. c) (l .categories)
-      (λ c h.
-      let k : c < 8 = omega (arith, h, L .few-categories) in
-      ap (λ i. sameParts (place T a i) (place T b i)) (zero-add c) ∙ ap₂ sameParts (place-slot a c k) (place-slot b c k) ∙ same-slot (slot a c) (slot b c))
-
-  distinct-by : (q : ℕ → ℕ → Bool) → ((i j : ℕ) → i < j → j < l .signals → samePlaces (T .cats) (getD (T .signals) i []) (getD (T .signals) j []) ≡ q i j)
-      → distinct T ≡ noTwo q (tabulate (λ i. i) (l .signals))
+  distinct-by : (q : ℕ → ℕ → Bool) → ((i j : ℕ) → i < j → j < n → samePlaces (T .cats) (getD (T .signals) i []) (getD (T .signals) j []) ≡ q i j)
+      → distinct T ≡ noTwo q (tabulate (λ i. i) n)
   unfolding distinct
   distinct-by q h =
       ap (noTwo (samePlaces (T .cats))) (sym (tab-list (T .signals) []) ∙ ap (tabulate (λ i. getD (T .signals) i [])) (L .signals))
-      ∙ two-alike (samePlaces (T .cats)) q (λ i. getD (T .signals) i []) (λ i. i) (l .signals) h
+      ∙ two-alike (samePlaces (T .cats)) q (λ i. getD (T .signals) i []) (λ i. i) n h
 
-  pub by-texts : {b : Bool} → b ≡ noTwo (samePlacesAt t slots pathAt pathLen (l .categories)) (tabulate (λ a. a) (l .signals)) → distinct T ≡ b
-  by-texts e = distinct-by (samePlacesAt t slots pathAt pathLen (l .categories)) (λ i j h k. rows-texts i j) ∙ sym e
-
-  verdict-11 : distinct T ≡ false → tableRefusal t ≡ 11
+  verdict-11 : distinct T ≡ false → 11 ≡ verdict T
   unfolding verdict
-  verdict-11 e = L .refusal ∙ rw (S .once, S .silent, e)
+  verdict-11 e = sym (rw (S .once, S .silent, e))
 
-  texts-eleven : {b : Bool} → b ≡ noTwo (samePlacesAt t slots pathAt pathLen (l .categories)) (tabulate (λ a. a) (l .signals)) → b ≡ false → tableRefusal t ≡ 11
-  texts-eleven e z = verdict-11 (by-texts e ∙ z)
+  -- by node numbers
+  module _ {node : List ℕ} (N : Numbering T category path node m) where
+    place-is : (s c : ℕ) (x : ℕ) → slot s c ≡ x → c < 8 → placeNumber slots node (8 * s + c) ≡ number (nodes T) c (pathIn tu x)
+    unfolding placeNumber
+    place-is s c zero e k = rw (eq-eqb (slot s c) 0 e) (sym (root-number T c))
+    place-is s c (suc i) e k =
+        let r = slot-key (keyAt signal category) s c m i (sym (S .slot s c k) ∙ e) in
+        let q : c ≡ getD category i 0 = eqb-true c (getD category i 0) (and-eq-true-iff (eqb s (getD signal i 0)) (eqb c (getD category i 0)) .0 (r .1) .1) in
+        let z : slot s c ≢ 0 = λ y. omega (arith, e, y) in
+        let o : suc i - 1 ≡ i = omega arith in
+        rw (ne-eqb (slot s c) 0 z) (ap (λ y. getD node (y - 1) 0) e ∙ ap (λ y. getD node y 0) o ∙ N .numbers i (r .0) ∙ ap (λ y. number (nodes T) y (path i)) (sym q))
 
-  module _ {node cats parents at len : List ℕ} {n : ℕ} (A : AllAdded t (pathUrn t category pathAt pathLen) (l .urns) node cats parents at len n) where
-    nodes-are : nodes T ≡ foldl addUrn [] (tabulate (pathUrn t category pathAt pathLen) (l .urns))
-    nodes-are = nodes-joined T ∙ ap (foldl addUrn []) (sym (tagged-what 0 (T .signals)) ∙ ap (map whatOf) (sym (L .urns)) ∙ map-tab whatOf tu (l .urns))
+    blank : (s c : ℕ) (x : ℕ) → slot s c ≡ x → T .cats ≤ c → c < 8 → placeNumber slots node (8 * s + c) ≡ 0
+    unfolding placeNumber
+    blank s c zero e j k = rw (eq-eqb (slot s c) 0 e)
+    blank s c (suc i) e j k =
+        let r = slot-key (keyAt signal category) s c m i (sym (S .slot s c k) ∙ e) in
+        let q : c ≡ getD category i 0 = eqb-true c (getD category i 0) (and-eq-true-iff (eqb s (getD signal i 0)) (eqb c (getD category i 0)) .0 (r .1) .1) in
+        absurd (omega (arith, q, L .known i (r .0)))
 
-    twelve : {b : Bool} → 64 < n → b ≡ noTwo (samePlacesAt t slots pathAt pathLen (l .categories)) (tabulate (λ a. a) (l .signals)) → b ≡ true → tableRefusal t ≡ 12
+    abbrev numbers : ℕ → List ℕ
+    numbers s = numbersFrom (nodes T) 0 (rowOf T s)
+
+    wide : (s : ℕ) → length (numbers s) ≡ T .cats
+    wide s = numbers-length (nodes T) 0 (rowOf T s) ∙ row-length (getD (T .signals) s []) 0 (T .cats)
+
+    digit : (s c : ℕ) → c < 8 → placeNumber slots node (8 * s + c) ≡ getD (numbers s) c 0
+    digit s c k = byTest (ltb c (T .cats))
+        (λ b.
+        let g = ltb-true c (T .cats) b in
+        let g₂ : c < length (rowOf T s) = omega (arith, g, row-length (getD (T .signals) s []) 0 (T .cats)) in
+        place-is s c (slot s c) refl k ∙ ap (number (nodes T) c) (sym (place-slot s c k))
+        ∙ sym (numbers-at (nodes T) 0 (rowOf T s) c g₂ ∙ ap₂ (number (nodes T)) (zero-add c) (row-place T s c g)))
+        (λ b.
+        let g = ltb-false c (T .cats) b in
+        blank s c (slot s c) refl g k ∙ sym (List·getD-eq-default (numbers s) 0 (omega (arith, wide s, g))))
+
+    module _ (rows : List ℕ) (v : (s : ℕ) → s < n → getD rows s 0 ≡ packedFrom (placeNumber slots node) (8 * s) 8) where
+      packed : (s : ℕ) → s < n → getD rows s 0 ≡ pack (numbers s)
+      packed s k = v s k ∙ packed-is (numbers s) (placeNumber slots node) (8 * s) 8 (omega (arith, wide s, L .few-categories)) (λ j i. digit s j i)
+
+      anchored : (s : ℕ) → s < n → Anchored T 0 (rowOf T s)
+      anchored s k c = subst (λ (z : ℕ). RootOrNode (nodes T) z (getD (rowOf T s) c [])) (sym (zero-add c)) (row-nodes T s (omega (arith, k, L .signals)) c)
+
+      row-test : (i j : ℕ) → i < n → j < n → sameRow (rowOf T i) (rowOf T j) ≡ eqb (getD rows i 0) (getD rows j 0)
+      row-test i j a b =
+          same-test (sameRow (rowOf T i) (rowOf T j)) (eqb (getD rows i 0) (getD rows j 0))
+          (λ e. eq-eqb _ _ (packed i a ∙ ap (λ (r : Row). pack (numbersFrom (nodes T) 0 r)) (row-exact .to (rowOf T i) (rowOf T j) e) ∙ sym (packed j b)))
+          (λ e.
+          let w : pack (numbers i) ≡ pack (numbers j) = sym (packed i a) ∙ eqb-true _ _ e ∙ packed j b in
+          let s : numbers i ≡ numbers j =
+          pack-same (numbers i) (numbers j) (wide i ∙ sym (wide j)) (numbers-bytes (nodes T) (N .few-nodes) 0 (rowOf T i)) (numbers-bytes (nodes T) (N .few-nodes) 0 (rowOf T j)) w in
+          let u : rowOf T i ≡ rowOf T j =
+          numbers-same T 0 (rowOf T i) (rowOf T j) (anchored i a) (anchored j b) (row-length (getD (T .signals) i []) 0 (T .cats) ∙ sym (row-length (getD (T .signals) j []) 0 (T .cats))) s in
+          subst (λ (r : Row). sameRow (rowOf T i) r ≡ true) u (row-exact .self (rowOf T i)))
+
+      by-rows : {b : Bool} → b ≡ noTwo eqb (tabulate (λ s. getD rows s 0) n) → distinct T ≡ b
+      by-rows e =
+          distinct-by (λ i j. eqb (getD rows i 0) (getD rows j 0)) (λ i j h k. row-test i j (omega arith) k)
+          ∙ two-alike (λ i j. eqb (getD rows i 0) (getD rows j 0)) eqb (λ i. i) (λ s. getD rows s 0) n (λ i j h k. refl) ∙ sym e
+
+      accepted : {b : Bool} → b ≡ noTwo eqb (tabulate (λ s. getD rows s 0) n) → b ≡ true → 0 ≡ verdict T
+      unfolding verdict fewNodes
+      accepted e z = sym (rw (S .once, S .silent, by-rows e ∙ z, le-leb (length (nodes T)) 64 (N .few-nodes)))
+
+      pub rows-good : {b : Bool} → b ≡ noTwo eqb (tabulate (λ s. getD rows s 0) n) → b ≡ true → Padded 32 n rows → Placed T rows n 0
+      rows-good e z p = record { refusal = accepted e z; packed = λ _. packed; past = λ _. p }
+
+      pub rows-eleven : {b : Bool} → b ≡ noTwo eqb (tabulate (λ s. getD rows s 0) n) → b ≡ false → 11 ≡ verdict T
+      rows-eleven e z = verdict-11 (by-rows e ∙ z)
+
+-- a refused table has no places
+pub not-placed : {T : Table} {rows : List ℕ} {n : ℕ} (r : ℕ) → r ≢ 0 → r ≡ verdict T → Placed T rows n r
+not-placed r z e = record { refusal = e; packed = λ y. absurd (z y); past = λ y. absurd (z y) }
+
+-- by texts
+module _ (t at len : List ℕ) {T : Table} {signal category : List ℕ} {n m : ℕ} {slots : List ℕ} (S : Slotted T signal category (λ i. fields 58 (stretch t at len i)) n m slots) where
+  abbrev texts : ℕ → Tagged Urn
+  texts = urnOf signal category (λ i. fields 58 (stretch t at len i))
+
+  same-slot : (x y : ℕ) → sameParts (pathIn texts x) (pathIn texts y) ≡ sameSlots t at len x y
+  unfolding sameSlots
+  same-slot zero zero = refl
+  same-slot zero (suc j) = ap (sameParts []) (fields-first 58 (stretch t at len j) .1) ∙ sym (rw (ne-eqb (suc j) 0 (λ z. omega arith)))
+  same-slot (suc i) zero = ap (λ (p : Parts). sameParts p []) (fields-first 58 (stretch t at len i) .1) ∙ sym (rw (ne-eqb (suc i) 0 (λ z. omega arith)))
+  same-slot (suc i) (suc j) =
+      let x : suc i - 1 ≡ i = omega arith in
+      let y : suc j - 1 ≡ j = omega arith in
+      same-fields 58 (stretch t at len i) (stretch t at len j) ∙ sym (rw (ne-eqb (suc i) 0 (λ z. omega arith), ne-eqb (suc j) 0 (λ z. omega arith), x, y))
+
+  module _ (k : ℕ) (g : T .cats ≡ k) (few : k ≤ 8) where
+    rows-texts : (a b : ℕ) → samePlaces (T .cats) (getD (T .signals) a []) (getD (T .signals) b []) ≡ samePlacesAt t slots at len k a b
+    rows-texts a b =
+        ap (λ n. samePlaces n (getD (T .signals) a []) (getD (T .signals) b [])) g
+        ∙ row-all (getD (T .signals) a []) (getD (T .signals) b []) 0 k
+        ∙ all-alike (λ i. sameParts (place T a (0 + i)) (place T b (0 + i))) (λ c. sameSlots t at len (slot S a c) (slot S b c)) (λ i. i) (λ c. c) k
+        (λ c h.
+        let l : c < 8 = omega arith in
+        ap (λ i. sameParts (place T a i) (place T b i)) (zero-add c) ∙ ap₂ sameParts (place-slot S a c l) (place-slot S b c l) ∙ same-slot (slot S a c) (slot S b c))
+
+    abbrev test : Bool
+    test = noTwo (samePlacesAt t slots at len k) (tabulate (λ a. a) n)
+
+    by-texts : distinct T ≡ test
+    by-texts = distinct-by S (samePlacesAt t slots at len k) (λ i j h l. rows-texts i j)
+
+    twelve : 64 < length (nodes T) → test ≡ true → 12 ≡ verdict T
     unfolding verdict fewNodes
-    twelve h e z =
-        let k : 64 < length (nodes T) = omega (arith, A .over h, ap length nodes-are) in
-        L .refusal ∙ rw (S .once, S .silent, by-texts e ∙ z, lt-leb (length (nodes T)) 64 k)
+    twelve h z = sym (rw (S .once, S .silent, by-texts ∙ z, lt-leb (length (nodes T)) 64 h))
 
-    pub crowded-right : {r : ℕ} → 64 < n → r ≡ cond (noTwo (samePlacesAt t slots pathAt pathLen (l .categories)) (tabulate (λ a. a) (l .signals))) 12 11
-        → (tableRefusal t ≡ r) × (r ≡ 0 → ⊥)
+    pub crowded-right : {r : ℕ} → 64 < length (nodes T) → r ≡ cond test 12 11 → r ≡ verdict T
     crowded-right h e =
-        byTest (noTwo (samePlacesAt t slots pathAt pathLen (l .categories)) (tabulate (λ a. a) (l .signals)))
-        (λ q. let r12 = e ∙ ap (λ b. cond b 12 11) q in (twelve h refl q ∙ sym r12, λ z. omega arith))
-        (λ q. let r11 = e ∙ ap (λ b. cond b 12 11) q in (texts-eleven refl q ∙ sym r11, λ z. omega arith))
-
-    module _ (h : n ≤ 64) where
-      N : Nodes t cats parents at len n (nodes T)
-      N = subst (λ (z : List Urn). Nodes t cats parents at len n z) (sym nodes-are) (A .kept h)
-
-      count : length (nodes T) ≡ n
-      count = ap length (sym (N .held)) ∙ tabulate-length (nodeUrn t cats at len) n
-
-      -- a path's number, as the arrays have it
-      number-as : (c : ℕ) (p : Parts) (k : ℕ) → Numbered (nodes T) c p k → k ≡ number (nodes T) c p
-      number-as c p k (inl e) = e .0 ∙ sym (ap (number (nodes T) c) (e .1) ∙ root-number T c)
-      number-as c p k (inr w) = w .1 ∙ sym (number-at T (w .0) (w .2)) ∙ ap (λ (u : Urn). number (nodes T) (u .cat) (u .path)) (w .3)
-
-      place-is : (s c : ℕ) (x : ℕ) → slot s c ≡ x → c < 8 → placeNumber slots node (8 * s + c) ≡ number (nodes T) c (pathIn tu x)
-      unfolding placeNumber
-      place-is s c zero e k = rw (eq-eqb (slot s c) 0 e) (sym (root-number T c))
-      place-is s c (suc i) e k =
-          let r = slot-key (keyAt signal category) s c (l .urns) i (sym (S .slot s c k) ∙ e) in
-          let q : c ≡ getD category i 0 = eqb-true c (getD category i 0) (and-eq-true-iff (eqb s (getD signal i 0)) (eqb c (getD category i 0)) .0 (r .1) .1) in
-          let z : slot s c ≢ 0 = λ y. omega (arith, e, y) in
-          let m = number-as (getD category i 0) (fields 58 (stretch t pathAt pathLen i)) (getD node i 0)
-          (subst (λ (y : List Urn). Numbered y (getD category i 0) (fields 58 (stretch t pathAt pathLen i)) (getD node i 0)) (sym nodes-are) (A .numbered h i (r .0))) in
-          let o : suc i - 1 ≡ i = omega arith in
-          rw (ne-eqb (slot s c) 0 z) (ap (λ y. getD node (y - 1) 0) e ∙ ap (λ y. getD node y 0) o ∙ m ∙ ap (λ y. number (nodes T) y (fields 58 (stretch t pathAt pathLen i))) (sym q))
-
-      blank : (s c : ℕ) (x : ℕ) → slot s c ≡ x → l .categories ≤ c → c < 8 → placeNumber slots node (8 * s + c) ≡ 0
-      unfolding placeNumber
-      blank s c zero e j k = rw (eq-eqb (slot s c) 0 e)
-      blank s c (suc i) e j k =
-          let r = slot-key (keyAt signal category) s c (l .urns) i (sym (S .slot s c k) ∙ e) in
-          let q : c ≡ getD category i 0 = eqb-true c (getD category i 0) (and-eq-true-iff (eqb s (getD signal i 0)) (eqb c (getD category i 0)) .0 (r .1) .1) in
-          absurd (omega (arith, q, L .known i (r .0)))
-
-      abbrev numbers : ℕ → List ℕ
-      numbers s = numbersFrom (nodes T) 0 (rowOf T s)
-
-      wide : (s : ℕ) → length (numbers s) ≡ l .categories
-      wide s = numbers-length (nodes T) 0 (rowOf T s) ∙ row-length (getD (T .signals) s []) 0 (T .cats) ∙ L .cats
-
-      digit : (s c : ℕ) → c < 8 → placeNumber slots node (8 * s + c) ≡ getD (numbers s) c 0
-      digit s c k = byTest (ltb c (l .categories))
-          (λ b.
-          let g = ltb-true c (l .categories) b in
-          let g₁ : c < T .cats = omega (arith, g, L .cats) in
-          let g₂ : c < length (rowOf T s) = omega (arith, g₁, row-length (getD (T .signals) s []) 0 (T .cats)) in
-          place-is s c (slot s c) refl k ∙ ap (number (nodes T) c) (sym (place-slot s c k))
-          ∙ sym (numbers-at (nodes T) 0 (rowOf T s) c g₂ ∙ ap₂ (number (nodes T)) (zero-add c) (row-place T s c g₁)))
-          (λ b.
-          let g = ltb-false c (l .categories) b in
-          blank s c (slot s c) refl g k ∙ sym (List·getD-eq-default (numbers s) 0 (omega (arith, wide s, g))))
-
-      module _ (rows : List ℕ) (v : (s : ℕ) → s < l .signals → getD rows s 0 ≡ packedFrom (placeNumber slots node) (8 * s) 8) where
-        packed : (s : ℕ) → s < l .signals → getD rows s 0 ≡ pack (numbers s)
-        packed s k = v s k ∙ packed-is (numbers s) (placeNumber slots node) (8 * s) 8 (omega (arith, wide s, L .few-categories)) (λ j i. digit s j i)
-
-        few : length (nodes T) ≤ 64
-        few = omega (arith, count)
-
-        anchored : (s : ℕ) → s < l .signals → Anchored T 0 (rowOf T s)
-        anchored s k c = subst (λ (z : ℕ). RootOrNode (nodes T) z (getD (rowOf T s) c [])) (sym (zero-add c)) (row-nodes T s (omega (arith, k, L .signals)) c)
-
-        row-test : (i j : ℕ) → i < l .signals → j < l .signals → sameRow (rowOf T i) (rowOf T j) ≡ eqb (getD rows i 0) (getD rows j 0)
-        row-test i j a b =
-            same-test (sameRow (rowOf T i) (rowOf T j)) (eqb (getD rows i 0) (getD rows j 0))
-            (λ e. eq-eqb _ _ (packed i a ∙ ap (λ (r : Row). pack (numbersFrom (nodes T) 0 r)) (row-exact .to (rowOf T i) (rowOf T j) e) ∙ sym (packed j b)))
-            (λ e.
-            let w : pack (numbers i) ≡ pack (numbers j) = sym (packed i a) ∙ eqb-true _ _ e ∙ packed j b in
-            let s : numbers i ≡ numbers j = pack-same (numbers i) (numbers j) (wide i ∙ sym (wide j)) (numbers-bytes (nodes T) few 0 (rowOf T i)) (numbers-bytes (nodes T) few 0 (rowOf T j)) w in
-            let u : rowOf T i ≡ rowOf T j = numbers-same T 0 (rowOf T i) (rowOf T j) (anchored i a) (anchored j b) (row-length (getD (T .signals) i []) 0 (T .cats) ∙ sym (row-length (getD (T .signals) j []) 0 (T .cats))) s in
-            subst (λ (r : Row). sameRow (rowOf T i) r ≡ true) u (row-exact .self (rowOf T i)))
-
-        pub by-rows : {b : Bool} → b ≡ noTwo eqb (tabulate (λ s. getD rows s 0) (l .signals)) → distinct T ≡ b
-        by-rows e =
-            distinct-by (λ i j. eqb (getD rows i 0) (getD rows j 0)) (λ i j h k. row-test i j (omega arith) k)
-            ∙ two-alike (λ i j. eqb (getD rows i 0) (getD rows j 0)) eqb (λ i. i) (λ s. getD rows s 0) (l .signals) (λ i j h k. refl) ∙ sym e
-
-        pub rows-eleven : {b : Bool} → b ≡ noTwo eqb (tabulate (λ s. getD rows s 0) (l .signals)) → b ≡ false → tableRefusal t ≡ 11
-        rows-eleven e z = verdict-11 (by-rows e ∙ z)
-
-        pub accepted-zero : {b : Bool} → b ≡ noTwo eqb (tabulate (λ s. getD rows s 0) (l .signals)) → b ≡ true → tableRefusal t ≡ 0
-        unfolding verdict fewNodes
-        accepted-zero e z = L .refusal ∙ rw (S .once, S .silent, by-rows e ∙ z, le-leb (length (nodes T)) 64 few)
-
-        node-is : (i : ℕ) → i < n → nodeAt (nodes T) i ≡ nodeUrn t cats at len i
-        node-is i k = ap (λ (z : List Urn). nodeAt z i) (sym (N .held)) ∙ tabulate-at (nodeUrn t cats at len) n i (urn 0 []) k
-
-        pub names-in : NamesIn t nameAt nameLen (l .categories) (categoryNames t)
-        names-in =
-            record {
-              all-names = ap length (L .names) ∙ tabulate-length (stretch t nameAt nameLen) (l .categories);
-              few-names = L .few-categories;
-              name-at = λ i k. sym (ap (λ (z : List Name). getD z i []) (L .names) ∙ tabulate-at (stretch t nameAt nameLen) (l .categories) i [] k);
-            }
-
-        pub nodes-in : NodesIn t cats at len n T
-        nodes-in =
-            record {
-              all-nodes = count;
-              few-nodes = h;
-              cat-at = λ i k. ap (λ (u : Urn). u .cat) (sym (node-is i k));
-              path-at = λ i k. ap (λ (u : Urn). u .path) (sym (node-is i k));
-            }
-
-        snoc-same : (p q : Parts) (x y : Name) → p ++ x ∷ [] ≡ q ++ y ∷ [] → p ≡ q
-        snoc-same [] [] x y e = refl
-        snoc-same [] (z ∷ q) x y e = absurd (omega (arith, ap length e, length-append q (y ∷ [])))
-        snoc-same (z ∷ p) [] x y e = absurd (omega (arith, ap length e, length-append p (x ∷ [])))
-        snoc-same (z ∷ p) (w ∷ q) x y e = let a : z ≡ w = cc in let b : p ++ x ∷ [] ≡ q ++ y ∷ [] = cc in ap₂ _∷_ a (snoc-same p q x y b)
-
-        pub numbers-hold : ((k : ℕ) → k < length (nodes T) → length (nodeAt (nodes T) k .path) ≤ 8) → Numbers rows parents (l .signals) T
-        numbers-hold parts =
-            record {
-              few-cats = omega (arith, L .cats, L .few-categories);
-              all-signals = L .signals;
-              few-signals = L .few-signals;
-              few-nodes = few;
-              few-parts = parts;
-              packed = packed;
-              parent-at = λ k i p x e.
-                  let w = N .parent k (omega (arith, i, count)) in
-                  let s : w .0 ≡ p = snoc-same (w .0) p (w .1) x (sym (w .2) ∙ e) in
-                  number-as (nodeAt (nodes T) k .cat) (w .0) (getD parents k 0) (w .3) ∙ ap (number (nodes T) (nodeAt (nodes T) k .cat)) s;
-            }
-
--- the answer to an accepted table
-pub means-accepted : (t nameAt nameLen signal category pathAt pathLen slots : List ℕ) (l : Counts) (S : SlotsAs t nameAt nameLen signal category pathAt pathLen slots l)
-    {node cats parents at len : List ℕ} {n : ℕ} → AllAdded t (pathUrn t category pathAt pathLen) (l .urns) node cats parents at len n → n ≤ 64 → (rows : List ℕ)
-    → ((s : ℕ) → s < l .signals → getD rows s 0 ≡ packedFrom (placeNumber slots node) (8 * s) 8) → {b : Bool} → b ≡ noTwo eqb (tabulate (λ s. getD rows s 0) (l .signals)) → b ≡ true
-    → Means t (record { refusal = 0; categories = l .categories; signals = l .signals; nodes = n; «name_at» = nameAt; «name_len» = nameLen; category = cats; parent = parents; at = at; len = len; rows = rows })
-means-accepted t nameAt nameLen signal category pathAt pathLen slots l S {node} {cats} {parents} {at} {len} {n} A h rows v e z =
-    let zero-is : tableRefusal t ≡ 0 = accepted-zero t nameAt nameLen signal category pathAt pathLen slots l S A h rows v e z in
-    let acc = accepted t zero-is in
-    record {
-      refusal = sym zero-is;
-      refused = λ x. absurd (x zero-is);
-      holds = λ _. record {
-        categories = sym (S .listed .cats);
-        names = names-in t nameAt nameLen signal category pathAt pathLen slots l S A h rows v;
-        nodes = nodes-in t nameAt nameLen signal category pathAt pathLen slots l S A h rows v;
-        numbers = numbers-hold t nameAt nameLen signal category pathAt pathLen slots l S A h rows v (node-parts (tableOf t) acc);
-        well-formed = acc .well;
-      };
-    }
+        byTest test
+        (λ q. e ∙ ap (λ b. cond b 12 11) q ∙ twelve h q)
+        (λ q. e ∙ ap (λ b. cond b 12 11) q ∙ verdict-11 S (by-texts ∙ q))

@@ -11,7 +11,7 @@ use borrow.Author.Tests.{eq-eqb, ne-eqb, eqb-true, eqb-false}
 use Rattle.alert_urn.proofs.Fields.{byTest}
 use Rattle.resolution.specs.Names.{sameName}
 use Rattle.node_step.specs.Arrays.{stretch}
-use Rattle.stored_table.specs.Held.{placeNumber, packedFrom, sameSlots}
+use Rattle.signal_places.specs.Slots.{placeNumber, packedFrom, sameSlots}
 
 module _ (slots node : List ℕ) (k : ℕ) {x : ℕ} (e : x ≡ getD slots k 0) where
   pub place-none : x ≡ 0 → 0 ≡ placeNumber slots node k

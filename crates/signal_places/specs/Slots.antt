@@ -7,10 +7,12 @@ use lib.ListN.{length, getD}
 use lib.Dec.{eqb}
 use Rattle.resolution.specs.Lists.{tabulate}
 use Rattle.resolution.specs.Names.{Parts, sameName}
-use Rattle.resolution.specs.Table.{Urn, urn, Table}
+use Rattle.resolution.specs.Table.{Urn, urn, Table, rowOf}
+use Rattle.resolution.specs.Nodes.{nodes, number}
 use Rattle.alert_urn.specs.Text.{all}
-use Rattle.node_step.specs.Arrays.{stretch}
-use Rattle.table_sections.specs.Held.{Tagged, tag, taggedFrom}
+use Rattle.node_step.specs.Arrays.{stretch, pack, numbersFrom}
+use Rattle.table_sections.specs.Held.{Tagged, tag, taggedFrom, Padded}
+use Rattle.signal_places.specs.Verdict.{verdict}
 
 -- the i-th URN, with its signal
 abbrev pub urnOf : List ℕ → List ℕ → (ℕ → Parts) → ℕ → Tagged Urn
@@ -24,6 +26,21 @@ pub record Listing (T : Table) (signal category : List ℕ) (path : ℕ → Part
   pub few-categories : T .cats ≤ 8
   pub few-signals : n ≤ 32
   pub few-urns : m ≤ 256
+
+-- each URN's node has its number, and there are not too many
+pub record Numbering (T : Table) (category : List ℕ) (path : ℕ → Parts) (node : List ℕ) (m : ℕ) : Type 0 where
+  pub numbers : (i : ℕ) → i < m → getD node i 0 ≡ number (nodes T) (getD category i 0) (path i)
+  pub few-nodes : length (nodes T) ≤ 64
+
+-- the answer for a table: its number; and if it is not refused, the places of its n signals, and nothing after them
+pub record Placed (T : Table) (rows : List ℕ) (n : ℕ) (r : ℕ) : Type 0 where
+  pub refusal : r ≡ verdict T
+  pub packed : r ≡ 0 → (s : ℕ) → s < n → getD rows s 0 ≡ pack (numbersFrom (nodes T) 0 (rowOf T s))
+  pub past : r ≡ 0 → Padded 32 n rows
+
+-- the m signals and categories are such as a table can have
+abbrev pub InRange : List ℕ → List ℕ → ℕ → Type 0
+InRange signal category m = ((i : ℕ) → i < m → getD signal i 0 < 32) × ((i : ℕ) → i < m → getD category i 0 < 8)
 
 -- the signal and the category of the i-th URN
 abbrev pub keyAt : List ℕ → List ℕ → ℕ → Tagged ℕ

@@ -1,25 +1,28 @@
-use crate::forms::urn_text;
+use table_sections::bytes::wide;
+use table_sections::bytes::wider;
+use table_sections::texts::urn_text;
 ghost use mathlib.Core.Path.{_≡_};
 ghost use mathlib.Core.Bool.{cond};
 ghost use Prim.Native.Nat.{ℕ, _≤_, _<_, _+_, _*_, _-_};
-ghost use lib.ListN.{length, getD};
+ghost use lib.ListN.{getD};
 ghost use lib.Dec.{eqb};
 ghost use Rattle.resolution.specs.Lists.{tabulate};
 ghost use Rattle.alert_urn.specs.Text.{all};
-ghost use Rattle.stored_table.specs.Tables.{any, noTwo};
-ghost use Rattle.stored_table.specs.Held.{placeNumber, packedFrom, sameSlots, samePlacesAt};
+ghost use Rattle.table_sections.specs.Held.{Padded};
+ghost use Rattle.signal_places.specs.Tests.{any, noTwo};
+ghost use Rattle.signal_places.specs.Slots.{placeNumber, packedFrom, sameSlots, samePlacesAt};
 
 // The number of the node of a slot's URN, or 0.
 fn place_number(slots: &[u16; 256], node: &[u8; 256], k: usize) -> u64
     requires { ⌜ (k < 256) × ((j : ℕ) → getD (now slots) j 0 ≤ 256) ⌝ }
     ensures { λ r. ⌜ (r ≡ placeNumber (now (slots .entry)) (now (node .entry)) k) × (r < 256) ⌝ }
 {
-    let x = crate::read::wider(slots[k]);
+    let x = wider(slots[k]);
     if x == 0 {
         return 0;
     }
     let i = x - 1;
-    crate::read::wide(node[i]) as u64
+    wide(node[i]) as u64
 }
 
 // The places of the signal whose slots begin at k, a byte for each category.
@@ -40,8 +43,9 @@ fn row_at(slots: &[u16; 256], node: &[u8; 256], k: usize) -> u64
 
 // The places of n signals.
 pub(crate) fn fill_rows(n: usize, slots: &[u16; 256], node: &[u8; 256], rows: &mut [u64; 32])
-    requires { ⌜ (n ≤ 32) × (length (now rows) ≡ 32) × ((j : ℕ) → getD (now slots) j 0 ≤ 256) ⌝ }
-    ensures { λ _. ⌜ ((s : ℕ) → s < n → getD (now (rows .exit)) s 0 ≡ packedFrom (placeNumber (now (slots .entry)) (now (node .entry))) (8 * s) 8) ⌝ }
+    requires { ⌜ (n ≤ 32) × ((j : ℕ) → getD (now slots) j 0 ≤ 256) ⌝ }
+    ensures { λ _. ⌜ (Padded 32 0 (now (rows .entry)) → Padded 32 n (now (rows .exit))
+        × ((s : ℕ) → s < n → getD (now (rows .exit)) s 0 ≡ packedFrom (placeNumber (now (slots .entry)) (now (node .entry))) (8 * s) 8)) ⌝ }
 {
     let mut s: usize = 0;
     while s < n {
@@ -113,8 +117,8 @@ fn same_places(
 {
     let mut c = 0;
     while c < n {
-        let x = crate::read::wider(slots[8 * a + c]);
-        let y = crate::read::wider(slots[8 * b + c]);
+        let x = wider(slots[8 * a + c]);
+        let y = wider(slots[8 * b + c]);
         if same_slot(t, x, y, at, len) {
             c += 1;
         } else {

@@ -2,6 +2,7 @@
 pub mod bytes;
 pub mod categories;
 mod signals;
+pub mod texts;
 
 use crate::bytes::byte_in;
 use crate::bytes::Reading;

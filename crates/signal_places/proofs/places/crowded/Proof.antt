@@ -1,8 +1,8 @@
 use mathlib.Core.Path.{sym, ap, _∙_}
 use mathlib.Core.Bool.{cond}
 use borrow.Author.Needs.{needs}
-use Rattle.stored_table.proofs.places.crowded.Statement.{statement}
-use Rattle.stored_table.proofs.places.crowded.Tie as tie
+use Rattle.signal_places.proofs.places.crowded.Statement.{statement}
+use Rattle.signal_places.proofs.places.crowded.Tie as tie
 
 texts-distinct-requires : tie.Need-texts-distinct-requires
 texts-distinct-requires c κs = search needs

@@ -1,8 +1,8 @@
 use native.Mathlib.Omega.{arith}
-use Rattle.stored_table.proofs.RowLaws.{place-none, place-some}
+use Rattle.signal_places.proofs.RowLaws.{place-none, place-some}
 use borrow.Author.Needs.{needs}
-use Rattle.stored_table.proofs.places.place_number.Statement.{statement}
-use Rattle.stored_table.proofs.places.place_number.Tie as tie
+use Rattle.signal_places.proofs.places.place_number.Statement.{statement}
+use Rattle.signal_places.proofs.places.place_number.Tie as tie
 
 mul-wider : tie.Need-mul-wider
 mul-wider c = search needs

@@ -3,12 +3,12 @@ use Prim.Native.Nat.{_≤_, _-_}
 use mathlib.Core.Path.{_≡_, sym, _∙_}
 use mathlib.Core.Bool.{false}
 use Rattle.resolution.specs.Lists.{tabulate}
-use Rattle.stored_table.specs.Tables.{any}
-use Rattle.stored_table.specs.Held.{samePlacesAt}
-use Rattle.stored_table.proofs.Tabulated.{any-start, any-next, any-found, any-ends}
+use Rattle.signal_places.specs.Tests.{any}
+use Rattle.signal_places.specs.Slots.{samePlacesAt}
+use Rattle.signal_places.proofs.TestLaws.{any-start, any-next, any-found, any-ends}
 use borrow.Author.Needs.{needs}
-use Rattle.stored_table.proofs.places.places_again.Statement.{statement}
-use Rattle.stored_table.proofs.places.places_again.Tie as tie
+use Rattle.signal_places.proofs.places.places_again.Statement.{statement}
+use Rattle.signal_places.proofs.places.places_again.Tie as tie
 
 abbrev Inv-loop : tie.InvT-loop
 Inv-loop t b n slots at len a₀ a = (a ≤ b) × (any (λ a. samePlacesAt t slots at len n a b) (tabulate (λ a. a) a) ≡ false)

@@ -6,11 +6,11 @@ use lib.ListN.{getD}
 use lib.Dec.{eqb}
 use borrow.Author.Tests.{eq-eqb, ne-eqb}
 use Rattle.resolution.specs.Lists.{tabulate}
-use Rattle.stored_table.specs.Tables.{any}
-use Rattle.stored_table.proofs.Tabulated.{any-start, any-next, any-found, any-ends}
+use Rattle.signal_places.specs.Tests.{any}
+use Rattle.signal_places.proofs.TestLaws.{any-start, any-next, any-found, any-ends}
 use borrow.Author.Needs.{needs}
-use Rattle.stored_table.proofs.places.row_again.Statement.{statement}
-use Rattle.stored_table.proofs.places.row_again.Tie as tie
+use Rattle.signal_places.proofs.places.row_again.Statement.{statement}
+use Rattle.signal_places.proofs.places.row_again.Tie as tie
 
 abbrev Inv-loop : tie.InvT-loop
 Inv-loop rows i x j₀ j = (j ≤ i) × (any (λ x. eqb x (getD rows i 0)) (tabulate (λ s. getD rows s 0) j) ≡ false)

@@ -1,8 +1,8 @@
-use Rattle.stored_table.proofs.RowLaws.{row-packed}
-use Rattle.stored_table.specs.Held.{placeNumber}
+use Rattle.signal_places.proofs.RowLaws.{row-packed}
+use Rattle.signal_places.specs.Slots.{placeNumber}
 use borrow.Author.Needs.{needs}
-use Rattle.stored_table.proofs.places.row_at.Statement.{statement}
-use Rattle.stored_table.proofs.places.row_at.Tie as tie
+use Rattle.signal_places.proofs.places.row_at.Statement.{statement}
+use Rattle.signal_places.proofs.places.row_at.Tie as tie
 
 place-number-requires : tie.Need-place-number-requires
 place-number-requires c κs = search needs

@@ -5,11 +5,11 @@ use mathlib.Core.Bool.{true}
 use lib.ListN.{getD}
 use lib.Dec.{eqb}
 use Rattle.resolution.specs.Lists.{tabulate}
-use Rattle.stored_table.specs.Tables.{noTwo}
-use Rattle.stored_table.proofs.Tabulated.{two-start, two-next, two-fails, two-ends}
+use Rattle.signal_places.specs.Tests.{noTwo}
+use Rattle.signal_places.proofs.TestLaws.{two-start, two-next, two-fails, two-ends}
 use borrow.Author.Needs.{needs}
-use Rattle.stored_table.proofs.places.rows_distinct.Statement.{statement}
-use Rattle.stored_table.proofs.places.rows_distinct.Tie as tie
+use Rattle.signal_places.proofs.places.rows_distinct.Statement.{statement}
+use Rattle.signal_places.proofs.places.rows_distinct.Tie as tie
 
 abbrev Inv-loop : tie.InvT-loop
 Inv-loop n rows i₀ i = (i ≤ n) × (noTwo eqb (tabulate (λ s. getD rows s 0) i) ≡ true)

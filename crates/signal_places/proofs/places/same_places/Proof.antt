@@ -5,11 +5,11 @@ use mathlib.Core.Bool.{true}
 use lib.ListN.{getD}
 use Rattle.resolution.specs.Lists.{tabulate}
 use Rattle.alert_urn.specs.Text.{all}
-use Rattle.stored_table.specs.Held.{sameSlots}
-use Rattle.stored_table.proofs.Tabulated.{all-start, all-next, all-fails, all-ends}
+use Rattle.signal_places.specs.Slots.{sameSlots}
+use Rattle.signal_places.proofs.TestLaws.{all-start, all-next, all-fails, all-ends}
 use borrow.Author.Needs.{needs}
-use Rattle.stored_table.proofs.places.same_places.Statement.{statement}
-use Rattle.stored_table.proofs.places.same_places.Tie as tie
+use Rattle.signal_places.proofs.places.same_places.Statement.{statement}
+use Rattle.signal_places.proofs.places.same_places.Tie as tie
 
 abbrev Inv-loop : tie.InvT-loop
 Inv-loop t a b n slots at len c₀ c = (c ≤ n) × (all (λ c. sameSlots t at len (getD slots (8 * a + c) 0) (getD slots (8 * b + c) 0)) (tabulate (λ c. c) c) ≡ true)

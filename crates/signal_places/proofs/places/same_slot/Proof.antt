@@ -1,7 +1,8 @@
-use Rattle.stored_table.proofs.RowLaws.{slot-first, slot-second, slot-both}
+use native.Mathlib.Omega.{arith}
+use Rattle.signal_places.proofs.RowLaws.{slot-first, slot-second, slot-both}
 use borrow.Author.Needs.{needs}
-use Rattle.stored_table.proofs.places.same_slot.Statement.{statement}
-use Rattle.stored_table.proofs.places.same_slot.Tie as tie
+use Rattle.signal_places.proofs.places.same_slot.Statement.{statement}
+use Rattle.signal_places.proofs.places.same_slot.Tie as tie
 
 returns : tie.Need-returns
 returns c = slot-first _ _ _ _ _ (c .if1 .taken)
@@ -25,7 +26,7 @@ same-requires : tie.Need-same-requires
 same-requires c κs = search needs
 
 returns-3 : tie.Need-returns-3
-returns-3 c = slot-both _ _ _ _ _ (c .before .before .before .before .if1 .left) (c .before .before .before .if2 .left) (c .same .ensures) (c .before .before .urn-text .ensures .0) (c .before .urn-text2 .ensures .0)
+returns-3 c = slot-both _ _ _ _ _ (c .before .before .before .before .if1 .left) (c .before .before .before .if2 .left) (c .same .ensures) (c .before .before .urn-text .ensures .0 (omega arith)) (c .before .urn-text2 .ensures .0 (omega arith))
 
 pub same-slot-spec : {M : Type 1} → statement M
 same-slot-spec =

@@ -3,12 +3,12 @@ use Prim.Native.Nat.{_≤_, _-_}
 use mathlib.Core.Path.{_≡_, sym, _∙_}
 use mathlib.Core.Bool.{true}
 use Rattle.resolution.specs.Lists.{tabulate}
-use Rattle.stored_table.specs.Tables.{noTwo}
-use Rattle.stored_table.specs.Held.{samePlacesAt}
-use Rattle.stored_table.proofs.Tabulated.{two-start, two-next, two-fails, two-ends}
+use Rattle.signal_places.specs.Tests.{noTwo}
+use Rattle.signal_places.specs.Slots.{samePlacesAt}
+use Rattle.signal_places.proofs.TestLaws.{two-start, two-next, two-fails, two-ends}
 use borrow.Author.Needs.{needs}
-use Rattle.stored_table.proofs.places.texts_distinct.Statement.{statement}
-use Rattle.stored_table.proofs.places.texts_distinct.Tie as tie
+use Rattle.signal_places.proofs.places.texts_distinct.Statement.{statement}
+use Rattle.signal_places.proofs.places.texts_distinct.Tie as tie
 
 abbrev Inv-loop : tie.InvT-loop
 Inv-loop t count n slots at len b₀ b = (b ≤ count) × (noTwo (samePlacesAt t slots at len n) (tabulate (λ a. a) b) ≡ true)

@@ -1,8 +1,8 @@
 use native.Mathlib.Omega.{arith}
 use mathlib.Core.Path.{refl}
 use borrow.Author.Needs.{needs}
-use Rattle.stored_table.proofs.signals.silent.Statement.{statement}
-use Rattle.stored_table.proofs.signals.silent.Tie as tie
+use Rattle.signal_places.proofs.signals.silent.Statement.{statement}
+use Rattle.signal_places.proofs.signals.silent.Tie as tie
 
 element-copy-out-result : tie.Need-element-copy-out-result
 element-copy-out-result c = search needs

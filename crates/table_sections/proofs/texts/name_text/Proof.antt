@@ -1,8 +1,9 @@
-use mathlib.Core.Path.{ap₂, _∙_}
 use lib.ListN.{take, drop}
+use mathlib.Core.Path.{ap₂, _∙_}
+use native.Mathlib.Omega.{arith}
 use borrow.Author.Needs.{needs}
-use Rattle.stored_table.proofs.forms.name_text.Statement.{statement}
-use Rattle.stored_table.proofs.forms.name_text.Tie as tie
+use Rattle.table_sections.proofs.texts.name_text.Statement.{statement}
+use Rattle.table_sections.proofs.texts.name_text.Tie as tie
 
 mul-wider : tie.Need-mul-wider
 mul-wider c = search needs
@@ -23,7 +24,13 @@ part-requires : tie.Need-part-requires
 part-requires c κs = search needs
 
 returns : tie.Need-returns
-returns c = c .part .ensures ∙ ap₂ (λ a n. take n (drop a (c .before .before .before .before .before .before .args .t .now))) (c .before .before .before .wider .ensures .0) (c .before .wide .ensures .0)
+returns c = λ h. c .part .ensures ∙ ap₂ (λ a n. take n (drop a (c .before .before .before .before .before .before .before .args .t .now))) (c .before .before .before .wider .ensures .0) (c .before .wide .ensures .0)
+
+part-requires-2 : tie.Need-part-requires-2
+part-requires-2 c κs = search needs
+
+returns-2 : tie.Need-returns-2
+returns-2 c = λ h. absurd (omega arith)
 
 pub name-text-spec : {M : Type 1} → statement M
 name-text-spec =
@@ -35,4 +42,6 @@ name-text-spec =
     element-copy-out-wide
     wide-requires
     part-requires
-    returns)
+    returns
+    part-requires-2
+    returns-2)
