@@ -3,15 +3,14 @@ use Prim.Native.Nat.{ℕ}
 use mathlib.Core.Bool.{Bool, cond, _&&_}
 use mathlib.Core.List.{List, [], map}
 use lib.ListN.{length}
-use lib.Dec.{ltb}
 use Rattle.resolution.specs.Lists.{memberBy, indexBy}
 use Rattle.resolution.specs.Names.{Name, sameName}
 use Rattle.resolution.specs.Table.{Urn, urn, Table}
 use Rattle.alert_urn.specs.Text.{all, fields, nameOk}
 use Rattle.alert_urn.specs.Urn.{urnOk, categoryOf, pathOf}
-use Rattle.table_sections.specs.Stored.{Read, fault, got, Stored, stored}
+use Rattle.table_sections.specs.Stored.{Read, fault, got, Stored, stored, sections}
 unfoldable pub use Rattle.signal_places.specs.Tests.{any, noTwo}
-unfoldable pub use Rattle.signal_places.specs.Verdict.{sameCat, single, noUrn, plain, samePlaces, distinct, fewNodes, verdict}
+unfoldable pub use Rattle.signal_places.specs.Verdict.{single, plain, distinct, fewNodes, verdict}
 
 -- 7: every category name and every URN has its form, and a URN 1 to 8 parts
 unfoldable pub formed : Stored → Bool
@@ -49,7 +48,7 @@ judgedRead (got s at) = judged s
 
 -- the number with which a stored table is refused, or 0: well-formed
 unfoldable pub tableRefusal : List ℕ → ℕ
-tableRefusal t = cond (ltb 8192 (length t)) 4 (judgedRead (stored t))
+tableRefusal t = judgedRead (sections t)
 
 -- the names of the categories, in their order; none where the bytes cannot be read
 unfoldable pub namesRead : Read Stored → List Name

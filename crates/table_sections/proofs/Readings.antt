@@ -175,4 +175,3 @@ times-length rd (suc n) at xs q e =
     let b = after-got (times rd n (a .1)) (λ ys q. got (a .0 ∷ ys) q) xs q (a .3) in
     let z = got-list (a .0 ∷ b .0) xs (b .1) q (b .3) in
     ap length (sym z) ∙ ap suc (times-length rd n (a .1) (b .0) (b .1) (b .2))
-

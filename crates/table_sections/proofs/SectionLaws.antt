@@ -10,12 +10,12 @@ use lib.ListN.{length, getD, take, drop, set}
 use lib.Seq.{getD-set-same, getD-set-other}
 use Rattle.node_step.specs.Arrays.{stretch}
 use lib.Dec.{leb, ltb}
-use borrow.Author.Tests.{lt-leb, le-leb, lt-ltb, le-ltb, leb-true, ltb-true}
+use borrow.Author.Tests.{lt-ltb, le-ltb, ltb-false}
 use Rattle.alert_urn.specs.Text.{within}
 use Rattle.alert_urn.proofs.Fields.{byTest}
 use Rattle.resolution.specs.Lists.{tabulate}
 use Rattle.resolution.proofs.Lists.{tabulate-same}
-use Rattle.table_sections.specs.Stored.{Read, fault, got, andThen, byteIn, text, times, counted, categories, signal, storedFrom, stored, sections}
+use Rattle.table_sections.specs.Stored.{Read, fault, got, andThen, byteIn, text, times, counted, categories, signal, storedFrom, Stored, stored, sections}
 use Rattle.table_sections.specs.Held.{Padded, paddedRead, Tagged, tag, taggedFrom, urnAt, mapRead, numberRead, textRead, textInside, heldRead, readUpTo, readAtMost, ReadFrom, ReadAs, Reads}
 use Rattle.table_sections.specs.declared.bytes.Reading.{Reading}
 use Rattle.table_sections.specs.declared.bytes.Reading.the-variants.{Fault, Got}
@@ -144,11 +144,9 @@ module _ (t : List ℕ) (from n p : ℕ) (e : byteIn 1 32 t from ≡ got n p) wh
 
 -- the whole table
 sections-short : (t : List ℕ) → length t ≤ 8192 → sections t ≡ stored t
-unfolding sections
 sections-short t h = rw (le-ltb 8192 (length t) h)
 
 sections-long : (t : List ℕ) → 8192 < length t → sections t ≡ fault 4
-unfolding sections
 sections-long t h = rw (lt-ltb 8192 (length t) h)
 
 read-fault : {t nameAt nameLen at len signal : List ℕ} {k : ℕ} {s : Counts} → s ≡ record { ok = false; fault = k; categories = 0; signals = 0; urns = 0 } → sections t ≡ fault k
@@ -197,3 +195,10 @@ module _ (t : List ℕ) (h : length t ≤ 8192) (nameAt nameLen : List ℕ) {r :
                 past-len = subst (λ (z : ℕ). Padded 8 z nameLen) (sym k) (padded nameLen (v .2));
               };
         }
+
+-- a table that could be read is not too long
+pub sections-read : (t : List ℕ) (s : Stored) (p : ℕ) → sections t ≡ got s p → (length t ≤ 8192) × (stored t ≡ got s p)
+sections-read t s p e =
+    byTest (ltb 8192 (length t))
+    (λ b. let q : fault 4 ≡ got s p = rw b at e in let z : _≡_ {A = ℕ} 0 1 = cc in absurd (omega arith))
+    (λ b. (ltb-false 8192 (length t) b, rw b at e))

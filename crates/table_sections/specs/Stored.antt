@@ -62,5 +62,5 @@ unfoldable pub stored : List ℕ → Read Stored
 stored t = andThen (categories t 0) (λ ns at. storedFrom t ns at)
 
 -- the whole table: 4 where it is over 8,192 bytes
-unfoldable pub sections : List ℕ → Read Stored
+abbrev pub sections : List ℕ → Read Stored
 sections t = cond (ltb 8192 (length t)) (fault 4) (stored t)

@@ -4,8 +4,8 @@ pub mod categories;
 mod signals;
 pub mod texts;
 
-use crate::bytes::byte_in;
 use crate::bytes::Reading;
+use crate::bytes::byte_in;
 ghost use mathlib.Core.Path.{_≡_};
 ghost use mathlib.Core.Bool.{true, false};
 ghost use Prim.Native.Nat.{_≤_};

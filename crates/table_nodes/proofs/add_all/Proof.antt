@@ -18,7 +18,7 @@ use Rattle.table_nodes.proofs.add_all.Reads as reads
 use Rattle.table_nodes.proofs.add_all.Lts as lts
 
 abbrev Inv-loop : tie.InvT-loop
-Inv-loop t m category path-at path-len node₀ cats₀ parents₀ at₀ len₀ n₀ i₀ node cats parents at len n i = 
+Inv-loop t m category path-at path-len node₀ cats₀ parents₀ at₀ len₀ n₀ i₀ node cats parents at len n i =
     (i ≤ m) × (n ≤ 64) × (Clear node₀ cats₀ parents₀ at₀ len₀ → (length node ≡ 256) × Nodes t cats parents at len n (foldl addUrn [] (tabulate (pathUrn t category path-at path-len) i))
     × ((j : ℕ) → j < i → Numbered (foldl addUrn [] (tabulate (pathUrn t category path-at path-len) i)) (getD category j 0) (fields 58 (stretch t path-at path-len j)) (getD node j 0)))
 

@@ -44,9 +44,12 @@ returns-3 : tie.Need-returns-3
 returns-3 c = rest-at-fault (c .at-fault2 .ensures) (λ a. rest-bad _ _ _ _ (number-got _ _ (c .before .before .before .before .before .before .before .before .before .before .before .byte-in .ensures) (c .before .before .before .before .before .before .before .before .before .first2 .given .1)) _ (c .before .before .before .before .read-signals .ensures .0 a) _ (c .before .before .got .given .1))
 
 returns-4 : tie.Need-returns-4
-returns-4 c = (λ a. let g = rest-good _ _ _ _ (number-got _ _ (c .before .before .before .before .before .before .before .before .before .before .before .byte-in .ensures) (c .before .before .before .before .before .before .before .before .before .first2 .given .1)) _ (c .before .before .before .before .read-signals .ensures .0 a) _ _ (c .before .before .got2 .given .1) (c .if1 .left) in
-    let b = byte-of 1 32 (c .before .before .before .before .before .before .before .before .before .before .before .before .before .args .t .now) _ _ _ (c .before .before .before .before .before .before .before .before .before .before .before .byte-in .ensures) (c .before .before .before .before .before .before .before .before .before .first2 .given .1) in
-    record { faulty = λ e. absurd (false≢true (sym e)); holds = λ e. record { signals = g .0; next = _; whole = g .1; urns = g .2; all-signals = g .3; few-signals = b .high; few-urns = at-most-got _ _ (c .before .before .before .before .read-signals .ensures .1) (c .before .before .got2 .given .1) } }, λ e. refl)
+returns-4 c = (
+  λ a. let g = rest-good _ _ _ _ (number-got _ _ (c .before .before .before .before .before .before .before .before .before .before .before .byte-in .ensures) (c .before .before .before .before .before .before .before .before .before .first2 .given .1)) _ (c .before .before .before .before .read-signals .ensures .0 a) _ _ (c .before .before .got2 .given .1) (c .if1 .left) in
+      let b = byte-of 1 32 (c .before .before .before .before .before .before .before .before .before .before .before .before .before .args .t .now) _ _ _ (c .before .before .before .before .before .before .before .before .before .before .before .byte-in .ensures) (c .before .before .before .before .before .before .before .before .before .first2 .given .1) in
+      record { faulty = λ e. absurd (false≢true (sym e)); holds = λ e. record { signals = g .0; next = _; whole = g .1; urns = g .2; all-signals = g .3; few-signals = b .high; few-urns = at-most-got _ _ (c .before .before .before .before .read-signals .ensures .1) (c .before .before .got2 .given .1) } },
+  λ e. refl,
+)
 
 pub read-rest-spec : {M : Type 1} → statement M
 read-rest-spec =

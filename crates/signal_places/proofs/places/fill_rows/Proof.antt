@@ -39,13 +39,13 @@ loop-less c = omega arith
 
 loop-again : tie.Need-loop-again Inv-loop μ-loop
 loop-again c = let l = c .before .before .loop in (
-      omega arith,
-      λ p.
-          let v = l .inv .1 p in (
-            pad-set 32 (l .s) (l .rows) (c .row-at .result) (v .0),
-            row-put (λ j. packedFrom (placeNumber (c .before .before .before .args .slots .now) (c .before .before .before .args .node .now)) (8 * j) 8) (l .rows) (l .s) (v .1) (omega (arith, v .0 .0)) (c .row-at .ensures),
-          ),
-    )
+  omega arith,
+  λ p.
+      let v = l .inv .1 p in (
+        pad-set 32 (l .s) (l .rows) (c .row-at .result) (v .0),
+        row-put (λ j. packedFrom (placeNumber (c .before .before .before .args .slots .now) (c .before .before .before .args .node .now)) (8 * j) 8) (l .rows) (l .s) (v .1) (omega (arith, v .0 .0)) (c .row-at .ensures),
+      ),
+)
 
 returns : tie.Need-returns Inv-loop μ-loop
 returns c = λ p. let v = c .before .loop .inv .1 p in let e : c .before .loop .s ≡ c .before .before .args .n = omega arith in

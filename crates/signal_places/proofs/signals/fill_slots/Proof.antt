@@ -14,7 +14,7 @@ use Rattle.signal_places.proofs.signals.fill_slots.Statement.{statement
 use Rattle.signal_places.proofs.signals.fill_slots.Tie as tie
 
 abbrev Inv-loop : tie.InvT-loop
-Inv-loop m signal category slots₀ i₀ slots i = 
+Inv-loop m signal category slots₀ i₀ slots i =
     (i ≤ m) × (length slots ≡ 256) × ((j : ℕ) → getD slots j 0 ≤ 256) × (InRange signal category m → (noTwo sameKey (tabulate (keyAt signal category) i) ≡ true)
     × ((s c : ℕ) → c < 8 → getD slots (8 * s + c) 0 ≡ slotIn (keyAt signal category) s c i))
 
@@ -88,10 +88,12 @@ loop-again c = let a = c .before .before .before .before .before .before .before
 
 returns-2 : tie.Need-returns-2 Inv-loop μ-loop
 returns-2 c = let a = c .before .before .before .before .before .before .before .before .before .args in
-    let l = c .before .before .before .before .before .before .before .before .loop in
-    (λ r.
-    let h : c .before .before .before .wide2 .result < 8 = omega (arith, c .before .before .before .wide2 .ensures .0, r .1 _ (c .before .before .before .before .before .before .before .loop-test .taken)) in
-    slot-twice (a .signal .now) (a .category .now) (l .slots) (l .i) (a .m) _ _ (c .before .before .before .before .before .wide .ensures .0) (c .before .before .before .wide2 .ensures .0) h (l .inv .3 r .1) (c .before .before .before .before .before .before .before .loop-test .taken) (c .if2 .left), (λ r e. absurd (false≢true e), l .inv .2))
+    let l = c .before .before .before .before .before .before .before .before .loop in (
+      λ r.
+          let h : c .before .before .before .wide2 .result < 8 = omega (arith, c .before .before .before .wide2 .ensures .0, r .1 _ (c .before .before .before .before .before .before .before .loop-test .taken)) in
+          slot-twice (a .signal .now) (a .category .now) (l .slots) (l .i) (a .m) _ _ (c .before .before .before .before .before .wide .ensures .0) (c .before .before .before .wide2 .ensures .0) h (l .inv .3 r .1) (c .before .before .before .before .before .before .before .loop-test .taken) (c .if2 .left),
+      (λ r e. absurd (false≢true e), l .inv .2),
+    )
 
 returns-3 : tie.Need-returns-3 Inv-loop μ-loop
 returns-3 c = let e : c .before .loop .i ≡ c .before .before .args .m = omega arith in

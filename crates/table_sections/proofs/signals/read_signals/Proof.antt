@@ -44,11 +44,11 @@ loop-less c = omega arith
 
 loop-again : tie.Need-loop-again Inv-loop μ-loop
 loop-again c = let k = at-most-got _ _ (c .before .before .before .read-signal .ensures .1 .0) (c .before .got2 .given .1) in (
-      omega arith,
-      omega (arith, k),
-      λ a. c .before .before .before .read-signal .ensures .1 .1 (c .before .before .before .before .before .before .before .before .before .loop .inv .2 a),
-      λ a. signals-more _ _ _ _ _ _ _ (c .before .before .before .before .before .before .before .before .before .loop .inv .3 a) _ _ _ (c .before .before .before .before .before .before .before .before .loop-test .taken) (one-byte (c .before .before .before .before .before .before .before .small .ensures) (omega arith)) (c .before .before .before .read-signal .ensures .0 (c .before .before .before .before .before .before .before .before .before .loop .inv .2 a)) (c .before .got2 .given .1),
-    )
+  omega arith,
+  omega (arith, k),
+  λ a. c .before .before .before .read-signal .ensures .1 .1 (c .before .before .before .before .before .before .before .before .before .loop .inv .2 a),
+  λ a. signals-more _ _ _ _ _ _ _ (c .before .before .before .before .before .before .before .before .before .loop .inv .3 a) _ _ _ (c .before .before .before .before .before .before .before .before .loop-test .taken) (one-byte (c .before .before .before .before .before .before .before .small .ensures) (omega arith)) (c .before .before .before .read-signal .ensures .0 (c .before .before .before .before .before .before .before .before .before .loop .inv .2 a)) (c .before .got2 .given .1),
+)
 
 returns-2 : tie.Need-returns-2 Inv-loop μ-loop
 returns-2 c = (λ a. signals-done _ _ _ _ _ _ _ (c .before .loop .inv .3 a) (c .loop-test .left), omega arith)

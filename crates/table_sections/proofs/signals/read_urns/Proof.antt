@@ -72,7 +72,7 @@ loop-again c = let at = c .before .before .before .before .before .before .befor
       λ a.
           let v = c .before .before .before .before .before .before .before .loop .inv .1 a in
           run-more _ _ _ _ _ _ _ (c .before .before .before .before .before .before .before .loop .inv .2 a) _ _ _ (c .before .before .before .before .before .before .loop-test .taken) (text-was _ _ _ (c .before .before .before .before .before .read-text .ensures .0) (c .before .before .before .got2 .given .1)) (λ j l. urn-keep _ signal at len i _ _ _ j l)
-              (stored-urn _ signal at len i _ _ _ (two-bytes (c .before .short .ensures) (omega (arith, b .2))) (one-byte (c .small .ensures) (omega (arith, b .0))) (omega (arith, v .2)) (omega (arith, v .0)) (omega (arith, v .1))),
+          (stored-urn _ signal at len i _ _ _ (two-bytes (c .before .short .ensures) (omega (arith, b .2))) (one-byte (c .small .ensures) (omega (arith, b .0))) (omega (arith, v .2)) (omega (arith, v .0)) (omega (arith, v .1))),
     )
 
 returns-2 : tie.Need-returns-2 Inv-loop μ-loop
