@@ -13,4 +13,5 @@ pub mod CheckRight
 pub mod NumberRight
 pub mod TableRight
 pub mod Examples
+pub mod FormRight
 pub mod Claims
