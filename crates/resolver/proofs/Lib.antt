@@ -7,3 +7,4 @@ pub mod MachineLaws
 pub mod RefusalLaws
 pub mod DemandLaws
 pub mod Examples
+pub mod DemandExample
