@@ -36,13 +36,13 @@ loop-less : tie.Need-loop-less Inv-loop μ-loop
 loop-less c = omega arith
 
 loop-again : tie.Need-loop-again Inv-loop μ-loop
-loop-again c = let i = c .before .before .before .loop .inv in (omega arith, omega (arith, i .1), index-put _ _ _ (i .2) (c .before .before .loop-test .taken) (i .1) (c .before .slot-at .ensures))
+loop-again c = let i = c .before .before .before .loop .inv in (omega arith, omega (arith, i .1), index-put _ _ _ (i .2) (omega (arith, c .before .before .loop-test .taken)) (i .1) (c .before .slot-at .ensures))
 
 loop-less-2 : tie.Need-loop-less-2 Inv-loop μ-loop
 loop-less-2 c = omega arith
 
 loop-again-2 : tie.Need-loop-again-2 Inv-loop μ-loop
-loop-again-2 c = let i = c .before .before .before .loop .inv in (omega arith, omega (arith, i .1), index-skip _ _ _ (i .2) (c .before .before .loop-test .taken) (i .1) (c .before .slot-at .ensures) (c .if1 .left))
+loop-again-2 c = let i = c .before .before .before .loop .inv in (omega arith, omega (arith, i .1), index-skip _ _ _ (i .2) (omega (arith, c .before .before .loop-test .taken)) (i .1) (c .before .slot-at .ensures) (c .if1 .left))
 
 returns : tie.Need-returns Inv-loop μ-loop
 returns c = index-all _ _ _ (c .before .loop .inv .2) (c .loop-test .left)
