@@ -1,3 +1,4 @@
+use native.Mathlib.Omega.{arith}
 use borrow.Author.Tests.{not-true, not-false}
 use Rattle.signal_table.proofs.ImageLaws.{form-cats, form-count, form-short, form-length, form-symbols, form-none, form-many, form-states}
 use borrow.Author.Needs.{needs}
