@@ -1,5 +1,5 @@
 -- Demand 3 of the table of default, internal and external: its refusal number and its four states by computation.
-use Prim.Native.Nat.{ℕ, _<_}
+use Prim.Native.Nat.{_<_}
 use mathlib.Core.Path.{_≡_, refl}
 use lib.ListN.{length}
 use native.Mathlib.Omega.{arith}

@@ -1,5 +1,5 @@
 -- The symbols as the code lists them, from the nodes' categories and parents (node k at k - 1), three bytes for each.
-use Prim.Native.Nat.{ℕ, zero, suc, _+_, _-_, _*_, _/_, _≤_, _<_, min}
+use Prim.Native.Nat.{ℕ, zero, suc, _+_, _-_, _*_, _/_, _≤_, min}
 use mathlib.Core.Path.{_≡_}
 use mathlib.Core.Bool.{Bool, true, cond, not, _&&_}
 use mathlib.Core.List.{List, [], _∷_, _++_}
@@ -77,7 +77,7 @@ slot c d kind = cond (eqb d 0) c (6 + 2 * d + kind)
 abbrev pub slotAt : List ℕ → ℕ → ℕ
 slotAt sy k = slot (getD sy (3 * k) 0) (getD sy (3 * k + 1) 0) (getD sy (3 * k + 2) 0)
 
--- the index of the n symbols from k on: zeros, and at each one's slot its number; of two with one slot, the first's
+-- the index of the n symbols from k on: zeros, and at each one's slot, if there is such a slot, its number; of two with one slot, the first's
 unfoldable pub indexFrom : List ℕ → ℕ → ℕ → List ℕ
 indexFrom sy k zero = replicate 136 0
 indexFrom sy k (suc n) = set (indexFrom sy (k + 1) n) (slotAt sy k) k
