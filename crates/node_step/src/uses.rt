@@ -115,7 +115,7 @@ fn whole_node<'a>(t: &[u8], at: &'a [u16; 64], len: &'a [u8; 64], w: &[u8], k: u
 }
 
 // n, or m if that is less.
-fn at_most(n: usize, m: usize) -> usize
+pub fn at_most(n: usize, m: usize) -> usize
     ensures { λ r. ⌜ (r ≡ fewer n m) × (r ≤ m) ⌝ }
 {
     if n <= m {
