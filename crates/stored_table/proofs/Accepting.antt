@@ -22,7 +22,7 @@ use Rattle.table_sections.specs.Stored.{Read, fault, got, Stored, stored, secti
 use Rattle.signal_places.specs.Verdict.{sameCat, noUrn, samePlaces}
 use Rattle.stored_table.specs.Tables.{any, noTwo, formed, uses, isListed, listed, toUrn, tableIn, single, plain, distinct, fewNodes, verdict, judged, judgedRead, tableRefusal, tableRead, tableOf}
 use Rattle.stored_table.specs.Accepted.{Accepted}
-use Rattle.table_sections.proofs.FaultLaws.{fault-sections, stored-counts}
+use Rattle.table_sections.proofs.FaultLaws.{fault-some-number, stored-counts}
 use Rattle.table_sections.proofs.SectionLaws.{sections-read}
 use Rattle.stored_table.proofs.Judging.{two-distinct, map-length}
 
@@ -127,7 +127,7 @@ unfolding tableRefusal judgedRead
 refusal-zero t e = go (sections t) refl e
   where
     go : (r : Read Stored) → sections t ≡ r → judgedRead r ≡ 0 → (s : Stored) × (p : ℕ) × (stored t ≡ got s p) × (judged s ≡ 0)
-    go (fault k) f g = absurd (fault-sections t k f g)
+    go (fault k) f g = absurd (fault-some-number t k f g)
     go (got s p) f g = (s, p, sections-read t s p f .1, g)
 
 module _ (t : List ℕ) (s : Stored) (q : ℕ) (r : stored t ≡ got s q) (g : Passed s) where
