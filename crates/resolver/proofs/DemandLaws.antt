@@ -107,7 +107,7 @@ demand-two t =
     }
 
 -- a list of URIs cut in two
-taken-append : (t : List ℕ) (a b : List (List ℕ)) → takenAs t (a ++ b) ≡ takenAs t a ++ takenAs t b
+pub taken-append : (t : List ℕ) (a b : List (List ℕ)) → takenAs t (a ++ b) ≡ takenAs t a ++ takenAs t b
 taken-append t [] b = refl
 taken-append t (x ∷ a) b = ap (λ l. usedUrn (categoryNames t) x ∷ l) (taken-append t a b)
 

@@ -5,6 +5,10 @@ pub mod AnswerLaws
 pub mod PlainLaws
 pub mod MachineLaws
 pub mod RefusalLaws
+pub mod CarryLaws
+pub mod ReadLaws
+pub mod RecordLaws
 pub mod DemandLaws
+pub mod FeedingLaws
 pub mod Examples
 pub mod DemandExample

@@ -3,3 +3,6 @@ pub mod Run
 pub mod Demands
 pub mod Examples
 pub mod DemandExample
+pub mod Feed
+pub mod Carrying
+pub mod Feeding

@@ -5,16 +5,21 @@
 //
 //   run.rt      going through a value from entry to entry
 //   answer.rt   the answer at its end
-//   c.rt        both resolvers for C
+//   carried.rt  several values of one message, and what is carried from one to the next
+//   c.rt        all of it for C
 mod answer;
 mod c;
+mod carried;
 mod run;
 
 use crate::answer::refused;
 use crate::run::Current;
+pub use carried::Carried;
+pub use carried::Fed;
 use node_step::State;
 ghost use mathlib.Core.Path.{_≡_};
 ghost use Rattle.resolver.specs.Resolve.{plainOf, machineOf};
+ghost use Rattle.resolver.specs.Feed.{feedOf};
 
 // A refusal number, 0 if neither value nor table is refused; the signal; and how many entries were used and skipped.
 #[repr(C)]
@@ -72,4 +77,21 @@ pub fn machine(t: &[u8], image: &[u8], v: &[u8]) -> Resolution
     }
     let index = signal_table::symbols::index(&s.bytes, count);
     answer::resolved(t, d, &index, &s.bytes, count, image, Current::Walk(0), v)
+}
+
+// One value of a message that has several: direct resolution goes on from what is carried.
+pub fn feed(t: &[u8], carried: Carried, v: &[u8]) -> Fed
+    ensures { λ r. ⌜ r ≡ feedOf (now (t .entry)) carried (now (v .entry)) ⌝ }
+{
+    let d = stored_table::decode(t);
+    if d.refusal != 0 {
+        return carried::unfed(d.refusal, carried);
+    }
+    if !carried::fits(d.signals, d.categories, carried) {
+        return carried::unfed(28, carried);
+    }
+    if carried.values == 16 {
+        return carried::unfed(19, carried);
+    }
+    carried::read_from(t, d, carried, v)
 }
