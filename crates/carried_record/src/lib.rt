@@ -101,16 +101,7 @@ pub fn after(st: State, values: u8) -> Carried
     let e = d / 2;
     let f = e / 2;
     let g = f / 2;
-    let status = [
-        st.shut % 2,
-        a % 2,
-        b % 2,
-        c % 2,
-        d % 2,
-        e % 2,
-        f % 2,
-        g % 2,
-    ];
+    let status = [st.shut % 2, a % 2, b % 2, c % 2, d % 2, e % 2, f % 2, g % 2];
     Carried {
         signal: st.signal,
         status,

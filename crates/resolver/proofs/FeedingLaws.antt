@@ -3,33 +3,33 @@ use Prim.Native.Nat.{ℕ, zero, suc, _+_, _-_, _≤_, _<_, min}
 use mathlib.Core.Path.{_≡_, refl, sym, ap, ap₂, _∙_, subst}
 use mathlib.Core.Bool.{Bool, true, false, cond}
 use mathlib.Core.Option.{Option, none, some}
-use mathlib.Core.List.{List, [], _∷_, _++_, map, foldl, foldl-append, append-nil}
+use mathlib.Core.List.{List, [], _∷_, _++_, map, foldl, foldl-append}
 use lib.Dec.{eqb}
 use lib.ListN.{length, take, length-append}
 use lib.Seq.{take-all}
 use borrow.Author.Tests.{eq-eqb, eqb-true, eqb-false}
 use native.Mathlib.Omega.{arith}
 use Rattle.alert_info.specs.Value.{refusalOf, urisOf}
-use Rattle.alert_info.specs.Grammar.{White, Value}
-use Rattle.alert_info.proofs.Agree.{refused-exactly, accepted-list, unique}
-use Rattle.alert_info.proofs.Join.{joins}
+use Rattle.alert_info.proofs.Agree.{refused-exactly}
 use Rattle.alert_info.proofs.ReadingLaws.{refused-uris}
 use Rattle.alert_urn.proofs.Fields.{byTest}
 use Rattle.resolution.specs.Table.{Urn}
 use Rattle.resolution.specs.Direct.{Status, State, start, envOf, step, usedOf, usedCount, skippedCount, StateOf}
 use Rattle.resolution.proofs.Claim.{used-append}
 use Rattle.resolution.proofs.TableStep.{state-start, state-step, state-signal}
+use Rattle.carried_record.specs.declared.Carried.{Carried}
+use Rattle.carried_record.specs.Record.{fresh, statusOf, statusBytes, statusesFit, stateIn, carriedAs}
+use Rattle.carried_record.specs.Bits.{Fits}
+use Rattle.carried_record.proofs.BitLaws.{fits-to, fits-of, status-back, bytes-fit, bytes-length, open-bytes}
 use Rattle.stored_table.specs.Tables.{tableRefusal, tableOf}
 use Rattle.stored_table.proofs.Accepting.{accepted}
-use Rattle.resolver.specs.declared.carried.Carried.{Carried}
-use Rattle.resolver.specs.declared.carried.Fed.{Fed}
-use Rattle.resolver.specs.Resolve.{takenAs, refused, plainOf}
-use Rattle.resolver.specs.Feed.{fresh, statusOf, statusBytes, statusesFit, stateIn, carriedAs, unfed, counted, stateAfter, fed, readFrom, feedOf}
+use Rattle.resolver.specs.declared.Fed.{Fed}
+use Rattle.resolver.specs.Resolve.{takenAs, plainOf}
+use Rattle.resolver.specs.Feed.{unchanged, onlyCounted, stateAfter, goesOn, readFrom, feedOf}
 use Rattle.resolver.specs.Feeding.{fedAll, answersTo, allUris, joined, AllAccepted, allUsed, allSkipped, EndsDirect, NeverRefused, JoinedAlike}
 use Rattle.resolver.proofs.AnswerLaws.{none-refused}
-use Rattle.resolver.specs.Carrying.{Fitting}
-use Rattle.resolver.proofs.CarryLaws.{fitting, fits-of, status-back, bytes-fit, bytes-length, open-bytes}
-use Rattle.resolver.proofs.DemandLaws.{taken-append}
+use Rattle.resolver.proofs.Join.{joined-read}
+use Rattle.resolver.proofs.TableLaws.{taken-append}
 use Rattle.resolver.proofs.ReadLaws.{carried-state, feed-full, feed-read}
 
 -- the state after two lists of URIs
@@ -54,7 +54,7 @@ module _ (t : List ℕ) (ok : tableRefusal t ≡ 0) where
     few : length (st .status) ≤ 8
     few = omega (arith, g .sized, accepted t ok .few-categories)
 
-    as-fits : (n : ℕ) → n ≤ 16 → Fitting (tableOf t) (carriedAs st n)
+    as-fits : (n : ℕ) → n ≤ 16 → Fits (tableOf t) (carriedAs st n)
     as-fits n h =
         record {
           signal = state-signal (tableOf t) st g;
@@ -71,16 +71,16 @@ module _ (t : List ℕ) (ok : tableRefusal t ≡ 0) where
     read-carried : (n : ℕ) (v : List ℕ) → readFrom t (carriedAs st n) v .carried ≡ carriedAs (stateAfter t st (urisOf v)) (n + 1)
     read-carried n v =
         byTest (eqb (refusalOf v) 0)
-        (λ q. ap (λ (b : Bool). cond b (fed t (carriedAs st n) v) (record { answer = refused (refusalOf v); carried = counted (carriedAs st n) }) .carried) q
+        (λ q. ap (λ (b : Bool). cond b (goesOn t (carriedAs st n) v) (onlyCounted (refusalOf v) (carriedAs st n)) .carried) q
         ∙ ap (λ (x : State). carriedAs (stateAfter t x (urisOf v)) (n + 1)) (state-again n))
-        (λ q. ap (λ (b : Bool). cond b (fed t (carriedAs st n) v) (record { answer = refused (refusalOf v); carried = counted (carriedAs st n) }) .carried) q
+        (λ q. ap (λ (b : Bool). cond b (goesOn t (carriedAs st n) v) (onlyCounted (refusalOf v) (carriedAs st n)) .carried) q
         ∙ ap (λ l. carriedAs (stateAfter t st l) (n + 1)) (sym (refused-uris v (eqb-false (refusalOf v) 0 q))))
 
   -- a fitting record is read from, unless it has 16 values
-  fed-read : (r : Carried) → Fitting (tableOf t) r → (v : List ℕ) → (r .values ≡ 16 → ⊥) → feedOf t r v ≡ readFrom t r v
+  fed-read : (r : Carried) → Fits (tableOf t) r → (v : List ℕ) → (r .values ≡ 16 → ⊥) → feedOf t r v ≡ readFrom t r v
   fed-read r f v n = sym (feed-read t r v ok (fits-of (tableOf t) r f) n)
 
-  fed-full : (r : Carried) → Fitting (tableOf t) r → (v : List ℕ) → r .values ≡ 16 → feedOf t r v ≡ unfed 19 r
+  fed-full : (r : Carried) → Fits (tableOf t) r → (v : List ℕ) → r .values ≡ 16 → feedOf t r v ≡ unchanged 19 r
   fed-full r f v e = sym (feed-full t r v ok (fits-of (tableOf t) r f) e)
 
   -- from any state of the table
@@ -123,13 +123,13 @@ module _ (t : List ℕ) (ok : tableRefusal t ≡ 0) where
   start-state : StateOf (tableOf t) (start (tableOf t .cats))
   start-state = state-start (tableOf t) (accepted t ok .well)
 
-  fresh-fits : Fitting (tableOf t) fresh
-  fresh-fits = subst (Fitting (tableOf t)) (sym fresh-is) (as-fits (start (tableOf t .cats)) start-state 0 (omega arith))
+  fresh-fits : Fits (tableOf t) fresh
+  fresh-fits = subst (Fits (tableOf t)) (sym fresh-is) (as-fits (start (tableOf t .cats)) start-state 0 (omega arith))
 
   -- feeding keeps a record's form
   pub record Good (r : Carried) : Type 0 where
     pub wide : length (r .status) ≡ 8
-    pub fit : Fitting (tableOf t) r
+    pub fit : Fits (tableOf t) r
 
   good-as : (st : State) → StateOf (tableOf t) st → (n : ℕ) → n ≤ 16 → Good (carriedAs st n)
   good-as st g n h = record { wide = bytes-length (st .status) 8; fit = as-fits st g n h }
@@ -140,7 +140,7 @@ module _ (t : List ℕ) (ok : tableRefusal t ≡ 0) where
       k : r .values + 1 ≤ 16
       k = omega (arith, g .fit .values, n)
 
-      go : (b : Bool) → Good (cond b (fed t r v) (record { answer = refused (refusalOf v); carried = counted r }) .carried)
+      go : (b : Bool) → Good (cond b (goesOn t r v) (onlyCounted (refusalOf v) r) .carried)
       go true =
           good-as (stateAfter t (stateIn (tableOf t) r) (urisOf v))
           (state-run (usedOf (takenAs t (urisOf v))) (stateIn (tableOf t) r) (carried-state t ok r (g .wide) (g .fit))) (r .values + 1) k
@@ -164,7 +164,7 @@ module _ (t : List ℕ) (ok : tableRefusal t ≡ 0) where
       (λ q. let z : _≡_ {A = ℕ} 19 28 = ap (λ (x : Fed). x .answer .refusal) (sym (fed-full r (g .fit) v (eqb-true (r .values) 16 q))) ∙ e in absurd (omega arith))
       (λ q. go (eqb (refusalOf v) 0) (ap (λ (x : Fed). x .answer .refusal) (sym (fed-read r (g .fit) v (eqb-false (r .values) 16 q))) ∙ e))
     where
-      go : (b : Bool) → cond b (fed t r v) (record { answer = refused (refusalOf v); carried = counted r }) .answer .refusal ≡ 28 → ⊥
+      go : (b : Bool) → cond b (goesOn t r v) (onlyCounted (refusalOf v) r) .answer .refusal ≡ 28 → ⊥
       go true z = let y : _≡_ {A = ℕ} 0 28 = z in absurd (omega arith)
       go false z = refused-exactly v 28 .0 z
 
@@ -176,7 +176,7 @@ module _ (t : List ℕ) (ok : tableRefusal t ≡ 0) where
       → (feedOf t (carriedAs st n) v .answer .used ≡ usedCount (takenAs t (urisOf v))) × (feedOf t (carriedAs st n) v .answer .skipped ≡ skippedCount (takenAs t (urisOf v)))
   one-answer st g n h v z =
       let e = fed-read (carriedAs st n) (as-fits st g n (omega arith)) v (λ q. omega arith)
-      ∙ ap (λ (b : Bool). cond b (fed t (carriedAs st n) v) (record { answer = refused (refusalOf v); carried = counted (carriedAs st n) })) (eq-eqb (refusalOf v) 0 z) in
+      ∙ ap (λ (b : Bool). cond b (goesOn t (carriedAs st n) v) (onlyCounted (refusalOf v) (carriedAs st n))) (eq-eqb (refusalOf v) 0 z) in
       (ap (λ (x : Fed). x .answer .used) e, ap (λ (x : Fed). x .answer .skipped) e)
 
   sums : (vs : List (List ℕ)) (st : State) (n : ℕ) → StateOf (tableOf t) st → n + length vs ≤ 16 → AllAccepted vs
@@ -193,40 +193,24 @@ module _ (t : List ℕ) (ok : tableRefusal t ≡ 0) where
             ∙ sym (ap skippedCount j ∙ skipped-append (takenAs t (urisOf v)) (listed vs)),
       )
 
-pub ends-direct : EndsDirect
+pub ends-direct : (t : List ℕ) → EndsDirect t
 ends-direct t ok vs =
     let c : min 16 (0 + length vs) ≡ min 16 (length vs) = omega arith in
     ap (λ (r : Carried). fedAll t r vs) (fresh-is t ok) ∙ fed-from t ok vs (start (tableOf t .cats)) 0 (start-state t ok) (omega arith)
     ∙ ap (carriedAs (stateAfter t (start (tableOf t .cats)) (allUris (take 16 vs)))) c
 
-pub never-refused : NeverRefused
+pub never-refused : (t : List ℕ) → NeverRefused t
 never-refused t ok = (
   fits-of (tableOf t) fresh (fresh-fits t ok),
-  λ r w e vs v. good-taken t ok (fedAll t r vs) (all-good t ok vs r (record { wide = w; fit = fitting (tableOf t) r e })) v,
+  λ r w e vs v. good-taken t ok (fedAll t r vs) (all-good t ok vs r (record { wide = w; fit = fits-to (tableOf t) r e })) v,
 )
 
--- accepted values, joined
-join-value : (v : List ℕ) (vs : List (List ℕ)) → AllAccepted (v ∷ vs) → Value White (joined v vs) (allUris (v ∷ vs))
-join-value v [] (z, a) = subst (Value White v) (sym (append-nil (urisOf v))) (accepted-list v z)
-join-value v (w ∷ vs) (z, a) = joins v (joined w vs) (urisOf v) (allUris (w ∷ vs)) (accepted-list v z) (join-value w vs a)
-
-join-accepted : (s : List ℕ) (us : List (List ℕ)) → Value White s us → (refusalOf s ≡ 1 → ⊥) → (refusalOf s ≡ 3 → ⊥) → refusalOf s ≡ 0
-join-accepted s us k h i = go (refusalOf s) refl
-  where
-    go : (n : ℕ) → refusalOf s ≡ n → refusalOf s ≡ 0
-    go zero e = e
-    go (suc zero) e = absurd (h e)
-    go (suc (suc zero)) e = absurd (refused-exactly s 2 .0 e .1 us k)
-    go (suc (suc (suc zero))) e = absurd (i e)
-    go (suc (suc (suc (suc n)))) e = absurd (refused-exactly s (suc (suc (suc (suc n)))) .0 e)
-
-pub joined-alike : JoinedAlike
+pub joined-alike : (t : List ℕ) → JoinedAlike t
 unfolding plainOf
-joined-alike t ok v vs h a one three =
+joined-alike t ok v vs h a short few =
     let s = joined v vs in
-    let k = join-value v vs a in
-    let z = join-accepted s (allUris (v ∷ vs)) k one three in
-    let u = unique s (urisOf s) (allUris (v ∷ vs)) (accepted-list s z) k in
+    let j = joined-read v vs a short few in
+    let u = j .1 in
     let n = sums t ok (v ∷ vs) (start (tableOf t .cats)) 0 (start-state t ok) (omega arith) a in
     let f = fresh-is t ok in
     let l : take 16 (v ∷ vs) ≡ v ∷ vs = take-all 16 (v ∷ vs) h in
@@ -234,4 +218,4 @@ joined-alike t ok v vs h a one three =
     ∙ sym (ap (λ (r : Carried). r .signal) (ends-direct t ok (v ∷ vs))) in
     let p = ap (λ x. usedCount (takenAs t x)) u ∙ sym (ap (λ (r : Carried). allUsed (answersTo t r (v ∷ vs))) f ∙ n .0) in
     let q = ap (λ x. skippedCount (takenAs t x)) u ∙ sym (ap (λ (r : Carried). allSkipped (answersTo t r (v ∷ vs))) f ∙ n .1) in
-    sym (none-refused t s _ z ok) ∙ λ i. record { refusal = 0; signal = e i; used = p i; skipped = q i }
+    sym (none-refused t s _ (j .0) ok) ∙ λ i. record { refusal = 0; signal = e i; used = p i; skipped = q i }

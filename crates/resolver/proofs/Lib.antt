@@ -5,10 +5,10 @@ pub mod AnswerLaws
 pub mod PlainLaws
 pub mod MachineLaws
 pub mod RefusalLaws
-pub mod CarryLaws
 pub mod ReadLaws
-pub mod RecordLaws
-pub mod DemandLaws
+pub mod OneValueLaws
+pub mod Join
 pub mod FeedingLaws
+pub mod DemandLaws
 pub mod Examples
 pub mod DemandExample

@@ -16,6 +16,10 @@ use Rattle.resolution.proofs.Step.{Valid, status-length}
 use Rattle.resolution.proofs.TableStep.{state-of, state-valid}
 use Rattle.node_step.specs.Step.{coded}
 use Rattle.node_step.specs.declared.State.{State}
+use Rattle.carried_record.specs.declared.Carried.{Carried}
+use Rattle.carried_record.specs.Record.{statusOf, statusesFit, stateIn, carriedAs, carriedFits, counted}
+use Rattle.carried_record.specs.Bits.{Fits, fitsBy, shutBits, stateWith, carriedWith}
+use Rattle.carried_record.proofs.BitLaws.{shut-right, bytes-right}
 use Rattle.stored_table.specs.Tables.{tableRefusal, tableOf}
 use Rattle.stored_table.specs.Decoded.{Holds, Means}
 use Rattle.stored_table.specs.declared.Decoded.{Decoded}
@@ -23,15 +27,12 @@ use Rattle.stored_table.proofs.Accepting.{accepted}
 use Rattle.resolver.specs.declared.Resolution.{Resolution}
 use Rattle.resolver.specs.declared.run.Current.the-variants.{Direct}
 use Rattle.resolver.specs.declared.run.Outcome.{Outcome}
-use Rattle.resolver.specs.declared.carried.Carried.{Carried}
 use Rattle.resolver.specs.Resolve.{takenAs, refused, answered}
-use Rattle.resolver.specs.Run.{Machine, runFrom, answerOf, begin}
-use Rattle.resolver.specs.Feed.{statusOf, statusesFit, stateIn, carriedAs, carriedFits, unfed, counted, stateAfter, fed, readFrom, feedOf}
-use Rattle.resolver.specs.Carrying.{Fitting, fitsBy, shutBits, carriedWith, directIn}
+use Rattle.resolver.specs.Run.{Machine, runFrom, answerOf, directIn, begin}
+use Rattle.resolver.specs.Feed.{unchanged, onlyCounted, stateAfter, goesOn, readFrom, feedOf}
 use Rattle.resolver.proofs.AnswerLaws.{Ended, run-ends}
 use Rattle.resolver.proofs.AnswerLaws as answer
 use Rattle.resolver.proofs.PlainLaws.{shown, direct-steps}
-use Rattle.resolver.proofs.CarryLaws.{shut-right, bytes-right}
 
 -- a run has a status for each category as before
 pub run-length : (T : Table) (st : direct.State) (us : List Urn) → length (foldl (step (envOf T)) st us .status) ≡ length (st .status)
@@ -39,7 +40,7 @@ run-length T st [] = refl
 run-length T st (u ∷ us) = run-length T (step (envOf T) st u) us ∙ status-length (envOf T) st u
 
 -- the state that a fitting record carries is one of the table
-module _ (t : List ℕ) (ok : tableRefusal t ≡ 0) (r : Carried) (wide : length (r .status) ≡ 8) (fit : Fitting (tableOf t) r) where
+module _ (t : List ℕ) (ok : tableRefusal t ≡ 0) (r : Carried) (wide : length (r .status) ≡ 8) (fit : Fits (tableOf t) r) where
   carried-sized : length (stateIn (tableOf t) r .status) ≡ tableOf t .cats
   carried-sized =
       length-map (take (tableOf t .cats) (r .status)) statusOf
@@ -47,6 +48,16 @@ module _ (t : List ℕ) (ok : tableRefusal t ≡ 0) (r : Carried) (wide : length
 
   pub carried-state : StateOf (tableOf t) (stateIn (tableOf t) r)
   carried-state = state-of (tableOf t) (accepted t ok .rows) (stateIn (tableOf t) r) (fit .signal) carried-sized
+
+  -- and has at most 8 statuses after a value
+  pub fed-few : (v : List ℕ) → length (stateAfter t (stateIn (tableOf t) r) (urisOf v) .status) ≤ 8
+  fed-few v =
+      omega (
+        arith,
+        run-length (tableOf t) (stateIn (tableOf t) r) (usedOf (takenAs t (urisOf v))),
+        carried-sized,
+        accepted t ok .few-categories,
+      )
 
 -- by how the run ended
 module _ (t : List ℕ) (v : List ℕ) (r : Carried) (st : direct.State) (few : length (st .status) ≤ 8) (is : st ≡ stateAfter t (stateIn (tableOf t) r) (urisOf v)) where
@@ -59,7 +70,7 @@ module _ (t : List ℕ) (v : List ℕ) (r : Carried) (st : direct.State) (few : 
     pub read-refused : Ended t v (Direct (coded st)) o → (a .refusal ≡ 0 → ⊥) → record { answer = a; carried = counted r } ≡ readFrom t r v
     read-refused (answer.not-taken n e) h =
         ap (λ (y : Resolution). record { answer = y; carried = counted r }) (ea ∙ e (x .signal))
-        ∙ sym (ap (λ b. cond b (fed t r v) (record { answer = refused (refusalOf v); carried = counted r })) (ne-eqb (refusalOf v) 0 n))
+        ∙ sym (ap (λ b. cond b (goesOn t r v) (onlyCounted (refusalOf v) r)) (ne-eqb (refusalOf v) 0 n))
     read-refused (answer.taken z c e) h = absurd (h (ap (λ (y : Resolution). y .refusal) (ea ∙ e (x .signal))))
 
     pub read-taken : Ended t v (Direct (coded st)) o → a .refusal ≡ 0 → (c : Carried) → c ≡ carriedWith x (r .values + 1)
@@ -71,50 +82,41 @@ module _ (t : List ℕ) (v : List ℕ) (r : Carried) (st : direct.State) (few : 
         let p = ea ∙ e (x .signal) ∙ ap (answered t (urisOf v)) s in
         let k = ec ∙ ap (λ (w : State). carriedWith w (r .values + 1)) q ∙ carried-right in
         (λ i. record { answer = p i; carried = k i })
-        ∙ sym (ap (λ b. cond b (fed t r v) (record { answer = refused (refusalOf v); carried = counted r })) (eq-eqb (refusalOf v) 0 z))
+        ∙ sym (ap (λ b. cond b (goesOn t r v) (onlyCounted (refusalOf v) r)) (eq-eqb (refusalOf v) 0 z))
 
 -- the run over a value from what a fitting record carries
-module _ (t : List ℕ) (d : Decoded) (means : Means t d) (ok : tableRefusal t ≡ 0) (r : Carried) (wide : length (r .status) ≡ 8) (fit : Fitting (tableOf t) r)
+module _ (t : List ℕ) (d : Decoded) (means : Means t d) (ok : tableRefusal t ≡ 0) (r : Carried) (wide : length (r .status) ≡ 8) (fit : Fits (tableOf t) r)
     (m : Machine) (v : List ℕ) (short : length v ≤ 4096) where
-  pub fed-ends : {s : ℕ} → s ≡ shutBits (r .status) → {o : Outcome} → o ≡ runFrom t d m v (begin (Direct (record { signal = r .signal; shut = s }))) 0
+  pub fed-ends : {s : State} → s ≡ stateWith r → {o : Outcome} → o ≡ runFrom t d m v (begin (Direct s)) 0
       → Ended t v (Direct (coded (stateAfter t (stateIn (tableOf t) r) (urisOf v)))) o
   fed-ends e q =
       let T = tableOf t in
       let st = stateIn T r in
-      let c = e ∙ shut-right (T .cats) (r .status) (fit .statuses) in
-      let z = q ∙ ap (λ (x : ℕ). runFrom t d m v (begin (Direct (record { signal = r .signal; shut = x }))) 0) c in
+      let c : stateWith r ≡ coded st = ap (λ (x : ℕ). record { signal = r .signal; shut = x }) (shut-right (T .cats) (r .status) (fit .statuses)) in
+      let z = q ∙ ap (λ (x : State). runFrom t d m v (begin (Direct x)) 0) (e ∙ c) in
       subst (Ended t v (Direct (coded (stateAfter t st (urisOf v))))) (sym z)
       (run-ends t T d (means .holds ok) m v short (Valid (envOf T) (T .cats) (nodes T)) (step (envOf T)) shown (direct-steps t d (means .holds ok) m)
       st (state-valid T st (carried-state t ok r wide fit)))
-
-  pub fed-few : length (stateAfter t (stateIn (tableOf t) r) (urisOf v) .status) ≤ 8
-  fed-few =
-      omega (
-        arith,
-        run-length (tableOf t) (stateIn (tableOf t) r) (usedOf (takenAs t (urisOf v))),
-        carried-state t ok r wide fit .sized,
-        accepted t ok .few-categories,
-      )
 
 module _ (t : List ℕ) (r : Carried) (v : List ℕ) where
   -- a value that is refused before it is read
   pub read-unread : {k : ℕ} → refusalOf v ≡ k → 0 < k → record { answer = refused k; carried = counted r } ≡ readFrom t r v
   read-unread {k} e h =
       ap (λ (n : ℕ). record { answer = refused n; carried = counted r }) (sym e)
-      ∙ sym (ap (λ b. cond b (fed t r v) (record { answer = refused (refusalOf v); carried = counted r })) (ne-eqb (refusalOf v) 0 (λ z. omega arith)))
+      ∙ sym (ap (λ b. cond b (goesOn t r v) (onlyCounted (refusalOf v) r)) (ne-eqb (refusalOf v) 0 (λ z. omega arith)))
 
   -- feeding, by its tests
-  pub feed-table : {k : ℕ} → k ≡ tableRefusal t → (k ≡ 0 → ⊥) → unfed k r ≡ feedOf t r v
+  pub feed-table : {k : ℕ} → k ≡ tableRefusal t → (k ≡ 0 → ⊥) → unchanged k r ≡ feedOf t r v
   unfolding feedOf
-  feed-table e n = simp (ne-eqb (tableRefusal t) 0 (λ z. n (e ∙ z))) (ap (λ (k : ℕ). unfed k r) e)
+  feed-table e n = simp (ne-eqb (tableRefusal t) 0 (λ z. n (e ∙ z))) (ap (λ (k : ℕ). unchanged k r) e)
 
   module _ (ok : tableRefusal t ≡ 0) where
-    pub feed-unfit : carriedFits (tableOf t) r ≡ false → unfed 28 r ≡ feedOf t r v
+    pub feed-unfit : carriedFits (tableOf t) r ≡ false → unchanged 28 r ≡ feedOf t r v
     unfolding feedOf
     feed-unfit e = simp (eq-eqb (tableRefusal t) 0 ok, e)
 
     module _ (fits : carriedFits (tableOf t) r ≡ true) where
-      pub feed-full : r .values ≡ 16 → unfed 19 r ≡ feedOf t r v
+      pub feed-full : r .values ≡ 16 → unchanged 19 r ≡ feedOf t r v
       unfolding feedOf
       feed-full e = simp (eq-eqb (tableRefusal t) 0 ok, fits, eq-eqb (r .values) 16 e)
 

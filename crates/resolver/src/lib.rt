@@ -1,21 +1,20 @@
-// Both resolvers: which signal of a table an Alert-Info value asks for.
+// The resolvers: which signal of a table an Alert-Info value asks for, or several values of one message.
 //
 // In: a value, a table and an image, each any bytes. Out: a refusal number, or the signal with the numbers of used and
 // skipped entries.
 //
 //   run.rt      going through a value from entry to entry
 //   answer.rt   the answer at its end
-//   carried.rt  several values of one message, and what is carried from one to the next
+//   fields.rt   one value of a message that has several Alert-Info fields
 //   c.rt        all of it for C
 mod answer;
 mod c;
-mod carried;
+mod fields;
 mod run;
 
 use crate::answer::refused;
 use crate::run::Current;
-pub use carried::Carried;
-pub use carried::Fed;
+use carried_record::Carried;
 use node_step::State;
 ghost use mathlib.Core.Path.{_≡_};
 ghost use Rattle.resolver.specs.Resolve.{plainOf, machineOf};
@@ -28,6 +27,12 @@ pub struct Resolution {
     pub signal: u8,
     pub used: u8,
     pub skipped: u8,
+}
+
+// The answer to one value of several, and what is carried to the next.
+pub struct Fed {
+    pub answer: Resolution,
+    pub carried: Carried,
 }
 
 // The plain resolver: direct resolution of the value v with the table t.
@@ -85,13 +90,13 @@ pub fn feed(t: &[u8], carried: Carried, v: &[u8]) -> Fed
 {
     let d = stored_table::decode(t);
     if d.refusal != 0 {
-        return carried::unfed(d.refusal, carried);
+        return fields::unchanged(d.refusal, carried);
     }
-    if !carried::fits(d.signals, d.categories, carried) {
-        return carried::unfed(28, carried);
+    if !carried_record::fits(d.signals, d.categories, carried) {
+        return fields::unchanged(28, carried);
     }
     if carried.values == 16 {
-        return carried::unfed(19, carried);
+        return fields::unchanged(19, carried);
     }
-    carried::read_from(t, d, carried, v)
+    fields::read_from(t, d, carried, v)
 }

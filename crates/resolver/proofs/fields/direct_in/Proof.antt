@@ -1,8 +1,8 @@
 use mathlib.Core.Path.{sym, ap}
-use Rattle.resolver.specs.Carrying.{directIn}
+use Rattle.resolver.specs.Run.{directIn}
 use borrow.Author.Needs.{needs}
-use Rattle.resolver.proofs.carried.direct_in.Statement.{statement}
-use Rattle.resolver.proofs.carried.direct_in.Tie as tie
+use Rattle.resolver.proofs.fields.direct_in.Statement.{statement}
+use Rattle.resolver.proofs.fields.direct_in.Tie as tie
 
 enum-known-current : tie.Need-enum-known-current
 enum-known-current c = search needs

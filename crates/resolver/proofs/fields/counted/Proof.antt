@@ -1,7 +1,7 @@
 use mathlib.Core.Path.{refl}
 use borrow.Author.Needs.{needs}
-use Rattle.resolver.proofs.carried.counted.Statement.{statement}
-use Rattle.resolver.proofs.carried.counted.Tie as tie
+use Rattle.resolver.proofs.fields.counted.Statement.{statement}
+use Rattle.resolver.proofs.fields.counted.Tie as tie
 
 add-values : tie.Need-add-values
 add-values c = search needs
