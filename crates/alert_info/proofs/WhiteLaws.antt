@@ -2,16 +2,16 @@
 -- Assumes nothing.
 use mathlib.Core.Path.{_≡_, refl, sym, ap, _∙_, subst}
 use mathlib.Core.Logic.{_⊎_, ⊎-elim, inl, inr}
-use mathlib.Core.Bool.{Bool, true, false, _||_}
+use mathlib.Core.Bool.{Bool, true, false, cond, _&&_, _||_}
 use mathlib.Core.List.{List, []}
 use Prim.Native.Nat.{ℕ, zero, suc, _+_, _-_, _≤_, _<_, max}
 use native.Mathlib.Omega.{arith}
 use lib.Dec.{eqb}
 use lib.ListN.{length, getD, List·getD-eq-default}
-use borrow.Author.Tests.{eqb-true}
-use Rattle.alert_info.specs.Bytes.{isBlank}
+use borrow.Author.Tests.{eqb-true, eqb-false, eq-eqb, ne-eqb}
+use Rattle.alert_info.specs.Bytes.{isBlank, beginsWhite}
 use Rattle.alert_info.specs.Walk.{halt, move}
-use Rattle.alert_info.specs.Parts.{blankAt, blankMove, whiteStep, whiteAt}
+use Rattle.alert_info.specs.Parts.{foldAt, blankAt, blankMove, whiteStep, whiteAt}
 use Rattle.alert_info.proofs.RunLaws.{peeked, by-test}
 use Rattle.alert_info.proofs.WalkLaws.{walk-ind, walk-halt, walk-move}
 
@@ -24,15 +24,47 @@ blank-cases b = go (eqb b 32) refl (eqb b 9) refl
     go false e true f t = inr (eqb-true b 9 f)
     go false e false f t = absurd (let z : false ≡ true = t in let y : _≡_ {A = ℕ} 0 1 = cc in omega arith)
 
+-- a byte that does not begin white space, and one that does
+pub begins-not : (b : ℕ) → beginsWhite b ≡ false → (isBlank b ≡ false) × (b ≡ 13 → ⊥)
+unfolding beginsWhite
+begins-not b h = go (isBlank b) refl h
+  where
+    go : (x : Bool) → isBlank b ≡ x → (x || eqb b 13) ≡ false → (isBlank b ≡ false) × (b ≡ 13 → ⊥)
+    go true e f = absurd (let z : true ≡ false = f in let y : _≡_ {A = ℕ} 0 1 = cc in omega arith)
+    go false e f = (e, eqb-false b 13 f)
+
+begins-blank : (b : ℕ) → beginsWhite b ≡ true → (b ≡ 13 → ⊥) → isBlank b ≡ true
+unfolding beginsWhite
+begins-blank b h n = go (isBlank b) refl h
+  where
+    go : (x : Bool) → isBlank b ≡ x → (x || eqb b 13) ≡ true → isBlank b ≡ true
+    go true e f = e
+    go false e f = absurd (n (eqb-true b 13 f))
+
+-- three tests that all pass
+pub three-all : (a b c : Bool) → (a && (b && c)) ≡ true → (a ≡ true) × (b ≡ true) × (c ≡ true)
+three-all true true true e = (refl, refl, refl)
+three-all true true false e = absurd (let y : _≡_ {A = ℕ} 0 1 = cc in omega arith)
+three-all true false c e = absurd (let y : _≡_ {A = ℕ} 0 1 = cc in omega arith)
+three-all false b c e = absurd (let y : _≡_ {A = ℕ} 0 1 = cc in omega arith)
+
 module _ (s : List ℕ) where
   pub blank-in : (at : ℕ) → isBlank (getD s at 0) ≡ true → at < length s
   blank-in at e = ⊎-elim (λ q. peeked s at 31 q) (λ q. peeked s at 8 q) (blank-cases (getD s at 0) e)
+
+  -- the three bytes of a fold
+  pub fold-bytes : (at : ℕ) → foldAt s at ≡ true
+      → (getD s at 0 ≡ 13) × (getD s (at + 1) 0 ≡ 10) × (isBlank (getD s (at + 2) 0) ≡ true)
+  fold-bytes at e =
+      let f = three-all (eqb (getD s at 0) 13) (eqb (getD s (at + 1) 0) 10) (isBlank (getD s (at + 2) 0)) e in
+      (eqb-true _ _ (f .0), eqb-true _ _ (f .1), f .2)
 
   blank-to : (at : ℕ) → at + blankAt s at ≤ max at (length s)
   unfolding blankAt
   blank-to at =
       let P : ℕ → Type 0 = λ k. at + k ≤ max at (length s) in
-      by-test P (isBlank (getD s at 0)) 1 0 (λ e. omega (arith, blank-in at e)) (λ _. omega arith)
+      by-test P (isBlank (getD s at 0)) 1 _ (λ e. omega (arith, blank-in at e))
+      (λ _. by-test P (foldAt s at) 3 0 (λ e. omega (arith, blank-in (at + 2) (fold-bytes at e .2))) (λ _. omega arith))
 
   blank-ok : (at k : ℕ) → at + k ≤ max at (length s) → (g : ℕ → ℕ) (n : ℕ) → blankMove at k ≡ move g n
       → (at < n) × (n ≤ length s)
@@ -99,10 +131,57 @@ module _ (s : List ℕ) where
     unfolding blankAt
     blank-yes e = simp e
 
-    pub blank-no : isBlank (getD s at 0) ≡ false → 0 ≡ blankAt s at
-    unfolding blankAt
-    blank-no e = simp e
-
     pub blank-end : length s ≤ at → 0 ≡ blankAt s at
     unfolding blankAt isBlank
     blank-end h = simp (List·getD-eq-default s 0 h)
+
+    module _ (nb : isBlank (getD s at 0) ≡ false) where
+      fold-is : (x : Bool) → foldAt s at ≡ x → cond x 3 0 ≡ blankAt s at
+      unfolding blankAt
+      fold-is x e = simp (nb, e)
+
+      pub blank-no : (getD s at 0 ≡ 13 → ⊥) → 0 ≡ blankAt s at
+      blank-no n = fold-is false (simp (ne-eqb _ _ n))
+
+    -- by the class of the byte
+    pub blank-not : (b : Bool) → b ≡ beginsWhite (getD s at 0) → b ≡ false → 0 ≡ blankAt s at
+    blank-not b e f = let n = begins-not (getD s at 0) (sym e ∙ f) in blank-no (n .0) (n .1)
+
+    pub blank-one : (b : Bool) → b ≡ beginsWhite (getD s at 0) → b ≡ true → (getD s at 0 ≡ 13 → ⊥) → 1 ≡ blankAt s at
+    blank-one b e f n = blank-yes (begins-blank (getD s at 0) (sym e ∙ f) n)
+
+    -- from CR
+    module _ (cr : getD s at 0 ≡ 13) where
+      cr-no : isBlank (getD s at 0) ≡ false
+      unfolding isBlank
+      cr-no = ap isBlank cr
+
+      pub fold-from : (x : Bool) → getD s (at + 1) 0 ≡ 10 → x ≡ isBlank (getD s (at + 2) 0) → cond x 3 0 ≡ blankAt s at
+      fold-from x lf e = fold-is cr-no x (simp (eq-eqb _ _ cr, eq-eqb _ _ lf) (sym e))
+
+      pub fold-lf : (getD s (at + 1) 0 ≡ 10 → ⊥) → 0 ≡ blankAt s at
+      fold-lf n = fold-is cr-no false (simp (eq-eqb _ _ cr, ne-eqb _ _ n))
+
+      fold-past : (x : Bool) → isBlank (getD s (at + 2) 0) ≡ false → eqb (getD s (at + 1) 0) 10 ≡ x
+          → (x && isBlank (getD s (at + 2) 0)) ≡ false
+      fold-past true e f = e
+      fold-past false e f = refl
+
+      pub fold-short : length s - at < 3 → 0 ≡ blankAt s at
+      unfolding isBlank
+      fold-short h =
+          let e : isBlank (getD s (at + 2) 0) ≡ false = ap isBlank (List·getD-eq-default s 0 (omega arith)) in
+          fold-is cr-no false (simp (eq-eqb _ _ cr) (fold-past (eqb (getD s (at + 1) 0) 10) e refl))
+
+      pub fold-space : getD s (at + 1) 0 ≡ 10 → getD s (at + 2) 0 ≡ 32 → 3 ≡ blankAt s at
+      unfolding isBlank
+      fold-space lf e = fold-from true lf (sym (ap isBlank e))
+
+      pub fold-tab : getD s (at + 1) 0 ≡ 10 → getD s (at + 2) 0 ≡ 9 → 3 ≡ blankAt s at
+      unfolding isBlank
+      fold-tab lf e = fold-from true lf (sym (ap isBlank e))
+
+      pub fold-none : getD s (at + 1) 0 ≡ 10 → (getD s (at + 2) 0 ≡ 32 → ⊥) → (getD s (at + 2) 0 ≡ 9 → ⊥)
+          → 0 ≡ blankAt s at
+      unfolding isBlank
+      fold-none lf n m = fold-from false lf (simp (ne-eqb _ _ n, ne-eqb _ _ m))

@@ -1,8 +1,8 @@
 // A position in a value, and passing white space, a token or a quoted string from there.
-use crate::classes::BLANK;
 use crate::classes::ESCAPABLE;
 use crate::classes::TEXT;
 use crate::classes::TOKEN;
+use crate::classes::WHITE;
 use crate::classes::has;
 use crate::classes::have;
 ghost use mathlib.Core.Path.{_≡_};
@@ -84,7 +84,25 @@ impl Cursor {
         Cursor { at }
     }
 
-    // How many bytes of white space stand right at the cursor: 1 for a space or a tab, else 0.
+    // From CR: 3 if LF and then a space or a tab follow it, which is a folded line, else 0.
+    fn fold(self, s: &[u8]) -> usize
+        requires { ⌜ getD (now s) (self .at) 0 ≡ 13 ⌝ }
+        ensures { λ r. ⌜ r ≡ blankAt (now (s .entry)) (self .at) ⌝ }
+    {
+        let at = self.at;
+        if s.len() - at < 3 {
+            return 0;
+        }
+        if s[at + 1] != b'\n' {
+            return 0;
+        }
+        if s[at + 2] == b' ' {
+            return 3;
+        }
+        if s[at + 2] == b'\t' { 3 } else { 0 }
+    }
+
+    // How many bytes of white space stand right at the cursor: 1 for a space or a tab, 3 for a fold, else 0.
     fn blank(self, classes: &[u8; 256], s: &[u8]) -> usize
         requires { ⌜ Classes (now classes) ⌝ }
         ensures { λ r. ⌜ r ≡ blankAt (now (s .entry)) (self .at) ⌝ }
@@ -93,7 +111,13 @@ impl Cursor {
         if s.len() <= at {
             return 0;
         }
-        if has(classes, s[at], BLANK) { 1 } else { 0 }
+        if !has(classes, s[at], WHITE) {
+            return 0;
+        }
+        if s[at] != b'\r' {
+            return 1;
+        }
+        self.fold(s)
     }
 
     // Past white space, also where there is none.
