@@ -8,8 +8,7 @@ use Prim.Native.Nat.{ℕ, zero, suc, _≤_, _<_}
 use native.Mathlib.Omega.{arith}
 use lib.Dec.{leb, ltb, eqb}
 use borrow.Author.Tests.{eqb-true, leb-true, ltb-true}
-use Rattle.alert_info.specs.Bytes.{bytes, within, oneOf, isBlank, beginsWhite, isUri, isToken, isText}
-use Rattle.alert_info.specs.Bytes.{isEscapable, inClass}
+use Rattle.alert_info.specs.Bytes.{bytes, within, oneOf, isBlank, isUri, isToken, isText, isEscapable, inClass}
 use Rattle.alert_info.specs.Claims.{ClassesOfBytes}
 
 both : (x y : Bool) → (x && y) ≡ true → (x ≡ true) × (y ≡ true)
@@ -41,10 +40,6 @@ module _ (b : ℕ) where
   unfolding isBlank
   blank-byte e = in-list (bytes " \t") refl e
 
-  white-byte : beginsWhite b ≡ true → b < 256
-  unfolding beginsWhite
-  white-byte e = ⊎-elim blank-byte (λ f. omega (arith, eqb-true b 13 f)) (either (isBlank b) (eqb b 13) e)
-
   uri-byte : isUri b ≡ true → b < 256
   unfolding isUri
   uri-byte e = in-range 0x21 0x7E (omega arith) (both (within 0x21 0x7E b) _ e .0)
@@ -72,7 +67,7 @@ module _ (b : ℕ) where
   escapable-byte e = omega (arith, leb-true b 127 (both (leb b 127) _ e .0))
 
 pub classes-of-bytes : ClassesOfBytes
-classes-of-bytes zero b e = white-byte b e
+classes-of-bytes zero b e = blank-byte b e
 classes-of-bytes (suc zero) b e = uri-byte b e
 classes-of-bytes (suc (suc zero)) b e = token-byte b e
 classes-of-bytes (suc (suc (suc zero))) b e = text-byte b e

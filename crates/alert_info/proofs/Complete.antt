@@ -11,7 +11,7 @@ use lib.Dec.{T, eqb}
 use lib.ListN.{length, getD, drop, take, length-drop, length-append}
 use lib.Seq.{drop-drop, drop-append-seam, take-append-seam, getD-drop}
 use borrow.Author.Tests.{eqb-true, ne-eqb}
-use Rattle.alert_info.specs.Bytes.{isBlank, beginsWhite, isUri, isToken, isText, isEscapable}
+use Rattle.alert_info.specs.Bytes.{isBlank, isUri, isToken, isText, isEscapable}
 use Rattle.alert_info.specs.Walk.{run, runAt}
 use Rattle.alert_info.specs.Parts.{blankAt, whiteAt, tokenAt, quoteAt, quotedFrom}
 use Rattle.alert_info.specs.Parts.{settingAt, paramAt, followingAt, endingAt, spanTo, found}
@@ -37,7 +37,8 @@ use Rattle.alert_info.proofs.PartLaws.{token-some, setting-quoted, sett
 use Rattle.alert_info.proofs.PartLaws.{following-stop, following-entry, following-param, ending-halt}
 use Rattle.alert_info.proofs.PartLaws.{ending-more, entry-some}
 use Rattle.alert_info.proofs.ReadingLaws.{reading-last, reading-more}
-use Rattle.alert_info.proofs.WhiteLaws.{begins-not, blank-end, blank-yes, blank-no, fold-from, white-stop, white-more}
+use Rattle.alert_info.proofs.WhiteLaws.{beginsWhite, begins-not, blank-end, blank-yes, blank-no, blank-fold, cr-not-blank}
+use Rattle.alert_info.proofs.WhiteLaws.{fold-from, white-stop, white-more}
 
 to-true : (b : Bool) → T b → b ≡ true
 to-true true t = refl
@@ -108,9 +109,10 @@ white-go s r h (G.fold {b = b} {l = l} t w) at e =
     let three : at + 3 ≡ at + 2 + 1 = omega arith in
     let j = ap (λ (n : ℕ). drop n s) two ∙ front-rest s (at + 1) 10 (b ∷ (l ++ r)) i in
     let k = ap (λ (n : ℕ). drop n s) three ∙ front-rest s (at + 2) b (l ++ r) j in
-    let g = fold-from s at (front-byte s at 13 (10 ∷ b ∷ (l ++ r)) e) true (front-byte s (at + 1) 10 (b ∷ (l ++ r)) i)
+    let cr = front-byte s at 13 (10 ∷ b ∷ (l ++ r)) e in
+    let f = fold-from s at cr true (front-byte s (at + 1) 10 (b ∷ (l ++ r)) i)
     (sym (ap isBlank (front-byte s (at + 2) b (l ++ r) j) ∙ to-true (isBlank b) t)) in
-    let m = white-more s at 3 g (λ z. omega arith) in
+    let m = white-more s at 3 (blank-fold s at (cr-not-blank s at cr) 3 f) (λ z. omega arith) in
     ap (λ (n : ℕ). drop n s) (m .0) ∙ white-go s r h w (at + 3) k
 
 pub white-past : (s : List ℕ) (at : ℕ) (w r : List ℕ) → drop at s ≡ w ++ r → White w → Stops beginsWhite r
@@ -188,7 +190,7 @@ module _ (p : ℕ → Bool) (space : p 32 ≡ false) (tab : p 9 ≡ false) where
       go true e = absurd (subst T (white-not b (subst T (sym e) tt)) t)
 
 token-begins-not : (b : ℕ) → T (isToken b) → beginsWhite b ≡ false
-unfolding isToken beginsWhite
+unfolding isToken
 token-begins-not b t =
     let n : b ≡ 13 → ⊥ = λ e. subst (λ (x : ℕ). T (isToken x)) e t in
     simp (not-white isToken refl refl b t, ne-eqb b 13 n)
@@ -204,7 +206,7 @@ token-stops : {t : List ℕ} → Token t → (r : List ℕ) → Stops beginsWhit
 token-stops (G.some {b = b} t a) r = token-begins-not b t
 
 setting-stops : {v : List ℕ} → Setting v → (r : List ℕ) → Stops beginsWhite (v ++ r)
-unfolding beginsWhite isBlank
+unfolding isBlank
 setting-stops (G.token t) r = token-stops t r
 setting-stops (G.quoted x) r = refl
 
@@ -232,13 +234,13 @@ ends-not s e (b ∷ x) h q z = let n : b ≡ 61 = sym (front-byte s e b x q)
     ∙ z in ⊎-elim (λ i. omega arith) (λ i. omega arith) h
 
 ends-white : (x : List ℕ) → Ends x → Stops beginsWhite x
-unfolding beginsWhite isBlank
+unfolding isBlank
 ends-white x h = ends-stops beginsWhite refl refl x h
 
 module _ (s : List ℕ) where
   param-to : {p : List ℕ} → Param White p → (at : ℕ) (r : List ℕ) → drop at s ≡ p ++ r → Follows r
       → PassedTo s r (paramAt s at)
-  unfolding beginsWhite isBlank isToken
+  unfolding isBlank isToken
   param-to (G.bare {x = x} {t = t} wx kt) at r e f =
       let w = whiteAt s at in
       let i = white-past s at x (t ++ r) (e ∙ append-assoc x t r) wx (token-stops kt r) in
@@ -302,7 +304,7 @@ module _ (s : List ℕ) where
 
   pub ending-to : {p : List ℕ} → Params White p → (at : ℕ) (w x : List ℕ) → White w → Closes x → drop at s ≡ p ++ (w ++ x)
       → EndingTo s x (endingAt s at)
-  unfolding beginsWhite isBlank
+  unfolding isBlank
   ending-to G.done at w x ww h e = last-to at w x ww h e
   ending-to (G.param {w = v} {p = p} {q = q} wv kp kq) at w x ww h e =
       let l = q ++ (w ++ x) in
@@ -359,7 +361,7 @@ module _ (s : List ℕ) where
   pub entry-to : {n u : List ℕ} → Entry White n u → (at : ℕ) (w x r : List ℕ) → White w → White x → Closes r
       → at ≤ length s → drop at s ≡ w ++ (n ++ (x ++ r))
       → FoundTo s (placed at w u) r (entryAt s at) × (partOf s (placed at w u) ≡ u)
-  unfolding beginsWhite isBlank isUri
+  unfolding isBlank isUri
   entry-to (G.entry {u = u} {p = p} ku kp) at w x r ww wx h in-s e =
       let l = p ++ (x ++ r) in
       let d = whiteAt s at in

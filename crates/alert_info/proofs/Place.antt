@@ -6,7 +6,7 @@ use Prim.Native.Nat.{ℕ, zero, suc, _+_, _≤_, _<_}
 use native.Mathlib.Omega.{arith}
 use lib.Dec.{eqb}
 use lib.ListN.{length, getD, drop, length-append}
-use Rattle.alert_info.specs.Bytes.{isBlank, beginsWhite, isUri}
+use Rattle.alert_info.specs.Bytes.{isBlank, isUri}
 use Rattle.alert_info.specs.Walk.{runAt}
 use Rattle.alert_info.specs.Parts.{whiteAt, endingAt, spanTo, found, closedUri, entryAt}
 use Rattle.alert_info.specs.Value.{Reading, unfit, spans, add, readingFrom, nowhere}
@@ -78,7 +78,7 @@ module _ (s : List ℕ) where
   -- what stands before entry k is as long as its place says
   pub starts-after : {a : List ℕ} {k : ℕ} → Before White k a → (at : ℕ) → at ≤ length s → (b : List ℕ) → drop at s ≡ a ++ b
       → (ps : List Span) → readingFrom s at ≡ spans ps → getD ps k nowhere .start ≡ at + length a
-  unfolding beginsWhite isBlank
+  unfolding isBlank
   starts-after (G.bracket {w = w} ww) at h b e ps q =
       let f : drop at s ≡ w ++ (60 ∷ b) = e ∙ append-assoc w (60 ∷ []) b in
       let i = white-past s at w (60 ∷ b) f ww refl in

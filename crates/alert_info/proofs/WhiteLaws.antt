@@ -9,9 +9,9 @@ use native.Mathlib.Omega.{arith}
 use lib.Dec.{eqb}
 use lib.ListN.{length, getD, List·getD-eq-default}
 use borrow.Author.Tests.{eqb-true, eqb-false, eq-eqb, ne-eqb}
-use Rattle.alert_info.specs.Bytes.{isBlank, beginsWhite}
+use Rattle.alert_info.specs.Bytes.{isBlank}
 use Rattle.alert_info.specs.Walk.{halt, move}
-use Rattle.alert_info.specs.Parts.{foldAt, blankAt, blankMove, whiteStep, whiteAt}
+use Rattle.alert_info.specs.Parts.{foldAt, foldLength, blankAt, blankMove, whiteStep, whiteAt}
 use Rattle.alert_info.proofs.RunLaws.{peeked, by-test}
 use Rattle.alert_info.proofs.WalkLaws.{walk-ind, walk-halt, walk-move}
 
@@ -24,22 +24,16 @@ blank-cases b = go (eqb b 32) refl (eqb b 9) refl
     go false e true f t = inr (eqb-true b 9 f)
     go false e false f t = absurd (let z : false ≡ true = t in let y : _≡_ {A = ℕ} 0 1 = cc in omega arith)
 
--- a byte that does not begin white space, and one that does
+-- what white space may begin with: a space, a tab or CR (13)
+abbrev pub beginsWhite : ℕ → Bool
+beginsWhite b = isBlank b || eqb b 13
+
 pub begins-not : (b : ℕ) → beginsWhite b ≡ false → (isBlank b ≡ false) × (b ≡ 13 → ⊥)
-unfolding beginsWhite
 begins-not b h = go (isBlank b) refl h
   where
     go : (x : Bool) → isBlank b ≡ x → (x || eqb b 13) ≡ false → (isBlank b ≡ false) × (b ≡ 13 → ⊥)
     go true e f = absurd (let z : true ≡ false = f in let y : _≡_ {A = ℕ} 0 1 = cc in omega arith)
     go false e f = (e, eqb-false b 13 f)
-
-begins-blank : (b : ℕ) → beginsWhite b ≡ true → (b ≡ 13 → ⊥) → isBlank b ≡ true
-unfolding beginsWhite
-begins-blank b h n = go (isBlank b) refl h
-  where
-    go : (x : Bool) → isBlank b ≡ x → (x || eqb b 13) ≡ true → isBlank b ≡ true
-    go true e f = e
-    go false e f = absurd (n (eqb-true b 13 f))
 
 -- three tests that all pass
 pub three-all : (a b c : Bool) → (a && (b && c)) ≡ true → (a ≡ true) × (b ≡ true) × (c ≡ true)
@@ -135,53 +129,66 @@ module _ (s : List ℕ) where
     unfolding blankAt isBlank
     blank-end h = simp (List·getD-eq-default s 0 h)
 
-    module _ (nb : isBlank (getD s at 0) ≡ false) where
-      fold-is : (x : Bool) → foldAt s at ≡ x → cond x 3 0 ≡ blankAt s at
-      unfolding blankAt
-      fold-is x e = simp (nb, e)
+    pub blank-fold : isBlank (getD s at 0) ≡ false → (n : ℕ) → n ≡ foldLength s at → n ≡ blankAt s at
+    unfolding blankAt
+    blank-fold nb n e = e ∙ simp nb
 
-      pub blank-no : (getD s at 0 ≡ 13 → ⊥) → 0 ≡ blankAt s at
-      blank-no n = fold-is false (simp (ne-eqb _ _ n))
+    fold-is : (x : Bool) → foldAt s at ≡ x → cond x 3 0 ≡ foldLength s at
+    fold-is x e = ap (λ (y : Bool). cond y 3 0) (sym e)
 
-    -- by the class of the byte
-    pub blank-not : (b : Bool) → b ≡ beginsWhite (getD s at 0) → b ≡ false → 0 ≡ blankAt s at
-    blank-not b e f = let n = begins-not (getD s at 0) (sym e ∙ f) in blank-no (n .0) (n .1)
-
-    pub blank-one : (b : Bool) → b ≡ beginsWhite (getD s at 0) → b ≡ true → (getD s at 0 ≡ 13 → ⊥) → 1 ≡ blankAt s at
-    blank-one b e f n = blank-yes (begins-blank (getD s at 0) (sym e ∙ f) n)
+    pub blank-no : isBlank (getD s at 0) ≡ false → (getD s at 0 ≡ 13 → ⊥) → 0 ≡ blankAt s at
+    blank-no nb n = blank-fold nb 0 (fold-is false (simp (ne-eqb _ _ n)))
 
     -- from CR
     module _ (cr : getD s at 0 ≡ 13) where
-      cr-no : isBlank (getD s at 0) ≡ false
+      pub cr-not-blank : isBlank (getD s at 0) ≡ false
       unfolding isBlank
-      cr-no = ap isBlank cr
+      cr-not-blank = ap isBlank cr
 
-      pub fold-from : (x : Bool) → getD s (at + 1) 0 ≡ 10 → x ≡ isBlank (getD s (at + 2) 0) → cond x 3 0 ≡ blankAt s at
-      fold-from x lf e = fold-is cr-no x (simp (eq-eqb _ _ cr, eq-eqb _ _ lf) (sym e))
+      pub fold-from : (x : Bool) → getD s (at + 1) 0 ≡ 10 → x ≡ isBlank (getD s (at + 2) 0) → cond x 3 0 ≡ foldLength s at
+      fold-from x lf e = fold-is x (simp (eq-eqb _ _ cr, eq-eqb _ _ lf) (sym e))
 
-      pub fold-lf : (getD s (at + 1) 0 ≡ 10 → ⊥) → 0 ≡ blankAt s at
-      fold-lf n = fold-is cr-no false (simp (eq-eqb _ _ cr, ne-eqb _ _ n))
+      pub fold-lf : (getD s (at + 1) 0 ≡ 10 → ⊥) → 0 ≡ foldLength s at
+      fold-lf n = fold-is false (simp (eq-eqb _ _ cr, ne-eqb _ _ n))
 
       fold-past : (x : Bool) → isBlank (getD s (at + 2) 0) ≡ false → eqb (getD s (at + 1) 0) 10 ≡ x
           → (x && isBlank (getD s (at + 2) 0)) ≡ false
       fold-past true e f = e
       fold-past false e f = refl
 
-      pub fold-short : length s - at < 3 → 0 ≡ blankAt s at
+      pub fold-short : length s - at < 3 → 0 ≡ foldLength s at
       unfolding isBlank
       fold-short h =
           let e : isBlank (getD s (at + 2) 0) ≡ false = ap isBlank (List·getD-eq-default s 0 (omega arith)) in
-          fold-is cr-no false (simp (eq-eqb _ _ cr) (fold-past (eqb (getD s (at + 1) 0) 10) e refl))
+          fold-is false (simp (eq-eqb _ _ cr) (fold-past (eqb (getD s (at + 1) 0) 10) e refl))
 
-      pub fold-space : getD s (at + 1) 0 ≡ 10 → getD s (at + 2) 0 ≡ 32 → 3 ≡ blankAt s at
-      unfolding isBlank
-      fold-space lf e = fold-from true lf (sym (ap isBlank e))
+  -- a turn of the loop over white space
+  module _ (at : ℕ) where
+    pub white-past-end : length s ≤ at → whiteAt s at ≡ at
+    white-past-end h = white-stop at 0 (blank-end at h) refl
 
-      pub fold-tab : getD s (at + 1) 0 ≡ 10 → getD s (at + 2) 0 ≡ 9 → 3 ≡ blankAt s at
-      unfolding isBlank
-      fold-tab lf e = fold-from true lf (sym (ap isBlank e))
+    pub white-above : 32 < getD s at 0 → whiteAt s at ≡ at
+    unfolding isBlank
+    white-above h =
+        let sp : getD s at 0 ≡ 32 → ⊥ = λ z. omega arith in
+        let tab : getD s at 0 ≡ 9 → ⊥ = λ z. omega arith in
+        white-stop at 0 (blank-no at (simp (ne-eqb _ _ sp, ne-eqb _ _ tab)) (λ z. omega arith)) refl
 
-      pub fold-none : getD s (at + 1) 0 ≡ 10 → (getD s (at + 2) 0 ≡ 32 → ⊥) → (getD s (at + 2) 0 ≡ 9 → ⊥)
-          → 0 ≡ blankAt s at
-      unfolding isBlank
-      fold-none lf n m = fold-from false lf (simp (ne-eqb _ _ n, ne-eqb _ _ m))
+    pub white-other : (getD s at 0 ≡ 32 → ⊥) → (getD s at 0 ≡ 9 → ⊥) → (getD s at 0 ≡ 13 → ⊥) → whiteAt s at ≡ at
+    unfolding isBlank
+    white-other sp tab n = white-stop at 0 (blank-no at (simp (ne-eqb _ _ sp, ne-eqb _ _ tab)) n) refl
+
+    pub white-space : getD s at 0 ≡ 32 → whiteAt s at ≡ whiteAt s (at + 1)
+    unfolding isBlank
+    white-space e = white-more at 1 (blank-yes at (ap isBlank e)) (λ z. omega arith) .0
+
+    pub white-tab : getD s at 0 ≡ 9 → whiteAt s at ≡ whiteAt s (at + 1)
+    unfolding isBlank
+    white-tab e = white-more at 1 (blank-yes at (ap isBlank e)) (λ z. omega arith) .0
+
+    module _ (n : ℕ) (cr : getD s at 0 ≡ 13) (e : n ≡ foldLength s at) where
+      pub white-broken : n ≡ 0 → whiteAt s at ≡ at
+      white-broken f = white-stop at n (blank-fold at (cr-not-blank at cr) n e) f
+
+      pub white-fold : (n ≡ 0 → ⊥) → (whiteAt s at ≡ whiteAt s (at + n)) × (at < at + n) × (at + n ≤ length s)
+      white-fold f = white-more at n (blank-fold at (cr-not-blank at cr) n e) f

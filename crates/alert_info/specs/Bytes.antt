@@ -29,10 +29,6 @@ oneOf (x ∷ xs) b = eqb b x || oneOf xs b
 unfoldable pub isBlank : ℕ → Bool
 isBlank b = oneOf (bytes " \t") b
 
--- what white space may begin with: a space, a tab or CR (13)
-unfoldable pub beginsWhite : ℕ → Bool
-beginsWhite b = isBlank b || eqb b 13
-
 -- in a URI: 0x21 to 0x7E without < > "
 unfoldable pub isUri : ℕ → Bool
 isUri b = within 0x21 0x7E b && not (oneOf (bytes "<>\"") b)
@@ -49,9 +45,9 @@ isText b = eqb b 9 || (within 32 126 b && not (oneOf (bytes "\"\\") b) || within
 unfoldable pub isEscapable : ℕ → Bool
 isEscapable b = leb b 127 && not (oneOf (10 ∷ 13 ∷ []) b)
 
--- the classes by number, as the table's bits have them: 0 begins white space, 1 URI, 2 token, 3 quoted text, 4 after \
+-- the classes by number, as the table's bits have them: 0 blank, 1 URI, 2 token, 3 quoted text, 4 after \
 abbrev pub inClass : ℕ → ℕ → Bool
-inClass zero b = beginsWhite b
+inClass zero b = isBlank b
 inClass (suc zero) b = isUri b
 inClass (suc (suc zero)) b = isToken b
 inClass (suc (suc (suc zero))) b = isText b

@@ -7,12 +7,12 @@ ghost use lib.ListN.{getD};
 ghost use Rattle.alert_info.specs.Bytes.{inClass, Classes};
 
 // The classes, each a bit of a byte's number in the table:
-//   bit 0, 1    begins white space: space, tab or CR
+//   bit 0, 1    blank: space or tab
 //   bit 1, 2    URI: 0x21 to 0x7E without < > "
 //   bit 2, 4    token: letters, digits and - . ! % * _ + ` ' ~
 //   bit 3, 8    text of a quoted string: 9, 32 to 126 without " and \, 128 to 255
 //   bit 4, 16   after a backslash in a quoted string: up to 127 without 10 and 13
-pub(crate) const WHITE: u8 = 0;
+pub(crate) const BLANK: u8 = 0;
 pub(crate) const URI: u8 = 1;
 pub(crate) const TOKEN: u8 = 2;
 pub(crate) const TEXT: u8 = 3;
@@ -20,7 +20,7 @@ pub(crate) const ESCAPABLE: u8 = 4;
 
 // The classes of every byte, 16 bytes to a row. Under each number stands its byte.
 const CLASSES: [u8; 256] = [
-    16, 16, 16, 16, 16, 16, 16, 16, 16, 25,  0, 16, 16,  1, 16, 16,
+    16, 16, 16, 16, 16, 16, 16, 16, 16, 25,  0, 16, 16,  0, 16, 16,
 // NUL SOH STX ETX EOT ENQ ACK BEL  BS TAB  LF  VT  FF  CR  SO  SI
     16, 16, 16, 16, 16, 16, 16, 16, 16, 16, 16, 16, 16, 16, 16, 16,
 // DLE DC1 DC2 DC3 DC4 NAK SYN ETB CAN  EM SUB ESC  FS  GS  RS  US

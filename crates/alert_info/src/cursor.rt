@@ -1,8 +1,8 @@
 // A position in a value, and passing white space, a token or a quoted string from there.
+use crate::classes::BLANK;
 use crate::classes::ESCAPABLE;
 use crate::classes::TEXT;
 use crate::classes::TOKEN;
-use crate::classes::WHITE;
 use crate::classes::has;
 use crate::classes::have;
 ghost use mathlib.Core.Path.{_≡_};
@@ -10,7 +10,7 @@ ghost use Prim.Native.Nat.{_<_, _≤_, _+_};
 ghost use lib.ListN.{length, getD};
 ghost use Rattle.alert_info.specs.Bytes.{inClass, Classes};
 ghost use Rattle.alert_info.specs.Walk.{runAt, fourAt};
-ghost use Rattle.alert_info.specs.Parts.{blankAt, whiteAt, tokenAt, escapeByte, quoteAt, quotedAt};
+ghost use Rattle.alert_info.specs.Parts.{foldLength, whiteAt, tokenAt, escapeByte, quoteAt, quotedAt};
 
 // A position in a value. Its methods hand back the cursor after what they pass.
 pub struct Cursor {
@@ -84,10 +84,10 @@ impl Cursor {
         Cursor { at }
     }
 
-    // From CR: 3 if LF and then a space or a tab follow it, which is a folded line, else 0.
-    fn fold(self, s: &[u8]) -> usize
-        requires { ⌜ getD (now s) (self .at) 0 ≡ 13 ⌝ }
-        ensures { λ r. ⌜ r ≡ blankAt (now (s .entry)) (self .at) ⌝ }
+    // How long the fold at a CR is: 3 if LF and then a space or a tab follow it, else 0.
+    fn fold(self, classes: &[u8; 256], s: &[u8]) -> usize
+        requires { ⌜ Classes (now classes) × (getD (now s) (self .at) 0 ≡ 13) ⌝ }
+        ensures { λ r. ⌜ r ≡ foldLength (now (s .entry)) (self .at) ⌝ }
     {
         let at = self.at;
         if s.len() - at < 3 {
@@ -96,44 +96,38 @@ impl Cursor {
         if s[at + 1] != b'\n' {
             return 0;
         }
-        if s[at + 2] == b' ' {
-            return 3;
-        }
-        if s[at + 2] == b'\t' { 3 } else { 0 }
+        if has(classes, s[at + 2], BLANK) { 3 } else { 0 }
     }
 
-    // How many bytes of white space stand right at the cursor: 1 for a space or a tab, 3 for a fold, else 0.
-    fn blank(self, classes: &[u8; 256], s: &[u8]) -> usize
-        requires { ⌜ Classes (now classes) ⌝ }
-        ensures { λ r. ⌜ r ≡ blankAt (now (s .entry)) (self .at) ⌝ }
-    {
-        let at = self.at;
-        if s.len() <= at {
-            return 0;
-        }
-        if !has(classes, s[at], WHITE) {
-            return 0;
-        }
-        if s[at] != b'\r' {
-            return 1;
-        }
-        self.fold(s)
-    }
-
-    // Past white space, also where there is none.
+    // Past white space, also where there is none. Most often there is none or a space, which one comparison tells.
     pub(crate) fn white(self, classes: &[u8; 256], s: &[u8]) -> Cursor
         requires { ⌜ Classes (now classes) ⌝ }
         ensures { λ r. ⌜ r .at ≡ whiteAt (now (s .entry)) (self .at) ⌝ }
     {
         let mut at = self.at;
-        loop {
+        while at < s.len() {
             let c = Cursor { at };
-            let n = c.blank(classes, s);
+            if b' ' < s[at] {
+                return c;
+            }
+            if s[at] == b' ' {
+                at += 1;
+                continue;
+            }
+            if s[at] == b'\t' {
+                at += 1;
+                continue;
+            }
+            if s[at] != b'\r' {
+                return c;
+            }
+            let n = c.fold(classes, s);
             if n == 0 {
                 return c;
             }
             at += n;
         }
+        Cursor { at }
     }
 
     // Past a token.

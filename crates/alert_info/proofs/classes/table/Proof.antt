@@ -1,10 +1,10 @@
-use Rattle.alert_info.specs.Bytes.{isBlank, beginsWhite, isUri, isToken, isText, isEscapable}
+use Rattle.alert_info.specs.Bytes.{isBlank, isUri, isToken, isText, isEscapable}
 use Rattle.alert_info.proofs.ClassTable.{agrees, right, table-right}
 use Rattle.alert_info.proofs.classes.table.Statement.{statement}
 use Rattle.alert_info.proofs.classes.table.Tie as tie
 
 returns : tie.Need-returns
-unfolding agrees right isBlank beginsWhite isUri isToken isText isEscapable
+unfolding agrees right isBlank isUri isToken isText isEscapable
 returns c = table-right _ tt
 
 pub table-spec : {M : Type 1} → statement M
