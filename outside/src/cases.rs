@@ -15,8 +15,17 @@ use std::fmt::Write;
 use std::path::{Path, PathBuf};
 
 /// One file for each command, the draft's worked examples, and values with folded lines.
-pub const FILES: [&str; 9] =
-    ["value.txt", "entry.txt", "table.txt", "build.txt", "check.txt", "plain.txt", "walk.txt", "draft.txt", "folded.txt"];
+pub const FILES: [&str; 9] = [
+    "value.txt",
+    "entry.txt",
+    "table.txt",
+    "build.txt",
+    "check.txt",
+    "plain.txt",
+    "walk.txt",
+    "draft.txt",
+    "folded.txt",
+];
 
 /// Where the cases are.
 pub fn folder() -> PathBuf {

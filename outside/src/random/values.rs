@@ -127,7 +127,8 @@ fn lengthen(random: &mut Random, value: &mut Vec<u8>, bytes: usize) {
 /// A fold, or a part of one, anywhere.
 fn fold(random: &mut Random, value: &mut Vec<u8>) {
     let at = random.below(value.len() + 1);
-    let bytes = random.pick(&["\r\n ", "\r\n\t", "\r\n", "\r", "\n", "\r ", "\n ", "\r\n\r\n ", "\r\r\n ", "\n\r "]).bytes();
+    let bytes =
+        random.pick(&["\r\n ", "\r\n\t", "\r\n", "\r", "\n", "\r ", "\n ", "\r\n\r\n ", "\r\r\n ", "\n\r "]).bytes();
     value.splice(at..at, bytes);
 }
 
