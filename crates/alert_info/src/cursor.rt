@@ -99,20 +99,20 @@ impl Cursor {
         if has(classes, s[at + 2], BLANK) { 3 } else { 0 }
     }
 
-    // Past white space, also where there is none. Most often there is none or a space, which one comparison tells.
-    pub(crate) fn white(self, classes: &[u8; 256], s: &[u8]) -> Cursor
+    // Past white space that may begin here.
+    fn blanks(self, classes: &[u8; 256], s: &[u8]) -> Cursor
         requires { ⌜ Classes (now classes) ⌝ }
         ensures { λ r. ⌜ r .at ≡ whiteAt (now (s .entry)) (self .at) ⌝ }
     {
         let mut at = self.at;
         while at < s.len() {
             let c = Cursor { at };
-            if b' ' < s[at] {
-                return c;
-            }
             if s[at] == b' ' {
                 at += 1;
                 continue;
+            }
+            if b' ' < s[at] {
+                return c;
             }
             if s[at] == b'\t' {
                 at += 1;
@@ -128,6 +128,20 @@ impl Cursor {
             at += n;
         }
         Cursor { at }
+    }
+
+    // Past white space, also where there is none, which is the usual case: one comparison tells it.
+    pub(crate) fn white(self, classes: &[u8; 256], s: &[u8]) -> Cursor
+        requires { ⌜ Classes (now classes) ⌝ }
+        ensures { λ r. ⌜ r .at ≡ whiteAt (now (s .entry)) (self .at) ⌝ }
+    {
+        let at = self.at;
+        if at < s.len() {
+            if b' ' < s[at] {
+                return self;
+            }
+        }
+        self.blanks(classes, s)
     }
 
     // Past a token.
