@@ -1,9 +1,10 @@
 /* The reader of Alert-Info values: libalert_info.a, which needs no other library.
  *
- * A value is what stands after "Alert-Info:", folded lines joined. Any bytes may be given, also none; bytes that the
- * caller lends are only read, and no pointer is kept. A pointer must lead to as many readable bytes as its length
- * says, and must not be null, not even for a length of 0. No function allocates, fails or keeps anything between
- * calls, so any number of threads may call them at once. */
+ * A value is what stands after "Alert-Info:", folded lines as they came: outside brackets and quotes CR LF and a space
+ * or a tab count as white space. Any bytes may be given, also none; bytes that the caller lends are only read, and no
+ * pointer is kept. A pointer must lead to as many readable bytes as its length says, and must not be null, not even for
+ * a length of 0. No function allocates, fails or keeps anything between calls, so any number of threads may call them at
+ * once. */
 #ifndef ALERT_INFO_H
 #define ALERT_INFO_H
 

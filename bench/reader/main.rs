@@ -59,6 +59,21 @@ fn compare(name: &str, v: &[u8]) -> bool {
     kept
 }
 
+// Entries with a folded line after each comma, beside the same with the lines joined: the proved reader's time by its own.
+fn fold(name: &str, entries: &[&str]) -> bool {
+    let joined = entries.join(", ").into_bytes();
+    let folded = entries.join(",\r\n ").into_bytes();
+    assert_eq!(proved::entries(&folded), entries.len());
+    let mut best = [f64::MAX; 2];
+    for _ in 0..60 {
+        for (b, v) in best.iter_mut().zip([&joined, &folded]) {
+            *b = b.min(time(v, |v| proved::refusal(v) as u64));
+        }
+    }
+    println!("{name:<26}{:>5} bytes refusal  joined {:>7.1} ns  folded {:>7.1} ns ({:.2})", folded.len(), best[0], best[1], best[1] / best[0]);
+    best[1] <= 1.3 * best[0]
+}
+
 fn agree(v: &[u8]) {
     for (refusal, entries) in [
         (plain::refusal::<Tests>(v), plain::entries::<Tests>(v)),
@@ -71,9 +86,10 @@ fn agree(v: &[u8]) {
 
 // Values of the pieces that matter, each then damaged in one byte.
 fn agree_on_many(rounds: usize) {
-    let pieces: [&[u8]; 20] = [
+    let pieces: [&[u8]; 24] = [
         b"<a>", b"<urn:alert:source:internal>", b"<http://www.example.com/sounds/moo.wav>", b",", b", ", b" ,\t", b";",
         b" ; ", b"x", b"name", b"=", b" = ", b"\"\"", b"\"1,2\"", b"\"q\\\"\\\\\"", b" ", b"\t", b"<", b">", b"\"",
+        b"\r\n ", b"\r\n\t", b"\r", b"\n",
     ];
     let mut seed: u64 = 1;
     let mut draw = |n: usize| {
@@ -128,5 +144,12 @@ fn main() {
     kept &= compare("only escaped bytes", &escapes);
     kept &= compare("one long URI", &uri);
     kept &= compare("much white space", &blank);
+    let few = ["<urn:alert:source:internal>;appearance=2", "<urn:alert:priority:high>;x=\"a,b\";y", "<http://www.example.com/sounds/moo.wav>;q = 1"];
+    let many = vec!["<urn:alert:service:recall:callback@example>;a=\"1\""; 64];
+    let short = vec!["<a>"; 64];
+    let close = fold("three entries, folded", &few) & fold("64 entries, folded", &many) & fold("64 short entries, folded", &short);
+    println!("{}", if close { "folded nowhere slower than 1.3 of joined" } else { "folded slower than 1.3 of joined somewhere" });
+    let folds = [b"\r\n ".repeat(1356).as_slice(), b"<urn:alert:source:internal>"].concat();
+    kept &= compare("much folded white space", &folds);
     println!("{}", if kept { "nowhere slower than the plain reader with byte tests" } else { "slower somewhere than the plain reader with byte tests" });
 }

@@ -97,8 +97,13 @@ impl<'a, R: Rules> Reader<'a, R> {
         &rest[..n]
     }
 
+    // Blanks, and folds: CR, LF and a blank.
     fn white(&mut self) {
         self.run(R::blank);
+        while let [b'\r', b'\n', b' ' | b'\t', ..] = self.s[self.at..] {
+            self.at += 3;
+            self.run(R::blank);
+        }
     }
 
     fn token(&mut self) -> Option<()> {

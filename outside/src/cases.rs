@@ -14,9 +14,18 @@ use crate::{Reader, Resolution, Resolvers, Tables};
 use std::fmt::Write;
 use std::path::{Path, PathBuf};
 
-/// One file for each command, and the draft's worked examples.
-pub const FILES: [&str; 8] =
-    ["value.txt", "entry.txt", "table.txt", "build.txt", "check.txt", "plain.txt", "walk.txt", "draft.txt"];
+/// One file for each command, the draft's worked examples, and values with folded lines.
+pub const FILES: [&str; 9] = [
+    "value.txt",
+    "entry.txt",
+    "table.txt",
+    "build.txt",
+    "check.txt",
+    "plain.txt",
+    "walk.txt",
+    "draft.txt",
+    "folded.txt",
+];
 
 /// Where the cases are.
 pub fn folder() -> PathBuf {

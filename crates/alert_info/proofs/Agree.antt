@@ -10,7 +10,7 @@ use lib.ListN.{length, length-map}
 use borrow.Author.Tests.{ltb-true, ltb-false}
 use Rattle.alert_info.specs.Value.{Reading, unfit, spans, readingOf, partOf, refusalOf}
 use Rattle.alert_info.specs.declared.alert_param.Span.{Span}
-use Rattle.alert_info.specs.Grammar.{Value}
+use Rattle.alert_info.specs.Grammar.{White, Value}
 use Rattle.alert_info.specs.Claims.{Agrees, OneReading, UnfitIsNoValue, Given, RefusedExactly, AcceptedList}
 use Rattle.alert_info.specs.Claims.{RefusalNumbers, RefusedList}
 use Rattle.alert_info.proofs.ReadingLaws.{refusal-long, refusal-unfit, refusal-many, refusal-none, accepted-uris}
@@ -19,7 +19,7 @@ use Rattle.alert_info.proofs.Sound.{sound}
 use Rattle.alert_info.proofs.Complete.{complete}
 
 pub agree : Agrees
-agree s us = (complete s us, λ r. subst (Value s) (r .2) (sound s (r .0) (r .1)))
+agree s us = (complete s us, λ r. subst (Value White s) (r .2) (sound s (r .0) (r .1)))
 
 same-spans : (r : Reading) (ps qs : List Span) → r ≡ spans ps → r ≡ spans qs → ps ≡ qs
 same-spans r ps qs e f = cc
@@ -36,33 +36,33 @@ misfit s = ((λ e us k. let a = complete s us k in never (readingOf s) (a .0) e 
     never : (r : Reading) (ps : List Span) → r ≡ unfit → r ≡ spans ps → ⊥
     never r ps e f = let z : _≡_ {A = ℕ} 0 1 = cc in omega arith
 
-    go : (r : Reading) → readingOf s ≡ r → ((us : List (List ℕ)) → Value s us → ⊥) → readingOf s ≡ unfit
+    go : (r : Reading) → readingOf s ≡ r → ((us : List (List ℕ)) → Value White s us → ⊥) → readingOf s ≡ unfit
     go unfit e n = e
     go (spans ps) e n = absurd (n (map (partOf s) ps) (sound s ps e))
 
 module _ (s : List ℕ) where
   -- the number that is given says what holds
   few : length s ≤ 4096 → (ps : List Span) → readingOf s ≡ spans ps → (x : Bool) → ltb 64 (length ps) ≡ x
-      → Given s (refusalOf s)
+      → Given White s (refusalOf s)
   few short ps e true f =
       let m = ltb-true 64 (length ps) f in
-      subst (Given s) (sym (refusal-many s short (spans ps) e ps refl m))
+      subst (Given White s) (sym (refusal-many s short (spans ps) e ps refl m))
       (short, map (partOf s) ps, sound s ps e, omega (arith, length-map ps (partOf s)))
   few short ps e false f =
       let m = ltb-false 64 (length ps) f in
-      subst (Given s) (sym (refusal-none s short (spans ps) e ps refl m))
+      subst (Given White s) (sym (refusal-none s short (spans ps) e ps refl m))
       (short, map (partOf s) ps, sound s ps e, omega (arith, length-map ps (partOf s)))
 
-  fits : length s ≤ 4096 → (r : Reading) → readingOf s ≡ r → Given s (refusalOf s)
-  fits short unfit e = subst (Given s) (sym (refusal-unfit s short unfit e refl)) (short, misfit s .0 e)
+  fits : length s ≤ 4096 → (r : Reading) → readingOf s ≡ r → Given White s (refusalOf s)
+  fits short unfit e = subst (Given White s) (sym (refusal-unfit s short unfit e refl)) (short, misfit s .0 e)
   fits short (spans ps) e = few short ps e (ltb 64 (length ps)) refl
 
-  holds : (x : Bool) → ltb 4096 (length s) ≡ x → Given s (refusalOf s)
-  holds true f = let h = ltb-true 4096 (length s) f in subst (Given s) (sym (refusal-long s h)) h
+  holds : (x : Bool) → ltb 4096 (length s) ≡ x → Given White s (refusalOf s)
+  holds true f = let h = ltb-true 4096 (length s) f in subst (Given White s) (sym (refusal-long s h)) h
   holds false f = fits (ltb-false 4096 (length s) f) (readingOf s) refl
 
   -- where it holds, the number is given
-  given : (n : ℕ) → Given s n → refusalOf s ≡ n
+  given : (n : ℕ) → Given White s n → refusalOf s ≡ n
   given zero (short, us, k, h) =
       let a = complete s us k in
       refusal-none s short (readingOf s) refl (a .0) (a .1)
@@ -76,12 +76,12 @@ module _ (s : List ℕ) where
   given (suc (suc (suc (suc n)))) h = absurd h
 
 pub refused-exactly : RefusedExactly
-refused-exactly s n = ((λ e. subst (Given s) e (holds s (ltb 4096 (length s)) refl)), given s n)
+refused-exactly s n = ((λ e. subst (Given White s) e (holds s (ltb 4096 (length s)) refl)), given s n)
 
 pub refusal-numbers : RefusalNumbers
 refusal-numbers s = go (refusalOf s) (holds s (ltb 4096 (length s)) refl)
   where
-    go : (n : ℕ) → Given s n → n ≤ 3
+    go : (n : ℕ) → Given White s n → n ≤ 3
     go zero g = omega arith
     go (suc zero) g = omega arith
     go (suc (suc zero)) g = omega arith
@@ -90,10 +90,10 @@ refusal-numbers s = go (refusalOf s) (holds s (ltb 4096 (length s)) refl)
 
 pub accepted-list : AcceptedList
 accepted-list s e =
-    let g = subst (Given s) e (holds s (ltb 4096 (length s)) refl) in
+    let g = subst (Given White s) e (holds s (ltb 4096 (length s)) refl) in
     let a = complete s (g .1) (g .2) in
     let l : length (a .0) ≤ 64 = omega (arith, g .3, length-map (a .0) (partOf s), ap length (a .2)) in
-    subst (Value s) (sym (accepted-uris s (g .0) (readingOf s) refl (a .0) (a .1) l ∙ a .2)) (g .2)
+    subst (Value White s) (sym (accepted-uris s (g .0) (readingOf s) refl (a .0) (a .1) l ∙ a .2)) (g .2)
 
 pub refused-list : RefusedList
 refused-list s n = refused-uris s n

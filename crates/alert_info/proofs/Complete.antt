@@ -10,7 +10,7 @@ use native.Mathlib.Omega.{arith}
 use lib.Dec.{T, eqb}
 use lib.ListN.{length, getD, drop, take, length-drop, length-append}
 use lib.Seq.{drop-drop, drop-append-seam, take-append-seam, getD-drop}
-use borrow.Author.Tests.{eqb-true}
+use borrow.Author.Tests.{eqb-true, ne-eqb}
 use Rattle.alert_info.specs.Bytes.{isBlank, isUri, isToken, isText, isEscapable}
 use Rattle.alert_info.specs.Walk.{run, runAt}
 use Rattle.alert_info.specs.Parts.{blankAt, whiteAt, tokenAt, quoteAt, quotedFrom}
@@ -37,7 +37,8 @@ use Rattle.alert_info.proofs.PartLaws.{token-some, setting-quoted, sett
 use Rattle.alert_info.proofs.PartLaws.{following-stop, following-entry, following-param, ending-halt}
 use Rattle.alert_info.proofs.PartLaws.{ending-more, entry-some}
 use Rattle.alert_info.proofs.ReadingLaws.{reading-last, reading-more}
-use Rattle.alert_info.proofs.WhiteLaws.{blank-end, blank-yes, blank-no, white-stop, white-more}
+use Rattle.alert_info.proofs.WhiteLaws.{beginsWhite, begins-not, blank-end, blank-yes, blank-no, blank-fold, cr-not-blank}
+use Rattle.alert_info.proofs.WhiteLaws.{fold-from, white-stop, white-more}
 
 to-true : (b : Bool) → T b → b ≡ true
 to-true true t = refl
@@ -87,20 +88,34 @@ module _ (p : ℕ → Bool) (s : List ℕ) (at : ℕ) (w r : List ℕ) (e : drop
   run-past : Any p w → drop (runAt p s at) s ≡ r
   run-past a = ap (λ (n : ℕ). drop n s) (run-to a) ∙ past s at w r e
 
--- white space, byte by byte; r does not begin with a byte that white space may begin with
-blank-none : (s : List ℕ) (at : ℕ) (r : List ℕ) → drop at s ≡ r → Stops isBlank r → 0 ≡ blankAt s at
+-- white space, blank by blank and fold by fold; r does not begin with a byte that white space may begin with
+blank-none : (s : List ℕ) (at : ℕ) (r : List ℕ) → drop at s ≡ r → Stops beginsWhite r → 0 ≡ blankAt s at
 blank-none s at [] e h = blank-end s at (no-front s at e .1)
-blank-none s at (b ∷ r) e h = blank-no s at (ap isBlank (front-byte s at b r e) ∙ h)
+blank-none s at (b ∷ r) e h =
+    let f = front-byte s at b r e in
+    let n = begins-not b h in
+    blank-no s at (ap isBlank f ∙ n .0) (λ q. n .1 (sym f ∙ q))
 
-white-go : (s r : List ℕ) → Stops isBlank r → {w : List ℕ} → White w → (at : ℕ) → drop at s ≡ w ++ r
+white-go : (s r : List ℕ) → Stops beginsWhite r → {w : List ℕ} → White w → (at : ℕ) → drop at s ≡ w ++ r
     → drop (whiteAt s at) s ≡ r
 white-go s r h G.nothing at e = ap (λ (n : ℕ). drop n s) (white-stop s at 0 (blank-none s at r e h) refl) ∙ e
 white-go s r h (G.blank {b = b} {l = l} t w) at e =
     let g = blank-yes s at (ap isBlank (front-byte s at b (l ++ r) e) ∙ to-true (isBlank b) t) in
     let m = white-more s at 1 g (λ z. omega arith) in
     ap (λ (n : ℕ). drop n s) (m .0) ∙ white-go s r h w (at + 1) (front-rest s at b (l ++ r) e)
+white-go s r h (G.fold {b = b} {l = l} t w) at e =
+    let i = front-rest s at 13 (10 ∷ b ∷ (l ++ r)) e in
+    let two : at + 2 ≡ at + 1 + 1 = omega arith in
+    let three : at + 3 ≡ at + 2 + 1 = omega arith in
+    let j = ap (λ (n : ℕ). drop n s) two ∙ front-rest s (at + 1) 10 (b ∷ (l ++ r)) i in
+    let k = ap (λ (n : ℕ). drop n s) three ∙ front-rest s (at + 2) b (l ++ r) j in
+    let cr = front-byte s at 13 (10 ∷ b ∷ (l ++ r)) e in
+    let f = fold-from s at cr true (front-byte s (at + 1) 10 (b ∷ (l ++ r)) i)
+    (sym (ap isBlank (front-byte s (at + 2) b (l ++ r) j) ∙ to-true (isBlank b) t)) in
+    let m = white-more s at 3 (blank-fold s at (cr-not-blank s at cr) 3 f) (λ z. omega arith) in
+    ap (λ (n : ℕ). drop n s) (m .0) ∙ white-go s r h w (at + 3) k
 
-pub white-past : (s : List ℕ) (at : ℕ) (w r : List ℕ) → drop at s ≡ w ++ r → White w → Stops isBlank r
+pub white-past : (s : List ℕ) (at : ℕ) (w r : List ℕ) → drop at s ≡ w ++ r → White w → Stops beginsWhite r
     → drop (whiteAt s at) s ≡ r
 white-past s at w r e a h = white-go s r h a at e
 
@@ -174,20 +189,23 @@ module _ (p : ℕ → Bool) (space : p 32 ≡ false) (tab : p 9 ≡ false) where
       go false e = e
       go true e = absurd (subst T (white-not b (subst T (sym e) tt)) t)
 
-token-not-blank : (b : ℕ) → T (isToken b) → isBlank b ≡ false
+token-begins-not : (b : ℕ) → T (isToken b) → beginsWhite b ≡ false
 unfolding isToken
-token-not-blank b t = not-white isToken refl refl b t
+token-begins-not b t =
+    let n : b ≡ 13 → ⊥ = λ e. subst (λ (x : ℕ). T (isToken x)) e t in
+    simp (not-white isToken refl refl b t, ne-eqb b 13 n)
 
 -- white space, and then nothing or a byte that is no token's
 stops-token : {w : List ℕ} → White w → (r : List ℕ) → Stops isToken r → Stops isToken (w ++ r)
 unfolding isToken
 stops-token G.nothing r h = h
 stops-token (G.blank {b = b} t a) r h = white-not isToken refl refl b t
+stops-token (G.fold t a) r h = refl
 
-token-stops : {t : List ℕ} → Token t → (r : List ℕ) → Stops isBlank (t ++ r)
-token-stops (G.some {b = b} t a) r = token-not-blank b t
+token-stops : {t : List ℕ} → Token t → (r : List ℕ) → Stops beginsWhite (t ++ r)
+token-stops (G.some {b = b} t a) r = token-begins-not b t
 
-setting-stops : {v : List ℕ} → Setting v → (r : List ℕ) → Stops isBlank (v ++ r)
+setting-stops : {v : List ℕ} → Setting v → (r : List ℕ) → Stops beginsWhite (v ++ r)
 unfolding isBlank
 setting-stops (G.token t) r = token-stops t r
 setting-stops (G.quoted x) r = refl
@@ -215,12 +233,12 @@ ends-not s e [] h q z = let n = no-front s e q .0 in let y : _≡_ {A = ℕ} 0 6
 ends-not s e (b ∷ x) h q z = let n : b ≡ 61 = sym (front-byte s e b x q)
     ∙ z in ⊎-elim (λ i. omega arith) (λ i. omega arith) h
 
-ends-white : (x : List ℕ) → Ends x → Stops isBlank x
+ends-white : (x : List ℕ) → Ends x → Stops beginsWhite x
 unfolding isBlank
-ends-white x h = ends-stops isBlank refl refl x h
+ends-white x h = ends-stops beginsWhite refl refl x h
 
 module _ (s : List ℕ) where
-  param-to : {p : List ℕ} → Param p → (at : ℕ) (r : List ℕ) → drop at s ≡ p ++ r → Follows r
+  param-to : {p : List ℕ} → Param White p → (at : ℕ) (r : List ℕ) → drop at s ≡ p ++ r → Follows r
       → PassedTo s r (paramAt s at)
   unfolding isBlank isToken
   param-to (G.bare {x = x} {t = t} wx kt) at r e f =
@@ -259,7 +277,7 @@ closes-ends : (x : List ℕ) → Closes x → Ends x
 closes-ends [] h = tt
 closes-ends (b ∷ l) h = inl h
 
-params-follow : {q w : List ℕ} → Params q → White w → (x : List ℕ) → Ends x → Follows (q ++ (w ++ x))
+params-follow : {q w : List ℕ} → Params White q → White w → (x : List ℕ) → Ends x → Follows (q ++ (w ++ x))
 params-follow {w = w} G.done ww x h = (w, x, ww, h, refl)
 params-follow {w = w} (G.param {w = v} {p = p} {q = q} wv kp kq) ww x h =
     (v, 59 ∷ ((p ++ q) ++ (w ++ x)), wv, inr refl, append-assoc v (59 ∷ (p ++ q)) (w ++ x))
@@ -284,7 +302,7 @@ module _ (s : List ℕ) where
         front-rest s d b x i,
       )
 
-  pub ending-to : {p : List ℕ} → Params p → (at : ℕ) (w x : List ℕ) → White w → Closes x → drop at s ≡ p ++ (w ++ x)
+  pub ending-to : {p : List ℕ} → Params White p → (at : ℕ) (w x : List ℕ) → White w → Closes x → drop at s ≡ p ++ (w ++ x)
       → EndingTo s x (endingAt s at)
   unfolding isBlank
   ending-to G.done at w x ww h e = last-to at w x ww h e
@@ -324,10 +342,10 @@ between s at to w r e f h k =
 -- the place of entry k among the entries from a position: what stands before its URI, and what behind
 abbrev pub LiesFrom : List ℕ → ℕ → ℕ → List ℕ → Span → Type 0
 LiesFrom s at k u p =
-    (a : List ℕ) × (b : List ℕ) × Before k a × (drop at s ≡ a ++ (u ++ b)) ×
+    (a : List ℕ) × (b : List ℕ) × Before White k a × (drop at s ≡ a ++ (u ++ b)) ×
     (p ≡ record { start = at + length a; len = length u })
 
-first-lies : {n u w : List ℕ} (s : List ℕ) (at : ℕ) → White w → Entry n u → (t : List ℕ)
+first-lies : {n u w : List ℕ} (s : List ℕ) (at : ℕ) → White w → Entry White n u → (t : List ℕ)
     → drop at s ≡ w ++ (n ++ t) → LiesFrom s at 0 u (placed at w u)
 first-lies {w = w} s at ww (G.entry {u = u} {p = p} ku kp) t e =
     let q : at + length w + 1 ≡ at + length (w ++ (60 ∷ [])) = omega (arith, length-append w (60 ∷ [])) in
@@ -340,7 +358,7 @@ module _ (s : List ℕ) where
   entry-from at a e p (b ∷ v) q t h f =
       (h .0, sym (f (NextEntry (h .0)) (h .1)) ∙ ap (λ (y : Span). More y (h .0)) q, h .2)
 
-  pub entry-to : {n u : List ℕ} → Entry n u → (at : ℕ) (w x r : List ℕ) → White w → White x → Closes r
+  pub entry-to : {n u : List ℕ} → Entry White n u → (at : ℕ) (w x r : List ℕ) → White w → White x → Closes r
       → at ≤ length s → drop at s ≡ w ++ (n ++ (x ++ r))
       → FoundTo s (placed at w u) r (entryAt s at) × (partOf s (placed at w u) ≡ u)
   unfolding isBlank isUri
@@ -371,7 +389,7 @@ module _ (s : List ℕ) where
   AllLie at us ps = (k : ℕ) → k < length us → LiesFrom s at k (getD us k []) (getD ps k nowhere)
 
   -- one entry and its comma before the rest
-  later-lies : (at to k : ℕ) (w n x v u y : List ℕ) (p : Span) → White w → Entry n u → White x
+  later-lies : (at to k : ℕ) (w n x v u y : List ℕ) (p : Span) → White w → Entry White n u → White x
       → drop at s ≡ w ++ (n ++ (x ++ (44 ∷ v))) → drop to s ≡ v → at ≤ length s → to ≤ length s
       → LiesFrom s to k y p → LiesFrom s at (suc k) y p
   later-lies at to k w n x v u y p ww kn wx e f h i (a, b, g, q, o) =
@@ -394,7 +412,7 @@ module _ (s : List ℕ) where
         o ∙ λ j. record { start = z j; len = length y },
       )
 
-  value-to : {l : List ℕ} {us : List (List ℕ)} → Value l us → (at : ℕ) → at ≤ length s → drop at s ≡ l
+  value-to : {l : List ℕ} {us : List (List ℕ)} → Value White l us → (at : ℕ) → at ≤ length s → drop at s ≡ l
       → (ps : List Span) × (readingFrom s at ≡ spans ps) × (map (partOf s) ps ≡ us) × AllLie at us ps
   value-to (G.last {w = w} {e = n} {x = x} {u = u} ww ke wx) at h e =
       let q : drop at s ≡ w ++ (n ++ (x ++ [])) = e ∙ ap (λ (y : List ℕ). w ++ (n ++ y)) (sym (append-nil x)) in
@@ -426,11 +444,11 @@ module _ (s : List ℕ) where
           later-lies at to k w n x v u (getD us k []) (getD ps k nowhere) ww ke wx e f h i (o k (omega arith))
 
   -- a value in the grammar is read, the parts that are read are its URIs, and each lies where the grammar has it
-  pub complete-places : (us : List (List ℕ)) → Value s us
+  pub complete-places : (us : List (List ℕ)) → Value White s us
       → (ps : List Span) × (readingOf s ≡ spans ps) × (map (partOf s) ps ≡ us) × AllLie 0 us ps
   unfolding readingOf
   complete-places us k = value-to k 0 (omega arith) refl
 
-  pub complete : (us : List (List ℕ)) → Value s us
+  pub complete : (us : List (List ℕ)) → Value White s us
       → (ps : List Span) × (readingOf s ≡ spans ps) × (map (partOf s) ps ≡ us)
   complete us k = let c = complete-places us k in (c .0, c .1, c .2)

@@ -13,7 +13,7 @@ use borrow.Author.Tests.{ltb-true, ltb-false, eqb-true, eqb-false, eq-eqb, ne-eq
 use Rattle.alert_info.specs.Value.{spans, readingOf, partOf, refusalOf, urisOf, spansOf}
 use Rattle.alert_info.specs.Value.{entriesOf, entryOf, nowhere, spanOf, entryRefusalOf}
 use Rattle.alert_info.specs.declared.alert_param.Span.{Span}
-use Rattle.alert_info.specs.Grammar.{Some, Entry, Value}
+use Rattle.alert_info.specs.Grammar.{White, Value}
 use Rattle.alert_info.specs.Grammar as G
 use Rattle.alert_info.specs.Claims.{Given, EntryGiven, there, refused, missing, EntryRefusedExactly}
 use Rattle.alert_info.specs.Claims.{EntryRefusalNumbers, RefusedEntry, RefusedPlace, Places, OnePlace}
@@ -23,13 +23,13 @@ use Rattle.alert_info.proofs.Complete.{complete-places}
 use Rattle.alert_info.proofs.Place.{starts-after}
 
 -- a value's list by the grammar is its list
-same-list : (s : List ℕ) (us : List (List ℕ)) → length s ≤ 4096 → Value s us → length us ≤ 64
+same-list : (s : List ℕ) (us : List (List ℕ)) → length s ≤ 4096 → Value White s us → length us ≤ 64
     → (refusalOf s ≡ 0) × (urisOf s ≡ us)
 same-list s us short v few =
     let e = refused-exactly s 0 .1 (short, us, v, few) in (e, unique s (urisOf s) us (accepted-list s e) v)
 
 -- an accepted value's list by the grammar, with the limits
-its-list : (s : List ℕ) → refusalOf s ≡ 0 → (length s ≤ 4096) × Value s (urisOf s) × (length (urisOf s) ≤ 64)
+its-list : (s : List ℕ) → refusalOf s ≡ 0 → (length s ≤ 4096) × Value White s (urisOf s) × (length (urisOf s) ≤ 64)
 its-list s e =
     let g = refused-exactly s 0 .0 e in
     let v = accepted-list s e in
@@ -59,29 +59,29 @@ module _ (s : List ℕ) (k : ℕ) where
   is-refused n = simp (ne-eqb _ _ n)
 
   -- the number that is given says what holds
-  accepted-given : refusalOf s ≡ 0 → (x : Bool) → ltb k (entriesOf s) ≡ x → EntryGiven s k (entryRefusalOf s k)
+  accepted-given : refusalOf s ≡ 0 → (x : Bool) → ltb k (entriesOf s) ≡ x → EntryGiven White s k (entryRefusalOf s k)
   unfolding entriesOf
   accepted-given e true f =
       let l = its-list s e in
       let h = ltb-true k (entriesOf s) f in
-      subst (EntryGiven s k) (sym (is-there e h)) (there (l .0) (l .1) (l .2) h)
+      subst (EntryGiven White s k) (sym (is-there e h)) (there (l .0) (l .1) (l .2) h)
   accepted-given e false f =
       let l = its-list s e in
       let h = ltb-false k (entriesOf s) f in
-      subst (EntryGiven s k) (sym (is-missing e h)) (missing (l .0) (l .1) (l .2) h)
+      subst (EntryGiven White s k) (sym (is-missing e h)) (missing (l .0) (l .1) (l .2) h)
 
-  refused-given : (n : ℕ) → refusalOf s ≡ n → (n ≡ 0 → ⊥) → EntryGiven s k n
+  refused-given : (n : ℕ) → refusalOf s ≡ n → (n ≡ 0 → ⊥) → EntryGiven White s k n
   refused-given zero e z = absurd (z refl)
   refused-given (suc n) e z = refused (refused-exactly s (suc n) .0 e)
 
-  is-given : (x : Bool) → eqb (refusalOf s) 0 ≡ x → EntryGiven s k (entryRefusalOf s k)
+  is-given : (x : Bool) → eqb (refusalOf s) 0 ≡ x → EntryGiven White s k (entryRefusalOf s k)
   is-given true e = accepted-given (eqb-true (refusalOf s) 0 e) (ltb k (entriesOf s)) refl
   is-given false e =
       let n = eqb-false (refusalOf s) 0 e in
-      subst (EntryGiven s k) (sym (is-refused n)) (refused-given (refusalOf s) refl n)
+      subst (EntryGiven White s k) (sym (is-refused n)) (refused-given (refusalOf s) refl n)
 
   -- where it holds, the number is given
-  given-is : {n : ℕ} → EntryGiven s k n → entryRefusalOf s k ≡ n
+  given-is : {n : ℕ} → EntryGiven White s k n → entryRefusalOf s k ≡ n
   unfolding entriesOf
   given-is (there {us = us} short v few h) =
       let l = same-list s us short v few in
@@ -94,18 +94,18 @@ module _ (s : List ℕ) (k : ℕ) where
       is-missing (l .0) (omega (arith, ap length (l .1)))
 
 pub entry-refused-exactly : EntryRefusedExactly
-entry-refused-exactly s k n = ((λ e. subst (EntryGiven s k) e (is-given s k (eqb (refusalOf s) 0) refl)), given-is s k)
+entry-refused-exactly s k n = ((λ e. subst (EntryGiven White s k) e (is-given s k (eqb (refusalOf s) 0) refl)), given-is s k)
 
 pub entry-refusal-numbers : EntryRefusalNumbers
 entry-refusal-numbers s k = go (entryRefusalOf s k) refl (is-given s k (eqb (refusalOf s) 0) refl)
   where
-    go : (n : ℕ) → entryRefusalOf s k ≡ n → EntryGiven s k n → (n ≤ 3) ⊎ (n ≡ 18)
+    go : (n : ℕ) → entryRefusalOf s k ≡ n → EntryGiven White s k n → (n ≤ 3) ⊎ (n ≡ 18)
     go _ e (there a b c d) = inl (omega arith)
     go _ e (refused {n = n} g) = inl (omega (arith, refused-exactly s (suc n) .1 g, refusal-numbers s))
     go _ e (missing a b c d) = inr refl
 
 -- no URI of a value is empty
-not-empty : {s : List ℕ} {us : List (List ℕ)} → Value s us → (k : ℕ) → k < length us → getD us k [] ≡ [] → ⊥
+not-empty : {s : List ℕ} {us : List (List ℕ)} → Value White s us → (k : ℕ) → k < length us → getD us k [] ≡ [] → ⊥
 not-empty (G.last a (G.entry (G.some t u) p) c) zero h e = omega (arith, ap length e)
 not-empty (G.last a b c) (suc k) h e = omega arith
 not-empty (G.comma a (G.entry (G.some t u) p) c v) zero h e = omega (arith, ap length e)
@@ -123,7 +123,7 @@ pub refused-entry : RefusedEntry
 unfolding entriesOf entryOf
 refused-entry s k = ((λ n. List·getD-eq-default (urisOf s) [] (not-there s k n)), λ e z. go z e (entry-refused-exactly s k 0 .0 z))
   where
-    go : entryRefusalOf s k ≡ 0 → getD (urisOf s) k [] ≡ [] → EntryGiven s k 0 → ⊥
+    go : entryRefusalOf s k ≡ 0 → getD (urisOf s) k [] ≡ [] → EntryGiven White s k 0 → ⊥
     go z e (there {us = us} short v few h) =
         let l = same-list s us short v few in
         not-empty v k h (ap (λ (x : List (List ℕ)). getD x k []) (sym (l .1)) ∙ e)

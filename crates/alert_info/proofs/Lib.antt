@@ -12,5 +12,6 @@ pub mod ReadingLaws
 mod RunLaws
 mod Sound
 mod Table
+pub mod Unfolded
 mod WalkLaws
 mod WhiteLaws

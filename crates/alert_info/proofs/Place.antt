@@ -10,7 +10,7 @@ use Rattle.alert_info.specs.Bytes.{isBlank, isUri}
 use Rattle.alert_info.specs.Walk.{runAt}
 use Rattle.alert_info.specs.Parts.{whiteAt, endingAt, spanTo, found, closedUri, entryAt}
 use Rattle.alert_info.specs.Value.{Reading, unfit, spans, add, readingFrom, nowhere}
-use Rattle.alert_info.specs.Grammar.{Before}
+use Rattle.alert_info.specs.Grammar.{White, Before}
 use Rattle.alert_info.specs.Grammar as G
 use Rattle.alert_info.specs.declared.alert_param.Span.{Span}
 use Rattle.alert_info.specs.declared.alert_param.Ending.{Ending}
@@ -76,7 +76,7 @@ module _ (s : List ℕ) where
       never r i j = let z : _≡_ {A = ℕ} 0 1 = cc in omega arith
 
   -- what stands before entry k is as long as its place says
-  pub starts-after : {a : List ℕ} {k : ℕ} → Before k a → (at : ℕ) → at ≤ length s → (b : List ℕ) → drop at s ≡ a ++ b
+  pub starts-after : {a : List ℕ} {k : ℕ} → Before White k a → (at : ℕ) → at ≤ length s → (b : List ℕ) → drop at s ≡ a ++ b
       → (ps : List Span) → readingFrom s at ≡ spans ps → getD ps k nowhere .start ≡ at + length a
   unfolding isBlank
   starts-after (G.bracket {w = w} ww) at h b e ps q =

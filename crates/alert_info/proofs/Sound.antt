@@ -14,7 +14,7 @@ use borrow.Author.Tests.{eqb-true, eqb-false, leb-true, leb-false}
 use Rattle.alert_info.specs.Bytes.{isBlank, isUri, isToken, isText, isEscapable}
 use Rattle.alert_info.specs.Walk.{run, runAt}
 use Rattle.alert_info.specs.Walk.{halt, move}
-use Rattle.alert_info.specs.Parts.{blankAt, blankMove, whiteStep, whiteAt, tokenAt, escapeByte}
+use Rattle.alert_info.specs.Parts.{foldAt, blankAt, blankMove, whiteStep, whiteAt, tokenAt, escapeByte}
 use Rattle.alert_info.specs.Parts.{quoteAt, quoteMove}
 use Rattle.alert_info.specs.Parts.{quotedStep, quotedFrom, quotedAt, settingAt, named, paramAt, paramNext}
 use Rattle.alert_info.specs.Parts.{followingAt}
@@ -36,7 +36,7 @@ use Rattle.alert_info.specs.declared.alert_param.Ending.the-variants.{Va
 use Rattle.alert_info.specs.declared.alert_param.Found.{Found}
 use Rattle.alert_info.specs.declared.alert_param.Found.the-variants.{Last, More, None}
 use Rattle.alert_info.proofs.RunLaws.{peeked, by-test}
-use Rattle.alert_info.proofs.WhiteLaws.{white-ok, blank-in}
+use Rattle.alert_info.proofs.WhiteLaws.{white-ok, blank-in, fold-bytes}
 use Rattle.alert_info.proofs.WalkLaws.{walk-ind}
 use Rattle.alert_info.proofs.Lands.{quoted-ok, ending-ok}
 use Rattle.alert_info.proofs.ReadingLaws.{value-ok}
@@ -222,12 +222,28 @@ module _ (s : List ℕ) where
   unfolding blankAt
   blank-reads at =
       let b = getD s at 0 in
-      by-test (BlankReads at) (isBlank b) 1 0
+      let c = getD s (at + 2) 0 in
+      by-test (BlankReads at) (isBlank b) 1 _
       (λ e l w to h. (b ∷ l, G.blank (is-true (isBlank b) e) w, blank-byte at e ∙ ap (λ (x : List ℕ). b ∷ x) h))
-      (λ _ l w to h. (l, w, ap (λ (n : ℕ). drop n s) (sym (add-zero at)) ∙ h))
+      (λ _. by-test (BlankReads at) (foldAt s at) 3 0
+      (λ e l w to h. let f = fold-bytes s at e in (
+        13 ∷ 10 ∷ c ∷ l,
+        G.fold (is-true (isBlank c) (f .2)) w,
+        fold-byte at (f .0) (f .1) (f .2) ∙ ap (λ (x : List ℕ). 13 ∷ 10 ∷ c ∷ x) h,
+      ))
+      (λ _ l w to h. (l, w, ap (λ (n : ℕ). drop n s) (sym (add-zero at)) ∙ h)))
     where
       blank-byte : (at : ℕ) → isBlank (getD s at 0) ≡ true → drop at s ≡ getD s at 0 ∷ drop (at + 1) s
       blank-byte at e = rw (drop-cons s at 0 (blank-in s at e), add-one)
+
+      fold-byte : (at : ℕ) → getD s at 0 ≡ 13 → getD s (at + 1) 0 ≡ 10 → isBlank (getD s (at + 2) 0) ≡ true
+          → drop at s ≡ 13 ∷ 10 ∷ getD s (at + 2) 0 ∷ drop (at + 3) s
+      fold-byte at cr lf e =
+          let two : at + 1 + 1 ≡ at + 2 = omega arith in
+          let three : at + 2 + 1 ≡ at + 3 = omega arith in
+          byte-at s at 12 cr ∙ ap (λ (x : List ℕ). 13 ∷ x) (byte-at s (at + 1) 9 lf
+          ∙ ap (λ (x : List ℕ). 10 ∷ x) (ap (λ (n : ℕ). drop n s) two ∙ blank-byte (at + 2) e
+          ∙ ap (λ (n : ℕ). getD s (at + 2) 0 ∷ drop n s) three))
 
   pub white-reads : (at : ℕ) → Reads White s at (whiteAt s at)
   unfolding whiteAt whiteStep
@@ -251,7 +267,7 @@ module _ (s : List ℕ) where
   set-reads : (at : ℕ) (t : List ℕ) (c : Cursor) (x : List ℕ) → White x → drop at s ≡ x ++ (t ++ drop (c .at) s)
       → Token t
       → (e : ℕ) → Reads White s (c .at) e → drop e s ≡ 61 ∷ drop (e + 1) s → (v : ℕ) → Reads White s (e + 1) v
-      → (p : Passed) → PassedReads Setting s v p → PassedReads Param s at p
+      → (p : Passed) → PassedReads Setting s v p → PassedReads (Param White) s at p
   set-reads at t c x wx h tt′ e y q v z (Next d) r = (
     x ++ (t ++ (y .0 ++ (61 ∷ (z .0 ++ r .0)))),
     G.set wx tt′ (y .1) (z .1) (r .1),
@@ -263,11 +279,11 @@ module _ (s : List ℕ) where
   set-reads at t c x wx h tt′ e y q v z Refused r = tt
 
   named-reads : (at : ℕ) (x : List ℕ) → White x → (from : ℕ) → drop at s ≡ x ++ drop from s → (p : Passed)
-      → PassedReads Token s from p → PassedReads Param s at (named s p)
+      → PassedReads Token s from p → PassedReads (Param White) s at (named s p)
   named-reads at x wx from h (Next c) r =
       let e = whiteAt s (c .at) in
       let v = whiteAt s (e + 1) in
-      by-test (PassedReads Param s at) (eqb (getD s e 0) 61) (settingAt s v) (Next c)
+      by-test (PassedReads (Param White) s at) (eqb (getD s e 0) 61) (settingAt s v) (Next c)
       (λ i. set-reads at (r .0) c x wx (h
       ∙ ap (λ (l : List ℕ). x ++ l) (r .2)) (r .1) e (white-reads (c .at)) (byte-at s e 60
       (eqb-true (getD s e 0) 61 i)) v (white-reads (e + 1)) (settingAt s v) (setting-reads v))
@@ -279,7 +295,7 @@ module _ (s : List ℕ) where
       ))
   named-reads at x wx from h Refused r = tt
 
-  pub param-reads : (at : ℕ) → PassedReads Param s at (paramAt s at)
+  pub param-reads : (at : ℕ) → PassedReads (Param White) s at (paramAt s at)
   unfolding paramAt
   param-reads at =
       let w = white-reads at in
@@ -289,31 +305,31 @@ module _ (s : List ℕ) where
 abbrev FollowingReads : List ℕ → ℕ → Following → Type 0
 FollowingReads s at following.Nothing = White (drop at s)
 FollowingReads s at (following.Comma c) = (w : List ℕ) × White w × (drop at s ≡ w ++ (44 ∷ drop (c .at) s))
-FollowingReads s at (following.Param c) = (w : List ℕ) × (p : List ℕ) × White w × Param p ×
+FollowingReads s at (following.Param c) = (w : List ℕ) × (p : List ℕ) × White w × Param White p ×
     (drop at s ≡ w ++ (59 ∷ (p ++ drop (c .at) s)))
 FollowingReads s at following.Stray = Unit
 
 abbrev EndingReads : List ℕ → ℕ → Ending → Type 0
-EndingReads s at ValueEnd = (p : List ℕ) × (w : List ℕ) × Params p × White w × (drop at s ≡ p ++ w)
-EndingReads s at (NextEntry c) = (p : List ℕ) × (w : List ℕ) × Params p × White w ×
+EndingReads s at ValueEnd = (p : List ℕ) × (w : List ℕ) × Params White p × White w × (drop at s ≡ p ++ w)
+EndingReads s at (NextEntry c) = (p : List ℕ) × (w : List ℕ) × Params White p × White w ×
     (drop at s ≡ p ++ (w ++ (44 ∷ drop (c .at) s)))
 EndingReads s at NoEnding = Unit
 
 abbrev FoundReads : List ℕ → ℕ → Found → Type 0
-FoundReads s at (Last p) = (w : List ℕ) × (n : List ℕ) × (x : List ℕ) × White w × Entry n (partOf s p) × White x ×
+FoundReads s at (Last p) = (w : List ℕ) × (n : List ℕ) × (x : List ℕ) × White w × Entry White n (partOf s p) × White x ×
     (drop at s ≡ w ++ (n ++ x))
 FoundReads s at (More p c) =
-    (w : List ℕ) × (n : List ℕ) × (x : List ℕ) × White w × Entry n (partOf s p) × White x ×
+    (w : List ℕ) × (n : List ℕ) × (x : List ℕ) × White w × Entry White n (partOf s p) × White x ×
     (drop at s ≡ w ++ (n ++ (x ++ (44 ∷ drop (c .at) s))))
 FoundReads s at None = Unit
 
 abbrev ReadingReads : List ℕ → ℕ → Reading → Type 0
 ReadingReads s at unfit = Unit
-ReadingReads s at (spans ps) = Value (drop at s) (map (partOf s) ps)
+ReadingReads s at (spans ps) = Value White (drop at s) (map (partOf s) ps)
 
 module _ (s : List ℕ) where
   paramNext-reads : (at w : ℕ) → Reads White s at w → drop w s ≡ 59 ∷ drop (w + 1) s → (p : Passed)
-      → PassedReads Param s (w + 1) p → FollowingReads s at (paramNext p)
+      → PassedReads (Param White) s (w + 1) p → FollowingReads s at (paramNext p)
   paramNext-reads at w r h (Next c) q = (
     r .0,
     q .0,
@@ -352,7 +368,7 @@ module _ (s : List ℕ) where
   following-halt at (following.Param c) l r e = absurd (let z : _≡_ {A = ℕ} 0 1 = cc in omega arith)
   following-halt at following.Stray l r e = let z : NoEnding ≡ r = cc in subst (EndingReads s at) z tt
 
-  one-more : (at n : ℕ) (w p : List ℕ) → White w → Param p → drop at s ≡ w ++ (59 ∷ (p ++ drop n s)) → (t : Ending)
+  one-more : (at n : ℕ) (w p : List ℕ) → White w → Param White p → drop at s ≡ w ++ (59 ∷ (p ++ drop n s)) → (t : Ending)
       → EndingReads s n t → EndingReads s at t
   one-more at n w p ww pp h ValueEnd r = (
     w ++ (59 ∷ (p ++ r .0)),
@@ -437,7 +453,7 @@ module _ (s : List ℕ) where
   entry-halt at (Last p) l r q =
       let z : spans (p ∷ []) ≡ r = cc in
       subst (ReadingReads s at) z
-      (subst (λ (x : List ℕ). Value x (partOf s p ∷ [])) (sym (l .6)) (G.last (l .3) (l .4) (l .5)))
+      (subst (λ (x : List ℕ). Value White x (partOf s p ∷ [])) (sym (l .6)) (G.last (l .3) (l .4) (l .5)))
   entry-halt at (More p c) l r q = absurd (let z : _≡_ {A = ℕ} 0 1 = cc in omega arith)
   entry-halt at None l r q = let z : unfit ≡ r = cc in subst (ReadingReads s at) z tt
 
@@ -445,7 +461,7 @@ module _ (s : List ℕ) where
       → ReadingReads s at (add p x)
   entry-more at p c l unfit r = tt
   entry-more at p c l (spans ps) r =
-      subst (λ (x : List ℕ). Value x (partOf s p ∷ map (partOf s) ps)) (sym (l .6)) (G.comma (l .3) (l .4) (l .5) r)
+      subst (λ (x : List ℕ). Value White x (partOf s p ∷ map (partOf s) ps)) (sym (l .6)) (G.comma (l .3) (l .4) (l .5) r)
 
   entry-on : (at : ℕ) (i : Found) → FoundReads s at i → (g : Reading → Reading) (n : ℕ) (x : Reading)
       → entryMove i ≡ move g n → ReadingReads s n x → ReadingReads s at (g x)
@@ -465,6 +481,6 @@ module _ (s : List ℕ) where
       (λ p g n x e h l. entry-on p (entryAt s p) (entry-reads p) g n x e l) at
 
   -- a value that is read is in the grammar, with the parts that are read as its URIs
-  pub sound : (ps : List Span) → readingOf s ≡ spans ps → Value s (map (partOf s) ps)
+  pub sound : (ps : List Span) → readingOf s ≡ spans ps → Value White s (map (partOf s) ps)
   unfolding readingOf
   sound ps e = subst (ReadingReads s 0) e (value-reads 0)

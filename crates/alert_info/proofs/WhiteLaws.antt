@@ -2,16 +2,16 @@
 -- Assumes nothing.
 use mathlib.Core.Path.{_≡_, refl, sym, ap, _∙_, subst}
 use mathlib.Core.Logic.{_⊎_, ⊎-elim, inl, inr}
-use mathlib.Core.Bool.{Bool, true, false, _||_}
+use mathlib.Core.Bool.{Bool, true, false, cond, _&&_, _||_}
 use mathlib.Core.List.{List, []}
 use Prim.Native.Nat.{ℕ, zero, suc, _+_, _-_, _≤_, _<_, max}
 use native.Mathlib.Omega.{arith}
 use lib.Dec.{eqb}
 use lib.ListN.{length, getD, List·getD-eq-default}
-use borrow.Author.Tests.{eqb-true}
+use borrow.Author.Tests.{eqb-true, eqb-false, eq-eqb, ne-eqb}
 use Rattle.alert_info.specs.Bytes.{isBlank}
 use Rattle.alert_info.specs.Walk.{halt, move}
-use Rattle.alert_info.specs.Parts.{blankAt, blankMove, whiteStep, whiteAt}
+use Rattle.alert_info.specs.Parts.{foldAt, foldLength, blankAt, blankMove, whiteStep, whiteAt}
 use Rattle.alert_info.proofs.RunLaws.{peeked, by-test}
 use Rattle.alert_info.proofs.WalkLaws.{walk-ind, walk-halt, walk-move}
 
@@ -24,15 +24,41 @@ blank-cases b = go (eqb b 32) refl (eqb b 9) refl
     go false e true f t = inr (eqb-true b 9 f)
     go false e false f t = absurd (let z : false ≡ true = t in let y : _≡_ {A = ℕ} 0 1 = cc in omega arith)
 
+-- what white space may begin with: a space, a tab or CR (13)
+abbrev pub beginsWhite : ℕ → Bool
+beginsWhite b = isBlank b || eqb b 13
+
+pub begins-not : (b : ℕ) → beginsWhite b ≡ false → (isBlank b ≡ false) × (b ≡ 13 → ⊥)
+begins-not b h = go (isBlank b) refl h
+  where
+    go : (x : Bool) → isBlank b ≡ x → (x || eqb b 13) ≡ false → (isBlank b ≡ false) × (b ≡ 13 → ⊥)
+    go true e f = absurd (let z : true ≡ false = f in let y : _≡_ {A = ℕ} 0 1 = cc in omega arith)
+    go false e f = (e, eqb-false b 13 f)
+
+-- three tests that all pass
+pub three-all : (a b c : Bool) → (a && (b && c)) ≡ true → (a ≡ true) × (b ≡ true) × (c ≡ true)
+three-all true true true e = (refl, refl, refl)
+three-all true true false e = absurd (let y : _≡_ {A = ℕ} 0 1 = cc in omega arith)
+three-all true false c e = absurd (let y : _≡_ {A = ℕ} 0 1 = cc in omega arith)
+three-all false b c e = absurd (let y : _≡_ {A = ℕ} 0 1 = cc in omega arith)
+
 module _ (s : List ℕ) where
   pub blank-in : (at : ℕ) → isBlank (getD s at 0) ≡ true → at < length s
   blank-in at e = ⊎-elim (λ q. peeked s at 31 q) (λ q. peeked s at 8 q) (blank-cases (getD s at 0) e)
+
+  -- the three bytes of a fold
+  pub fold-bytes : (at : ℕ) → foldAt s at ≡ true
+      → (getD s at 0 ≡ 13) × (getD s (at + 1) 0 ≡ 10) × (isBlank (getD s (at + 2) 0) ≡ true)
+  fold-bytes at e =
+      let f = three-all (eqb (getD s at 0) 13) (eqb (getD s (at + 1) 0) 10) (isBlank (getD s (at + 2) 0)) e in
+      (eqb-true _ _ (f .0), eqb-true _ _ (f .1), f .2)
 
   blank-to : (at : ℕ) → at + blankAt s at ≤ max at (length s)
   unfolding blankAt
   blank-to at =
       let P : ℕ → Type 0 = λ k. at + k ≤ max at (length s) in
-      by-test P (isBlank (getD s at 0)) 1 0 (λ e. omega (arith, blank-in at e)) (λ _. omega arith)
+      by-test P (isBlank (getD s at 0)) 1 _ (λ e. omega (arith, blank-in at e))
+      (λ _. by-test P (foldAt s at) 3 0 (λ e. omega (arith, blank-in (at + 2) (fold-bytes at e .2))) (λ _. omega arith))
 
   blank-ok : (at k : ℕ) → at + k ≤ max at (length s) → (g : ℕ → ℕ) (n : ℕ) → blankMove at k ≡ move g n
       → (at < n) × (n ≤ length s)
@@ -99,10 +125,70 @@ module _ (s : List ℕ) where
     unfolding blankAt
     blank-yes e = simp e
 
-    pub blank-no : isBlank (getD s at 0) ≡ false → 0 ≡ blankAt s at
-    unfolding blankAt
-    blank-no e = simp e
-
     pub blank-end : length s ≤ at → 0 ≡ blankAt s at
     unfolding blankAt isBlank
     blank-end h = simp (List·getD-eq-default s 0 h)
+
+    pub blank-fold : isBlank (getD s at 0) ≡ false → (n : ℕ) → n ≡ foldLength s at → n ≡ blankAt s at
+    unfolding blankAt
+    blank-fold nb n e = e ∙ simp nb
+
+    fold-is : (x : Bool) → foldAt s at ≡ x → cond x 3 0 ≡ foldLength s at
+    fold-is x e = ap (λ (y : Bool). cond y 3 0) (sym e)
+
+    pub blank-no : isBlank (getD s at 0) ≡ false → (getD s at 0 ≡ 13 → ⊥) → 0 ≡ blankAt s at
+    blank-no nb n = blank-fold nb 0 (fold-is false (simp (ne-eqb _ _ n)))
+
+    -- from CR
+    module _ (cr : getD s at 0 ≡ 13) where
+      pub cr-not-blank : isBlank (getD s at 0) ≡ false
+      unfolding isBlank
+      cr-not-blank = ap isBlank cr
+
+      pub fold-from : (x : Bool) → getD s (at + 1) 0 ≡ 10 → x ≡ isBlank (getD s (at + 2) 0) → cond x 3 0 ≡ foldLength s at
+      fold-from x lf e = fold-is x (simp (eq-eqb _ _ cr, eq-eqb _ _ lf) (sym e))
+
+      pub fold-lf : (getD s (at + 1) 0 ≡ 10 → ⊥) → 0 ≡ foldLength s at
+      fold-lf n = fold-is false (simp (eq-eqb _ _ cr, ne-eqb _ _ n))
+
+      fold-past : (x : Bool) → isBlank (getD s (at + 2) 0) ≡ false → eqb (getD s (at + 1) 0) 10 ≡ x
+          → (x && isBlank (getD s (at + 2) 0)) ≡ false
+      fold-past true e f = e
+      fold-past false e f = refl
+
+      pub fold-short : length s - at < 3 → 0 ≡ foldLength s at
+      unfolding isBlank
+      fold-short h =
+          let e : isBlank (getD s (at + 2) 0) ≡ false = ap isBlank (List·getD-eq-default s 0 (omega arith)) in
+          fold-is false (simp (eq-eqb _ _ cr) (fold-past (eqb (getD s (at + 1) 0) 10) e refl))
+
+  -- a turn of the loop over white space
+  module _ (at : ℕ) where
+    pub white-past-end : length s ≤ at → whiteAt s at ≡ at
+    white-past-end h = white-stop at 0 (blank-end at h) refl
+
+    pub white-above : 32 < getD s at 0 → whiteAt s at ≡ at
+    unfolding isBlank
+    white-above h =
+        let sp : getD s at 0 ≡ 32 → ⊥ = λ z. omega arith in
+        let tab : getD s at 0 ≡ 9 → ⊥ = λ z. omega arith in
+        white-stop at 0 (blank-no at (simp (ne-eqb _ _ sp, ne-eqb _ _ tab)) (λ z. omega arith)) refl
+
+    pub white-other : (getD s at 0 ≡ 32 → ⊥) → (getD s at 0 ≡ 9 → ⊥) → (getD s at 0 ≡ 13 → ⊥) → whiteAt s at ≡ at
+    unfolding isBlank
+    white-other sp tab n = white-stop at 0 (blank-no at (simp (ne-eqb _ _ sp, ne-eqb _ _ tab)) n) refl
+
+    pub white-space : getD s at 0 ≡ 32 → whiteAt s at ≡ whiteAt s (at + 1)
+    unfolding isBlank
+    white-space e = white-more at 1 (blank-yes at (ap isBlank e)) (λ z. omega arith) .0
+
+    pub white-tab : getD s at 0 ≡ 9 → whiteAt s at ≡ whiteAt s (at + 1)
+    unfolding isBlank
+    white-tab e = white-more at 1 (blank-yes at (ap isBlank e)) (λ z. omega arith) .0
+
+    module _ (n : ℕ) (cr : getD s at 0 ≡ 13) (e : n ≡ foldLength s at) where
+      pub white-broken : n ≡ 0 → whiteAt s at ≡ at
+      white-broken f = white-stop at n (blank-fold at (cr-not-blank at cr) n e) f
+
+      pub white-fold : (n ≡ 0 → ⊥) → (whiteAt s at ≡ whiteAt s (at + n)) × (at < at + n) × (at + n ≤ length s)
+      white-fold f = white-more at n (blank-fold at (cr-not-blank at cr) n e) f

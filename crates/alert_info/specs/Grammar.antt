@@ -22,10 +22,15 @@ pub data Any (p : ℕ → Bool) : List ℕ → Type 0 where
 pub data Some (p : ℕ → Bool) : List ℕ → Type 0 where
   some : {b : ℕ} {l : List ℕ} → T (p b) → Any p l → Some p (b ∷ l)
 
--- white space: any run of spaces and tabs, also empty
+-- white space: spaces and tabs, and CR LF with one of them after it, any number of these, also none
 pub data White : List ℕ → Type 0 where
   nothing : White []
   blank : {b : ℕ} {l : List ℕ} → T (isBlank b) → White l → White (b ∷ l)
+  fold : {b : ℕ} {l : List ℕ} → T (isBlank b) → White l → White (code "\r" ∷ code "\n" ∷ b ∷ l)
+
+-- white space as it was before lines were folded: spaces and tabs
+abbrev pub Blanks : List ℕ → Type 0
+Blanks l = Any isBlank l
 
 abbrev pub Token : List ℕ → Type 0
 Token l = Some isToken l
@@ -44,29 +49,31 @@ pub data Setting : List ℕ → Type 0 where
   token : {t : List ℕ} → Token t → Setting t
   quoted : {t : List ℕ} → Text t → Setting (code "\"" ∷ (t ++ (code "\"" ∷ [])))
 
+-- What follows is over any white space W, so that the rule with folds and the one without are two cases of it.
+
 -- a parameter after its semicolon: token, or token = setting
-pub data Param : List ℕ → Type 0 where
-  bare : {x t : List ℕ} → White x → Token t → Param (x ++ t)
-  set : {x t y z v : List ℕ} → White x → Token t → White y → White z → Setting v
-      → Param (x ++ (t ++ (y ++ (code "=" ∷ (z ++ v)))))
+pub data Param (W : List ℕ → Type 0) : List ℕ → Type 0 where
+  bare : {x t : List ℕ} → W x → Token t → Param W (x ++ t)
+  set : {x t y z v : List ℕ} → W x → Token t → W y → W z → Setting v
+      → Param W (x ++ (t ++ (y ++ (code "=" ∷ (z ++ v)))))
 
 -- any number of parameters, each after white space and a semicolon
-pub data Params : List ℕ → Type 0 where
-  done : Params []
-  param : {w p q : List ℕ} → White w → Param p → Params q → Params (w ++ (code ";" ∷ (p ++ q)))
+pub data Params (W : List ℕ → Type 0) : List ℕ → Type 0 where
+  done : Params W []
+  param : {w p q : List ℕ} → W w → Param W p → Params W q → Params W (w ++ (code ";" ∷ (p ++ q)))
 
 -- an entry and its URI
-pub data Entry : List ℕ → List ℕ → Type 0 where
-  entry : {u p : List ℕ} → Uri u → Params p → Entry (code "<" ∷ (u ++ (code ">" ∷ p))) u
+pub data Entry (W : List ℕ → Type 0) : List ℕ → List ℕ → Type 0 where
+  entry : {u p : List ℕ} → Uri u → Params W p → Entry W (code "<" ∷ (u ++ (code ">" ∷ p))) u
 
 -- a value and its URIs in order: one or more entries with commas between, white space round each
-pub data Value : List ℕ → List (List ℕ) → Type 0 where
-  last : {w e x u : List ℕ} → White w → Entry e u → White x → Value (w ++ (e ++ x)) (u ∷ [])
-  comma : {w e x u v : List ℕ} {us : List (List ℕ)} → White w → Entry e u → White x → Value v us
-      → Value (w ++ (e ++ (x ++ (code "," ∷ v)))) (u ∷ us)
+pub data Value (W : List ℕ → Type 0) : List ℕ → List (List ℕ) → Type 0 where
+  last : {w e x u : List ℕ} → W w → Entry W e u → W x → Value W (w ++ (e ++ x)) (u ∷ [])
+  comma : {w e x u v : List ℕ} {us : List (List ℕ)} → W w → Entry W e u → W x → Value W v us
+      → Value W (w ++ (e ++ (x ++ (code "," ∷ v)))) (u ∷ us)
 
 -- what stands before the URI of entry k, counted from 0: k entries with a comma after each, and its bracket
-pub data Before : ℕ → List ℕ → Type 0 where
-  bracket : {w : List ℕ} → White w → Before 0 (w ++ (code "<" ∷ []))
-  entries : {w e x u b : List ℕ} {k : ℕ} → White w → Entry e u → White x → Before k b
-      → Before (suc k) (w ++ (e ++ (x ++ (code "," ∷ b))))
+pub data Before (W : List ℕ → Type 0) : ℕ → List ℕ → Type 0 where
+  bracket : {w : List ℕ} → W w → Before W 0 (w ++ (code "<" ∷ []))
+  entries : {w e x u b : List ℕ} {k : ℕ} → W w → Entry W e u → W x → Before W k b
+      → Before W (suc k) (w ++ (e ++ (x ++ (code "," ∷ b))))

@@ -2,7 +2,7 @@
 -- Past the end the byte at a position counts as 0, which no rule names.
 -- Assumes nothing.
 use Prim.Native.Nat.{ℕ, zero, suc, _+_, _-_}
-use mathlib.Core.Bool.{cond}
+use mathlib.Core.Bool.{Bool, cond, _&&_}
 use mathlib.Core.List.{List, []}
 use lib.ListN.{length, getD}
 use lib.Dec.{leb, eqb}
@@ -22,9 +22,17 @@ use Rattle.alert_info.specs.declared.alert_param.Found.the-variants.{Las
 
 -- White space.
 
--- how many bytes of white space stand right at a position: 1 for a space or a tab, else 0
+-- CR (13), LF (10) and a space or a tab
+abbrev pub foldAt : List ℕ → ℕ → Bool
+foldAt s at = eqb (getD s at 0) 13 && (eqb (getD s (at + 1) 0) 10 && isBlank (getD s (at + 2) 0))
+
+-- how long the fold at a position is: 3, or 0 where there is none
+abbrev pub foldLength : List ℕ → ℕ → ℕ
+foldLength s at = cond (foldAt s at) 3 0
+
+-- how many bytes of white space stand right at a position: 1 for a space or a tab, 3 for a fold, else 0
 unfoldable pub blankAt : List ℕ → ℕ → ℕ
-blankAt s at = cond (isBlank (getD s at 0)) 1 0
+blankAt s at = cond (isBlank (getD s at 0)) 1 (foldLength s at)
 
 abbrev pub blankMove : ℕ → ℕ → Move ℕ
 blankMove at zero = halt at

@@ -10,7 +10,7 @@ ghost use Prim.Native.Nat.{_<_, _≤_, _+_};
 ghost use lib.ListN.{length, getD};
 ghost use Rattle.alert_info.specs.Bytes.{inClass, Classes};
 ghost use Rattle.alert_info.specs.Walk.{runAt, fourAt};
-ghost use Rattle.alert_info.specs.Parts.{blankAt, whiteAt, tokenAt, escapeByte, quoteAt, quotedAt};
+ghost use Rattle.alert_info.specs.Parts.{foldLength, whiteAt, tokenAt, escapeByte, quoteAt, quotedAt};
 
 // A position in a value. Its methods hand back the cursor after what they pass.
 pub struct Cursor {
@@ -84,32 +84,64 @@ impl Cursor {
         Cursor { at }
     }
 
-    // How many bytes of white space stand right at the cursor: 1 for a space or a tab, else 0.
-    fn blank(self, classes: &[u8; 256], s: &[u8]) -> usize
-        requires { ⌜ Classes (now classes) ⌝ }
-        ensures { λ r. ⌜ r ≡ blankAt (now (s .entry)) (self .at) ⌝ }
+    // How long the fold at a CR is: 3 if LF and then a space or a tab follow it, else 0.
+    fn fold(self, classes: &[u8; 256], s: &[u8]) -> usize
+        requires { ⌜ Classes (now classes) × (getD (now s) (self .at) 0 ≡ 13) ⌝ }
+        ensures { λ r. ⌜ r ≡ foldLength (now (s .entry)) (self .at) ⌝ }
     {
         let at = self.at;
-        if s.len() <= at {
+        if s.len() - at < 3 {
             return 0;
         }
-        if has(classes, s[at], BLANK) { 1 } else { 0 }
+        if s[at + 1] != b'\n' {
+            return 0;
+        }
+        if has(classes, s[at + 2], BLANK) { 3 } else { 0 }
     }
 
-    // Past white space, also where there is none.
-    pub(crate) fn white(self, classes: &[u8; 256], s: &[u8]) -> Cursor
+    // Past white space that may begin here.
+    fn blanks(self, classes: &[u8; 256], s: &[u8]) -> Cursor
         requires { ⌜ Classes (now classes) ⌝ }
         ensures { λ r. ⌜ r .at ≡ whiteAt (now (s .entry)) (self .at) ⌝ }
     {
         let mut at = self.at;
-        loop {
+        while at < s.len() {
             let c = Cursor { at };
-            let n = c.blank(classes, s);
+            if s[at] == b' ' {
+                at += 1;
+                continue;
+            }
+            if b' ' < s[at] {
+                return c;
+            }
+            if s[at] == b'\t' {
+                at += 1;
+                continue;
+            }
+            if s[at] != b'\r' {
+                return c;
+            }
+            let n = c.fold(classes, s);
             if n == 0 {
                 return c;
             }
             at += n;
         }
+        Cursor { at }
+    }
+
+    // Past white space, also where there is none, which is the usual case: one comparison tells it.
+    pub(crate) fn white(self, classes: &[u8; 256], s: &[u8]) -> Cursor
+        requires { ⌜ Classes (now classes) ⌝ }
+        ensures { λ r. ⌜ r .at ≡ whiteAt (now (s .entry)) (self .at) ⌝ }
+    {
+        let at = self.at;
+        if at < s.len() {
+            if b' ' < s[at] {
+                return self;
+            }
+        }
+        self.blanks(classes, s)
     }
 
     // Past a token.

@@ -101,7 +101,8 @@ fn without_line_end(text: &[u8]) -> usize
     last
 }
 
-// The value that argument i is, if it begins with `<`; else the value in the file that it names, without a line end behind it.
+// The value that argument i is, if it begins with `<`; else the value in the file that it names, folded
+// lines as they stand, without a line end behind it.
 pub fn value(i: usize, buf: &mut [u8]) -> Got
     ensures { λ r. ⌜ Counts (r .n) (now (buf .exit)) ⌝ }
 {

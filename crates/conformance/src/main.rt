@@ -51,4 +51,5 @@ fn main() {
     answer_file(b"plain.txt");
     answer_file(b"walk.txt");
     answer_file(b"draft.txt");
+    answer_file(b"folded.txt");
 }

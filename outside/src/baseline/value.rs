@@ -48,8 +48,15 @@ fn pass(value: &[u8], mut at: usize, class: u8) -> usize {
     at
 }
 
-fn pass_white(value: &[u8], at: usize) -> usize {
-    pass(value, at, WHITE)
+/// Past spaces, tabs and folds: CR, LF and a space or a tab.
+fn pass_white(value: &[u8], mut at: usize) -> usize {
+    loop {
+        at = pass(value, at, WHITE);
+        match value.get(at..) {
+            Some([b'\r', b'\n', b' ' | b'\t', ..]) => at += 3,
+            _ => return at,
+        }
+    }
 }
 
 /// Past a run of at least one byte of the class.

@@ -4,7 +4,7 @@ use super::{damage, Random};
 
 fn white(random: &mut Random) -> Vec<u8> {
     let length = if random.percent(70) { 0 } else { random.between(1, 3) };
-    (0..length).map(|_| *random.pick(b" \t")).collect()
+    (0..length).flat_map(|_| random.pick(&[" ", "\t", " ", "\t", "\r\n ", "\r\n\t"]).bytes()).collect()
 }
 
 fn token(random: &mut Random) -> Vec<u8> {
@@ -124,6 +124,14 @@ fn lengthen(random: &mut Random, value: &mut Vec<u8>, bytes: usize) {
     }
 }
 
+/// A fold, or a part of one, anywhere.
+fn fold(random: &mut Random, value: &mut Vec<u8>) {
+    let at = random.below(value.len() + 1);
+    let bytes =
+        random.pick(&["\r\n ", "\r\n\t", "\r\n", "\r", "\n", "\r ", "\n ", "\r\n\r\n ", "\r\r\n ", "\n\r "]).bytes();
+    value.splice(at..at, bytes);
+}
+
 /// Mostly a value that fits; sometimes at a limit, one past it, or damaged.
 pub fn value(random: &mut Random, draft: &Draft) -> Vec<u8> {
     let count = match random.below(40) {
@@ -142,6 +150,13 @@ pub fn value(random: &mut Random, draft: &Draft) -> Vec<u8> {
             lengthen(random, &mut value, bytes);
         }
         _ => {}
+    }
+    if random.percent(10) {
+        fold(random, &mut value);
+    }
+    if random.percent(5) {
+        let end = random.pick(&["\r\n ", "\r\n", "\r", "\n"]).bytes();
+        value.extend(end);
     }
     if random.percent(15) {
         damage(random, &mut value);

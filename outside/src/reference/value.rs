@@ -1,9 +1,9 @@
 //! The field value, read byte by byte by a state machine.
 //!
-//! White space is any run of spaces and tabs, also empty: at both ends of the value, before `<`, after `>`, and round
-//! each comma, semicolon and equals sign. A value is one or more entries with commas between. An entry is `<`, a URI,
-//! `>`, then any number of parameters, each a semicolon, a token, and optionally an equals sign with a token or
-//! quoted string.
+//! White space is any run of spaces, tabs and folds, also empty: at both ends of the value, before `<`, after `>`, and
+//! round each comma, semicolon and equals sign. A fold is CR, LF and a space or a tab. A value is one or more entries
+//! with commas between. An entry is `<`, a URI, `>`, then any number of parameters, each a semicolon, a token, and
+//! optionally an equals sign with a token or quoted string.
 
 /// Where in the rule the byte before stands.
 #[derive(Clone, Copy, PartialEq)]
@@ -93,12 +93,41 @@ fn next(at: At, b: u8, empty: bool) -> Option<At> {
     }
 }
 
+/// Where the rule stands after white space, or nothing if none can come here.
+fn after_white(at: At) -> Option<At> {
+    match at {
+        At::BeforeEntry | At::EntryDone | At::BeforeName | At::NameDone | At::BeforeSetting => Some(at),
+        At::Name => Some(At::NameDone),
+        At::Setting => Some(At::EntryDone),
+        At::Uri | At::Quoted | At::Escaped => None,
+    }
+}
+
 /// The places of the URIs, start and end, or nothing if the value does not fit the rule.
 fn fit(value: &[u8]) -> Option<Vec<(usize, usize)>> {
     let mut at = At::BeforeEntry;
+    // how many bytes of a fold stand right before
+    let mut fold = 0;
     let mut start = 0;
     let mut places = Vec::new();
     for (i, &b) in value.iter().enumerate() {
+        match (fold, b) {
+            (0, b'\r') => {
+                at = after_white(at)?;
+                fold = 1;
+                continue;
+            }
+            (1, b'\n') => {
+                fold = 2;
+                continue;
+            }
+            (2, b) if is_white(b) => {
+                fold = 0;
+                continue;
+            }
+            (0, _) => {}
+            _ => return None,
+        }
         let then = next(at, b, start == i)?;
         if at == At::BeforeEntry && then == At::Uri {
             start = i + 1;
@@ -109,7 +138,7 @@ fn fit(value: &[u8]) -> Option<Vec<(usize, usize)>> {
         at = then;
     }
     match at {
-        At::EntryDone | At::Name | At::NameDone | At::Setting => Some(places),
+        At::EntryDone | At::Name | At::NameDone | At::Setting if fold == 0 => Some(places),
         _ => None,
     }
 }
