@@ -5,7 +5,7 @@ use node_step::State;
 ghost use mathlib.Core.Path.{_≡_};
 ghost use Prim.Native.Nat.{_-_};
 ghost use lib.ListN.{length};
-ghost use Rattle.carried_record.specs.Record.{mostOf, statusesFit, carriedIn, carriedBytes};
+ghost use Rattle.carried_record.specs.Record.{fresh as freshRecord, mostOf, statusesFit, carriedIn, carriedBytes};
 ghost use Rattle.carried_record.specs.Bits.{fitsBy, bitOf, shutBits, stateWith, carriedWith};
 
 // The signal, a status for each of 8 categories (0 open, 1 shut), and how many values there were. All zero before the
@@ -14,6 +14,17 @@ pub struct Carried {
     pub signal: u8,
     pub status: [u8; 8],
     pub values: u8,
+}
+
+// Before the first value.
+pub fn fresh() -> Carried
+    ensures { λ r. ⌜ r ≡ freshRecord ⌝ }
+{
+    Carried {
+        signal: 0,
+        status: [0u8; 8],
+        values: 0,
+    }
 }
 
 // The largest status of category c.

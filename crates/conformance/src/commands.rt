@@ -64,7 +64,7 @@ pub fn table(line: &[u8]) {
     print::number(signal_table::refusal(&t[..n]) as usize);
 }
 
-fn resolution(r: Resolution) {
+pub fn resolution(r: Resolution) {
     print::number(r.refusal as usize);
     print::next(r.signal as usize);
     print::next(r.used as usize);

@@ -1,6 +1,7 @@
 // Answers the cases of data/, one line each. A case is a line `COMMAND = ANSWER`, bytes in hex, `-` for none; what stands
 // after the equals sign is not read here. Lines that begin with `#`, and empty ones, are no cases.
 mod commands;
+mod fields;
 mod print;
 
 // The answer to one line.
@@ -14,6 +15,7 @@ fn answer(line: &[u8]) {
         b'b' => commands::build(line),
         b'c' => commands::check(line),
         b'w' => commands::walk(line),
+        b'f' => fields::feed(line),
         _ => return,
     }
     print::text(b"\n");
@@ -52,4 +54,5 @@ fn main() {
     answer_file(b"walk.txt");
     answer_file(b"draft.txt");
     answer_file(b"folded.txt");
+    answer_file(b"fields.txt");
 }
