@@ -225,14 +225,14 @@ fn lesser(a: usize, b: usize) -> usize
     b
 }
 
-// How many bytes two texts have in common from a byte on, up to which they agree, one by one.
-fn common_bytes(a: &[u8], b: &[u8], from: usize) -> usize
-    ensures { λ r. ⌜ r ≡ from + common (drop from (now (a .entry))) (drop from (now (b .entry))) ⌝ }
+// From a byte on, up to which two texts agree: the first at which they do not, or that one of them lacks. One by one.
+fn common_bytes(p: &[u8], w: &[u8], from: usize) -> usize
+    ensures { λ r. ⌜ r ≡ from + common (drop from (now (p .entry))) (drop from (now (w .entry))) ⌝ }
 {
-    let n = lesser(a.len(), b.len());
+    let n = lesser(p.len(), w.len());
     let mut i = from;
     while i < n {
-        if a[i] == b[i] {
+        if p[i] == w[i] {
             i += 1;
         } else {
             return i;
@@ -241,20 +241,20 @@ fn common_bytes(a: &[u8], b: &[u8], from: usize) -> usize
     i
 }
 
-// The same, with a look at eight bytes at once.
-pub fn common_from(a: &[u8], b: &[u8], from: usize) -> usize
-    ensures { λ r. ⌜ r ≡ from + common (drop from (now (a .entry))) (drop from (now (b .entry))) ⌝ }
+// The same, eight bytes at once.
+pub fn common_from(p: &[u8], w: &[u8], from: usize) -> usize
+    ensures { λ r. ⌜ r ≡ from + common (drop from (now (p .entry))) (drop from (now (w .entry))) ⌝ }
 {
-    let n = lesser(a.len(), b.len());
+    let n = lesser(p.len(), w.len());
     let mut i = from;
     while i < n {
         if n - i < 8 {
-            return common_bytes(a, b, i);
+            return common_bytes(p, w, i);
         }
-        if word_at(a, i) == word_at(b, i) {
+        if word_at(p, i) == word_at(w, i) {
             i += 8;
         } else {
-            return common_bytes(a, b, i);
+            return common_bytes(p, w, i);
         }
     }
     i

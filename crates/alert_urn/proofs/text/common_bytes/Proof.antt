@@ -9,10 +9,10 @@ use Rattle.alert_urn.proofs.text.common_bytes.Statement.{statement}
 use Rattle.alert_urn.proofs.text.common_bytes.Tie as tie
 
 abbrev Inv-loop : tie.InvT-loop
-Inv-loop a b from n i₀ i = from + common (drop from a) (drop from b) ≡ i + common (drop i a) (drop i b)
+Inv-loop p w from n i₀ i = from + common (drop from p) (drop from w) ≡ i + common (drop i p) (drop i w)
 
 abbrev μ-loop : tie.MeasureT-loop
-μ-loop a b from n i₀ i = length a - i
+μ-loop p w from n i₀ i = length p - i
 
 lesser-requires : tie.Need-lesser-requires Inv-loop μ-loop
 lesser-requires c κs = search needs
@@ -34,15 +34,15 @@ loop-less c = omega (arith, c .before .before .before .before .before .lesser .e
 
 loop-again : tie.Need-loop-again Inv-loop μ-loop
 loop-again c = let a = c .before .before .before .before .before .before .before .before .args in
-    common-more (a .a .now) (a .b .now) (c .before .before .before .before .loop .i) (c .before .before .before .before .loop .inv) (omega (arith, c .before .before .before .before .before .lesser .ensures)) (omega (arith, c .before .before .before .before .before .lesser .ensures)) (c .if1 .taken)
+    common-more (a .p .now) (a .w .now) (c .before .before .before .before .loop .i) (c .before .before .before .before .loop .inv) (omega (arith, c .before .before .before .before .before .lesser .ensures)) (omega (arith, c .before .before .before .before .before .lesser .ensures)) (c .if1 .taken)
 
 returns : tie.Need-returns Inv-loop μ-loop
 returns c = let a = c .before .before .before .before .before .before .before .before .args in
-    common-less (a .a .now) (a .b .now) (c .before .before .before .before .loop .i) (c .before .before .before .before .loop .inv) (omega (arith, c .before .before .before .before .before .lesser .ensures)) (omega (arith, c .before .before .before .before .before .lesser .ensures)) (c .if1 .left)
+    common-less (a .p .now) (a .w .now) (c .before .before .before .before .loop .i) (c .before .before .before .before .loop .inv) (omega (arith, c .before .before .before .before .before .lesser .ensures)) (omega (arith, c .before .before .before .before .before .lesser .ensures)) (c .if1 .left)
 
 returns-2 : tie.Need-returns-2 Inv-loop μ-loop
 returns-2 c = let a = c .before .before .before .before .before .args in
-    common-end (a .a .now) (a .b .now) (c .before .loop .i) (c .before .loop .inv) (omega (arith, c .before .before .lesser .ensures))
+    common-end (a .p .now) (a .w .now) (c .before .loop .i) (c .before .loop .inv) (omega (arith, c .before .before .lesser .ensures))
 
 pub common-bytes-spec : {M : Type 1} → statement M
 common-bytes-spec =

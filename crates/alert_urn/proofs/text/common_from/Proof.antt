@@ -9,10 +9,10 @@ use Rattle.alert_urn.proofs.text.common_from.Statement.{statement}
 use Rattle.alert_urn.proofs.text.common_from.Tie as tie
 
 abbrev Inv-loop : tie.InvT-loop
-Inv-loop a b from n i₀ i = from + common (drop from a) (drop from b) ≡ i + common (drop i a) (drop i b)
+Inv-loop p w from n i₀ i = from + common (drop from p) (drop from w) ≡ i + common (drop i p) (drop i w)
 
 abbrev μ-loop : tie.MeasureT-loop
-μ-loop a b from n i₀ i = n - i
+μ-loop p w from n i₀ i = n - i
 
 lesser-requires : tie.Need-lesser-requires Inv-loop μ-loop
 lesser-requires c κs = search needs
@@ -43,7 +43,7 @@ loop-less c = omega (arith, c .before .before .before .before .before .before .l
 
 loop-again : tie.Need-loop-again Inv-loop μ-loop
 loop-again c = let a = c .before .before .before .before .before .before .before .before .before .args in
-    commons-more (a .a .now) (a .b .now) 8 (c .before .before .before .before .before .loop .i) (λ k. omega (arith, c .before .before .before .before .before .before .before .before .shared-slice-known .given k)) (λ k. omega (arith, c .before .before .before .before .before .before .before .shared-slice-known2 .given k)) (c .before .before .before .before .before .loop .inv) (omega (arith, c .before .before .before .before .before .before .lesser .ensures)) (omega (arith, c .before .before .before .before .before .before .lesser .ensures)) (sym (c .before .before .word-at .ensures) ∙ c .if2 .taken ∙ c .before .word-at2 .ensures)
+    commons-more (a .p .now) (a .w .now) 8 (c .before .before .before .before .before .loop .i) (λ k. omega (arith, c .before .before .before .before .before .before .before .before .shared-slice-known .given k)) (λ k. omega (arith, c .before .before .before .before .before .before .before .shared-slice-known2 .given k)) (c .before .before .before .before .before .loop .inv) (omega (arith, c .before .before .before .before .before .before .lesser .ensures)) (omega (arith, c .before .before .before .before .before .before .lesser .ensures)) (sym (c .before .before .word-at .ensures) ∙ c .if2 .taken ∙ c .before .word-at2 .ensures)
 
 common-bytes-requires-2 : tie.Need-common-bytes-requires-2 Inv-loop μ-loop
 common-bytes-requires-2 c κs = search needs
@@ -52,7 +52,7 @@ returns-2 : tie.Need-returns-2 Inv-loop μ-loop
 returns-2 c = c .common-bytes2 .ensures ∙ sym (c .before .before .before .before .before .before .loop .inv)
 
 returns-3 : tie.Need-returns-3 Inv-loop μ-loop
-returns-3 c = let a = c .before .before .before .before .before .args in common-end (a .a .now) (a .b .now) (c .before .loop .i) (c .before .loop .inv) (omega (arith, c .before .before .lesser .ensures))
+returns-3 c = let a = c .before .before .before .before .before .args in common-end (a .p .now) (a .w .now) (c .before .loop .i) (c .before .loop .inv) (omega (arith, c .before .before .lesser .ensures))
 
 pub common-from-spec : {M : Type 1} → statement M
 common-from-spec =
