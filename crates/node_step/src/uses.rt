@@ -18,12 +18,12 @@ pub enum Use {
 
 // A search for a path: the deepest node met that is the path or above it, whether it is the path, and the bytes compared;
 // how many bytes the last node met has in common with the path; and whether the search ends there, at a leaf.
-pub struct Search {
-    pub ends: bool,
-    pub node: u8,
-    pub whole: bool,
-    pub same: usize,
-    pub compared: u32,
+struct Search {
+    ends: bool,
+    node: u8,
+    whole: bool,
+    same: usize,
+    compared: u32,
 }
 
 // A number as an index.
