@@ -27,7 +27,7 @@ struct Search {
 }
 
 // A number as an index.
-fn wide8(x: u8) -> usize
+pub(crate) fn wide8(x: u8) -> usize
     ensures { λ r. ⌜ (r ≡ x) × (r ≤ 255) ⌝ }
 {
     x as usize
@@ -63,7 +63,7 @@ fn find_name<'a>(
 }
 
 // The path of the node at i, in the table's bytes.
-fn path_at<'a, 'b>(t: &'a [u8], at: &'b [u16; 64], len: &'b [u8; 64], i: usize) -> &'a [u8]
+pub(crate) fn path_at<'a, 'b>(t: &'a [u8], at: &'b [u16; 64], len: &'b [u8; 64], i: usize) -> &'a [u8]
     requires { ⌜ i < 64 ⌝ }
     ensures { λ r. ⌜ now r ≡ stretch (now (t .entry)) (now (at .entry)) (now (len .entry)) i ⌝ }
     ensures short { λ r. ⌜ length (now r) ≤ 255 ⌝ }
@@ -175,7 +175,7 @@ fn search_nodes<'a>(
 }
 
 // n, or m if that is less.
-fn at_most(n: usize, m: usize) -> usize
+pub fn at_most(n: usize, m: usize) -> usize
     ensures { λ r. ⌜ (r ≡ fewer n m) × (r ≤ m) ⌝ }
 {
     if n <= m {
