@@ -12,7 +12,9 @@ use Rattle.alert_info.specs.Value.{Reading, unfit, spans, readingOf, par
 use Rattle.alert_info.specs.declared.alert_param.Span.{Span}
 use Rattle.alert_info.specs.Grammar.{Value}
 use Rattle.alert_info.specs.Claims.{Agrees, OneReading, UnfitIsNoValue, Given, RefusedExactly, AcceptedList}
+use Rattle.alert_info.specs.Claims.{RefusalNumbers, RefusedList}
 use Rattle.alert_info.proofs.ReadingLaws.{refusal-long, refusal-unfit, refusal-many, refusal-none, accepted-uris}
+use Rattle.alert_info.proofs.ReadingLaws.{refused-uris}
 use Rattle.alert_info.proofs.Sound.{sound}
 use Rattle.alert_info.proofs.Complete.{complete}
 
@@ -76,9 +78,22 @@ module _ (s : List ℕ) where
 pub refused-exactly : RefusedExactly
 refused-exactly s n = ((λ e. subst (Given s) e (holds s (ltb 4096 (length s)) refl)), given s n)
 
+pub refusal-numbers : RefusalNumbers
+refusal-numbers s = go (refusalOf s) (holds s (ltb 4096 (length s)) refl)
+  where
+    go : (n : ℕ) → Given s n → n ≤ 3
+    go zero g = omega arith
+    go (suc zero) g = omega arith
+    go (suc (suc zero)) g = omega arith
+    go (suc (suc (suc zero))) g = omega arith
+    go (suc (suc (suc (suc n)))) g = absurd g
+
 pub accepted-list : AcceptedList
 accepted-list s e =
     let g = subst (Given s) e (holds s (ltb 4096 (length s)) refl) in
     let a = complete s (g .1) (g .2) in
     let l : length (a .0) ≤ 64 = omega (arith, g .3, length-map (a .0) (partOf s), ap length (a .2)) in
     subst (Value s) (sym (accepted-uris s (g .0) (readingOf s) refl (a .0) (a .1) l ∙ a .2)) (g .2)
+
+pub refused-list : RefusedList
+refused-list s n = refused-uris s n

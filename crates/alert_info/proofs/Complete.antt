@@ -4,11 +4,11 @@ use mathlib.Core.Path.{_≡_, refl, sym, ap, _∙_, subst}
 use mathlib.Core.Logic.{_⊎_, ⊎-elim, inl, inr}
 use mathlib.Core.Bool.{Bool, true, false, _||_}
 use mathlib.Core.List.{List, [], _∷_, _++_, map, append-assoc}
-use Prim.Native.Nat.{ℕ, suc, _+_, _-_, _≤_, _<_}
-use native.Mathlib.Nat.{add-zero, add-sub-cancel-left}
+use Prim.Native.Nat.{ℕ, zero, suc, _+_, _-_, _≤_, _<_}
+use native.Mathlib.Nat.{add-zero}
 use native.Mathlib.Omega.{arith}
 use lib.Dec.{T, eqb}
-use lib.ListN.{length, getD, drop, take, length-drop}
+use lib.ListN.{length, getD, drop, take, length-drop, length-append}
 use lib.Seq.{drop-drop, drop-append-seam, take-append-seam, getD-drop}
 use borrow.Author.Tests.{eqb-true}
 use Rattle.alert_info.specs.Bytes.{isBlank, isUri, isToken, isText, isEscapable}
@@ -16,8 +16,9 @@ use Rattle.alert_info.specs.Walk.{run, runAt}
 use Rattle.alert_info.specs.Parts.{blankAt, whiteAt, tokenAt, quoteAt, quotedFrom}
 use Rattle.alert_info.specs.Parts.{settingAt, paramAt, followingAt, endingAt, spanTo, found}
 use Rattle.alert_info.specs.Parts.{entryAt}
-use Rattle.alert_info.specs.Value.{spans, add, readingFrom, readingOf, partOf}
+use Rattle.alert_info.specs.Value.{spans, add, readingFrom, readingOf, partOf, nowhere}
 use Rattle.alert_info.specs.Grammar.{Any, Some, White, Token, Text, Setting, Param, Params, Entry, Value}
+use Rattle.alert_info.specs.Grammar.{Before}
 use Rattle.alert_info.specs.Grammar as G
 use Rattle.alert_info.specs.declared.cursor.Cursor.{Cursor}
 use Rattle.alert_info.specs.declared.cursor.Quote.the-variants.{Closed}
@@ -37,7 +38,6 @@ use Rattle.alert_info.proofs.PartLaws.{following-stop, following-entry,
 use Rattle.alert_info.proofs.PartLaws.{ending-more, entry-some}
 use Rattle.alert_info.proofs.ReadingLaws.{reading-last, reading-more}
 use Rattle.alert_info.proofs.WhiteLaws.{blank-end, blank-yes, blank-no, white-stop, white-more}
-use Rattle.alert_info.proofs.Sound.{cut}
 
 to-true : (b : Bool) → T b → b ≡ true
 to-true true t = refl
@@ -52,7 +52,7 @@ module _ (s : List ℕ) (at : ℕ) where
   front-rest : (b : ℕ) (l : List ℕ) → drop at s ≡ b ∷ l → drop (at + 1) s ≡ l
   front-rest b l e = sym (drop-drop 1 at s) ∙ ap (drop 1) e
 
-  front-in : (b : ℕ) (l : List ℕ) → drop at s ≡ b ∷ l → at < length s
+  pub front-in : (b : ℕ) (l : List ℕ) → drop at s ≡ b ∷ l → at < length s
   front-in b l e = omega (arith, length-drop at s, ap length e)
 
   no-front : drop at s ≡ [] → (getD s at 0 ≡ 0) × (length s ≤ at)
@@ -66,7 +66,7 @@ module _ (s : List ℕ) (at : ℕ) where
   past w r e = sym (drop-drop (length w) at s) ∙ ap (drop (length w)) e ∙ drop-append-seam w r
 
 -- a list does not go on with a byte of a class
-abbrev Stops : (ℕ → Bool) → List ℕ → Type 0
+abbrev pub Stops : (ℕ → Bool) → List ℕ → Type 0
 Stops p [] = Unit
 Stops p (b ∷ l) = p b ≡ false
 
@@ -100,7 +100,7 @@ white-go s r h (G.blank {b = b} {l = l} t w) at e =
     let m = white-more s at 1 g (λ z. omega arith) in
     ap (λ (n : ℕ). drop n s) (m .0) ∙ white-go s r h w (at + 1) (front-rest s at b (l ++ r) e)
 
-white-past : (s : List ℕ) (at : ℕ) (w r : List ℕ) → drop at s ≡ w ++ r → White w → Stops isBlank r
+pub white-past : (s : List ℕ) (at : ℕ) (w r : List ℕ) → drop at s ≡ w ++ r → White w → Stops isBlank r
     → drop (whiteAt s at) s ≡ r
 white-past s at w r e a h = white-go s r h a at e
 
@@ -251,7 +251,7 @@ module _ (s : List ℕ) where
       )
 
 -- what may follow an entry
-abbrev Closes : List ℕ → Type 0
+abbrev pub Closes : List ℕ → Type 0
 Closes [] = Unit
 Closes (b ∷ l) = b ≡ 44
 
@@ -300,9 +300,13 @@ module _ (s : List ℕ) where
       let g = ending-more s at (followingAt s at) (n .0) refl (sym t) in
       subst (EndingTo s x) (sym (g .0)) (ending-to kq (n .0 .at) w x ww h (n .2))
 
-abbrev FoundTo : List ℕ → List ℕ → List ℕ → Found → Type 0
-FoundTo s u [] i = (p : Span) × (i ≡ Last p) × (partOf s p ≡ u)
-FoundTo s u (b ∷ v) i = (p : Span) × (c : Cursor) × (i ≡ More p c) × (partOf s p ≡ u) × (drop (c .at) s ≡ v)
+-- where the URI u of an entry lies after w and its bracket
+abbrev pub placed : ℕ → List ℕ → List ℕ → Span
+placed at w u = record { start = at + length w + 1; len = length u }
+
+abbrev pub FoundTo : List ℕ → Span → List ℕ → Found → Type 0
+FoundTo s p [] i = i ≡ Last p
+FoundTo s p (b ∷ v) i = (c : Cursor) × (i ≡ More p c) × (drop (c .at) s ≡ v)
 
 append-nil : (l : List ℕ) → l ++ [] ≡ l
 append-nil [] = refl
@@ -311,54 +315,122 @@ append-nil (b ∷ l) = ap (λ (x : List ℕ). b ∷ x) (append-nil l)
 long-enough : {p : ℕ → Bool} {u : List ℕ} → Some p u → (n : ℕ) → n ≡ n + length u → ⊥
 long-enough (G.some t a) n e = omega arith
 
-cut-exact : (s : List ℕ) (at : ℕ) (w r : List ℕ) → drop at s ≡ w ++ r → cut s at (at + length w) ≡ w
-cut-exact s at w r e = ap (λ (n : ℕ). take n (drop at s)) (add-sub-cancel-left at (length w)) ∙ ap (take (length w)) e
-    ∙ take-append-seam w r
+-- from one position to another, some bytes lie between
+pub between : (s : List ℕ) (at to : ℕ) (w r : List ℕ) → drop at s ≡ w ++ r → drop to s ≡ r → at ≤ length s → to ≤ length s
+    → to ≡ at + length w
+between s at to w r e f h k =
+    omega (arith, length-drop at s, length-drop to s, ap length e, ap length f, length-append w r)
+
+-- the place of entry k among the entries from a position: what stands before its URI, and what behind
+abbrev pub LiesFrom : List ℕ → ℕ → ℕ → List ℕ → Span → Type 0
+LiesFrom s at k u p =
+    (a : List ℕ) × (b : List ℕ) × Before k a × (drop at s ≡ a ++ (u ++ b)) ×
+    (p ≡ record { start = at + length a; len = length u })
+
+first-lies : {n u w : List ℕ} (s : List ℕ) (at : ℕ) → White w → Entry n u → (t : List ℕ)
+    → drop at s ≡ w ++ (n ++ t) → LiesFrom s at 0 u (placed at w u)
+first-lies {w = w} s at ww (G.entry {u = u} {p = p} ku kp) t e =
+    let q : at + length w + 1 ≡ at + length (w ++ (60 ∷ [])) = omega (arith, length-append w (60 ∷ [])) in
+    (w ++ (60 ∷ []), 62 ∷ (p ++ t), G.bracket ww, e ∙ simp append-assoc, λ i. record { start = q i; len = length u })
 
 module _ (s : List ℕ) where
-  entry-from : (at a e : ℕ) (u x : List ℕ) → cut s a e ≡ u → (t : Ending) → EndingTo s x t
-      → ((k : Ending) → t ≡ k → found (spanTo a e) k ≡ entryAt s at) → FoundTo s u x (entryAt s at)
-  entry-from at a e u [] q t h f = (spanTo a e, sym (f ValueEnd h), q)
-  entry-from at a e u (b ∷ v) q t h f = (spanTo a e, h .0, sym (f (NextEntry (h .0)) (h .1)), q, h .2)
+  entry-from : (at a e : ℕ) (p : Span) (x : List ℕ) → spanTo a e ≡ p → (t : Ending) → EndingTo s x t
+      → ((k : Ending) → t ≡ k → found (spanTo a e) k ≡ entryAt s at) → FoundTo s p x (entryAt s at)
+  entry-from at a e p [] q t h f = sym (f ValueEnd h) ∙ ap Last q
+  entry-from at a e p (b ∷ v) q t h f =
+      (h .0, sym (f (NextEntry (h .0)) (h .1)) ∙ ap (λ (y : Span). More y (h .0)) q, h .2)
 
-  entry-to : {n u : List ℕ} → Entry n u → (at : ℕ) (w x r : List ℕ) → White w → White x → Closes r
-      → drop at s ≡ w ++ (n ++ (x ++ r)) → FoundTo s u r (entryAt s at)
+  pub entry-to : {n u : List ℕ} → Entry n u → (at : ℕ) (w x r : List ℕ) → White w → White x → Closes r
+      → at ≤ length s → drop at s ≡ w ++ (n ++ (x ++ r))
+      → FoundTo s (placed at w u) r (entryAt s at) × (partOf s (placed at w u) ≡ u)
   unfolding isBlank isUri
-  entry-to (G.entry {u = u} {p = p} ku kp) at w x r ww wx h e =
+  entry-to (G.entry {u = u} {p = p} ku kp) at w x r ww wx h in-s e =
       let l = p ++ (x ++ r) in
       let d = whiteAt s at in
-      let i = white-past s at w (60 ∷ (u ++ (62 ∷ l))) (e ∙ simp append-assoc) ww refl in
+      let f : drop at s ≡ w ++ (60 ∷ (u ++ (62 ∷ l))) = e ∙ simp append-assoc in
+      let i = white-past s at w (60 ∷ (u ++ (62 ∷ l))) f ww refl in
       let j = front-rest s d 60 (u ++ (62 ∷ l)) i in
       let a = any-of isUri ku in
       let z = runAt isUri s (d + 1) in
       let n : z ≡ d + 1 + length u = run-to isUri s (d + 1) u (62 ∷ l) j refl a in
       let k = run-past isUri s (d + 1) u (62 ∷ l) j refl a in
       let ne : d + 1 ≡ z → ⊥ = λ q. long-enough ku (d + 1) (q ∙ n) in
-      entry-from at (d + 1) z u r (ap (cut s (d + 1)) n ∙ cut-exact s (d + 1) u (62 ∷ l) j) (endingAt s (z + 1))
-      (ending-to s kp (z + 1) x r wx h (front-rest s z 62 l k))
-      (λ t q. entry-some s at d refl (getD s d 0) refl (front-byte s d 60 (u ++ (62 ∷ l)) i) z refl ne
-      (getD s z 0) refl (front-byte s z 62 l k) (endingAt s (z + 1)) t refl q)
+      let g = front-in s d 60 (u ++ (62 ∷ l)) i in
+      let at-d : d ≡ at + length w = between s at d w (60 ∷ (u ++ (62 ∷ l))) f i in-s (omega arith) in
+      let start : d + 1 ≡ at + length w + 1 = omega arith in
+      let len : z - (d + 1) ≡ length u = omega arith in (
+        entry-from at (d + 1) z (placed at w u) r (λ o. record { start = start o; len = len o }) (endingAt s (z + 1))
+            (ending-to s kp (z + 1) x r wx h (front-rest s z 62 l k))
+            (λ t q. entry-some s at d refl (getD s d 0) refl (front-byte s d 60 (u ++ (62 ∷ l)) i) z refl ne
+            (getD s z 0) refl (front-byte s z 62 l k) (endingAt s (z + 1)) t refl q),
+        ap (λ (m : ℕ). take (length u) (drop m s)) (sym start) ∙ ap (take (length u)) j ∙ take-append-seam u (62 ∷ l),
+      )
 
-  value-to : {l : List ℕ} {us : List (List ℕ)} → Value l us → (at : ℕ) → drop at s ≡ l
-      → (ps : List Span) × (readingFrom s at ≡ spans ps) × (map (partOf s) ps ≡ us)
-  value-to (G.last {w = w} {e = n} {x = x} {u = u} ww ke wx) at e =
+  -- each part lies where the grammar has it
+  abbrev pub AllLie : ℕ → List (List ℕ) → List Span → Type 0
+  AllLie at us ps = (k : ℕ) → k < length us → LiesFrom s at k (getD us k []) (getD ps k nowhere)
+
+  -- one entry and its comma before the rest
+  later-lies : (at to k : ℕ) (w n x v u y : List ℕ) (p : Span) → White w → Entry n u → White x
+      → drop at s ≡ w ++ (n ++ (x ++ (44 ∷ v))) → drop to s ≡ v → at ≤ length s → to ≤ length s
+      → LiesFrom s to k y p → LiesFrom s at (suc k) y p
+  later-lies at to k w n x v u y p ww kn wx e f h i (a, b, g, q, o) =
+      let c = w ++ (n ++ (x ++ (44 ∷ a))) in
+      let d : drop at s ≡ (w ++ (n ++ (x ++ (44 ∷ [])))) ++ v = e ∙ simp append-assoc in
+      let t = between s at to (w ++ (n ++ (x ++ (44 ∷ [])))) v d f h i in
+      let z : to + length a ≡ at + length c = omega (
+        arith,
+        length-append w (n ++ (x ++ (44 ∷ []))),
+        length-append n (x ++ (44 ∷ [])),
+        length-append x (44 ∷ []),
+        length-append w (n ++ (x ++ (44 ∷ a))),
+        length-append n (x ++ (44 ∷ a)),
+        length-append x (44 ∷ a),
+      ) in (
+        c,
+        b,
+        G.entries ww kn wx g,
+        e ∙ ap (λ (l : List ℕ). w ++ (n ++ (x ++ (44 ∷ l)))) (sym f ∙ q) ∙ simp append-assoc,
+        o ∙ λ j. record { start = z j; len = length y },
+      )
+
+  value-to : {l : List ℕ} {us : List (List ℕ)} → Value l us → (at : ℕ) → at ≤ length s → drop at s ≡ l
+      → (ps : List Span) × (readingFrom s at ≡ spans ps) × (map (partOf s) ps ≡ us) × AllLie at us ps
+  value-to (G.last {w = w} {e = n} {x = x} {u = u} ww ke wx) at h e =
       let q : drop at s ≡ w ++ (n ++ (x ++ [])) = e ∙ ap (λ (y : List ℕ). w ++ (n ++ y)) (sym (append-nil x)) in
-      let i = entry-to ke at w x [] ww wx tt q in (
-        i .0 ∷ [],
-        reading-last s at (entryAt s at) refl (i .0) (i .1) .0,
-        ap (λ (y : List ℕ). y ∷ []) (i .2),
+      let i = entry-to ke at w x [] ww wx tt h q in (
+        placed at w u ∷ [],
+        reading-last s at (entryAt s at) refl (placed at w u) (i .0) .0,
+        ap (λ (y : List ℕ). y ∷ []) (i .1),
+        only,
       )
-  value-to (G.comma {w = w} {e = n} {x = x} {u = u} {v = v} {us = us} ww ke wx kv) at e =
-      let i = entry-to ke at w x (44 ∷ v) ww wx refl e in
-      let m = value-to kv (i .1 .at) (i .4) in
-      let g = reading-more s at (entryAt s at) refl (i .0) (i .1) (i .2) in (
-        i .0 ∷ m .0,
-        g .0 ∙ ap (add (i .0)) (m .1),
-        ap (λ (y : List ℕ). y ∷ map (partOf s) (m .0)) (i .3) ∙ ap (λ (ys : List (List ℕ)). u ∷ ys) (m .2),
+    where
+      only : AllLie at (u ∷ []) (placed at w u ∷ [])
+      only zero m = first-lies s at ww ke x e
+      only (suc k) m = absurd (omega arith)
+  value-to (G.comma {w = w} {e = n} {x = x} {u = u} {v = v} {us = us} ww ke wx kv) at h e =
+      let i = entry-to ke at w x (44 ∷ v) ww wx refl h e in
+      let c = i .0 .0 in
+      let g = reading-more s at (entryAt s at) refl (placed at w u) c (i .0 .1) in
+      let m = value-to kv (c .at) (g .2) (i .0 .2) in (
+        placed at w u ∷ m .0,
+        g .0 ∙ ap (add (placed at w u)) (m .1),
+        ap (λ (y : List ℕ). y ∷ map (partOf s) (m .0)) (i .1) ∙ ap (λ (ys : List (List ℕ)). u ∷ ys) (m .2),
+        all (c .at) (i .0 .2) (g .2) (m .0) (m .3),
       )
+    where
+      all : (to : ℕ) → drop to s ≡ v → to ≤ length s → (ps : List Span) → AllLie to us ps
+          → AllLie at (u ∷ us) (placed at w u ∷ ps)
+      all to f i ps o zero j = first-lies s at ww ke (x ++ (44 ∷ v)) e
+      all to f i ps o (suc k) j =
+          later-lies at to k w n x v u (getD us k []) (getD ps k nowhere) ww ke wx e f h i (o k (omega arith))
 
-  -- a value in the grammar is read, and the parts that are read are its URIs
+  -- a value in the grammar is read, the parts that are read are its URIs, and each lies where the grammar has it
+  pub complete-places : (us : List (List ℕ)) → Value s us
+      → (ps : List Span) × (readingOf s ≡ spans ps) × (map (partOf s) ps ≡ us) × AllLie 0 us ps
+  unfolding readingOf
+  complete-places us k = value-to k 0 (omega arith) refl
+
   pub complete : (us : List (List ℕ)) → Value s us
       → (ps : List Span) × (readingOf s ≡ spans ps) × (map (partOf s) ps ≡ us)
-  unfolding readingOf
-  complete us k = value-to k 0 refl
+  complete us k = let c = complete-places us k in (c .0, c .1, c .2)

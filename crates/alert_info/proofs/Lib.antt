@@ -1,9 +1,12 @@
 pub mod Agree
+pub mod ByteLaws
 mod ClassTable
 mod Complete
+pub mod EntryLaws
 pub mod Lands
 mod PartLaws
 mod PassLaws
+mod Place
 mod QuoteLaws
 pub mod ReadingLaws
 mod RunLaws

@@ -52,6 +52,10 @@ peeked [] at b e = absurd (let z : _≡_ {A = ℕ} 0 (suc b) = e in omega arith)
 peeked (x ∷ s) zero b e = omega arith
 peeked (x ∷ s) (suc at) b e = let h = peeked s at b e in omega arith
 
+pub byte-in : (s : List ℕ) (at : ℕ) {n : ℕ} → getD s at 0 ≡ n → 0 < n → at < length s
+byte-in s at {n = zero} e h = absurd (omega arith)
+byte-in s at {n = suc b} e h = peeked s at b e
+
 -- by which way a test goes
 pub by-test {ℓ} : {A : Type ℓ} (P : A → Type 0) (b : Bool) (x y : A) → (b ≡ true → P x) → (b ≡ false → P y) → P
     (cond b x y)

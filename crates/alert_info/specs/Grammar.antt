@@ -6,7 +6,7 @@
 -- An entry is an alert-param. White space stands where HCOLON, COMMA, LAQUOT, RAQUOT, SEMI and EQUAL have it, and at
 -- the end of the value. The URI is wider than absoluteURI; a host in square brackets is left out, any other is a token.
 -- Assumes nothing.
-use Prim.Native.Nat.{ℕ}
+use Prim.Native.Nat.{ℕ, suc}
 use Prim.Native.Char.{code}
 use mathlib.Core.Bool.{Bool}
 use mathlib.Core.List.{List, [], _∷_, _++_}
@@ -64,3 +64,9 @@ pub data Value : List ℕ → List (List ℕ) → Type 0 where
   last : {w e x u : List ℕ} → White w → Entry e u → White x → Value (w ++ (e ++ x)) (u ∷ [])
   comma : {w e x u v : List ℕ} {us : List (List ℕ)} → White w → Entry e u → White x → Value v us
       → Value (w ++ (e ++ (x ++ (code "," ∷ v)))) (u ∷ us)
+
+-- what stands before the URI of entry k, counted from 0: k entries with a comma after each, and its bracket
+pub data Before : ℕ → List ℕ → Type 0 where
+  bracket : {w : List ℕ} → White w → Before 0 (w ++ (code "<" ∷ []))
+  entries : {w e x u b : List ℕ} {k : ℕ} → White w → Entry e u → White x → Before k b
+      → Before (suc k) (w ++ (e ++ (x ++ (code "," ∷ b))))

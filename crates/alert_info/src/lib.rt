@@ -19,7 +19,8 @@ pub use alert_param::Found;
 pub use alert_param::Span;
 pub use cursor::Cursor;
 ghost use mathlib.Core.Path.{_≡_};
-ghost use Rattle.alert_info.specs.Value.{refusalOf, entriesOf, entryOf, entryRefusalOf};
+ghost use Prim.Native.Nat.{_+_};
+ghost use Rattle.alert_info.specs.Value.{refusalOf, entriesOf, entryOf, spanOf, entryRefusalOf};
 
 // The value's refusal number, 0 if it is accepted: 1 over 4,096 bytes, 2 not of the form, 3 over 64 entries.
 pub fn refusal(v: &[u8]) -> u8
@@ -37,9 +38,11 @@ pub fn entries(v: &[u8]) -> usize
     j.entries
 }
 
-// The URI of entry k, counted from 0, as a part of the value; empty if the value is refused or has no entry k.
+// The URI of entry k, counted from 0, as a part of the value: it lies in the caller's bytes, where `spanOf` has it. Empty
+// if the value is refused or has no entry k.
 pub fn entry<'a>(v: &'a [u8], k: usize) -> &'a [u8]
     ensures { λ r. ⌜ now r ≡ entryOf (now (v .entry)) k ⌝ }
+    ensures { λ r. ⌜ (r .ptr .0 ≡ v .entry .ptr .0) × (r .ptr .1 ≡ v .entry .ptr .1 + spanOf (now (v .entry)) k .start) ⌝ }
 {
     let j = judge(v, k);
     let start = j.span.start;

@@ -1,5 +1,5 @@
--- The examples first; then the image of a machine, the form, the check, the build, the walk, and the machine of an image.
-pub mod Examples
+-- The image of a machine, the form, the check, the build, the walk, the machine of an image, and the laws of
+-- specs/Positions.antt.
 pub mod Joined
 pub mod Form
 pub mod Stored
@@ -9,3 +9,4 @@ pub mod Build
 pub mod Walk
 pub mod Uris
 pub mod Read
+pub mod Positions

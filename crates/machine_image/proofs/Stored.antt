@@ -37,17 +37,18 @@ module _ (T : Table) (m : Machine) where
   unfolding imageOf
   image-symbols = refl
 
-  pub image-states : stateCount (imageOf T m) ≡ length m
-  image-states = rw image-symbols (omega (arith, low, high))
-    where
-      low : getD (imageOf T m) (3 * count + 1) 0 ≡ length m % 256
-      low = rw image-parts (getD-at front (length m % 256) (length m / 256 ∷ joined stateBytes m) 0 (3 * count + 1) front-length)
+  -- the state count, its low byte first
+  pub image-low : getD (imageOf T m) (3 * count + 1) 0 ≡ length m % 256
+  image-low = rw image-parts (getD-at front (length m % 256) (length m / 256 ∷ joined stateBytes m) 0 (3 * count + 1) front-length)
 
+  pub image-high : getD (imageOf T m) (3 * count + 2) 0 ≡ length m / 256
+  image-high = rw (image-parts, place) (getD-append-add front (length m % 256 ∷ length m / 256 ∷ joined stateBytes m) 1 0)
+    where
       place : 3 * count + 2 ≡ length front + 1
       place = omega (arith, front-length)
 
-      high : getD (imageOf T m) (3 * count + 2) 0 ≡ length m / 256
-      high = rw (image-parts, place) (getD-append-add front (length m % 256 ∷ length m / 256 ∷ joined stateBytes m) 1 0)
+  pub image-states : stateCount (imageOf T m) ≡ length m
+  image-states = rw image-symbols (omega (arith, image-low, image-high))
 
   -- byte i after the state count
   rows-at : (i : ℕ) → getD (imageOf T m) (3 + 3 * count + i) 0 ≡ getD (joined stateBytes m) i 0
@@ -58,7 +59,7 @@ module _ (T : Table) (m : Machine) where
 
 module _ (T : Table) (m : Machine) (ok : Storable T m) where
   -- byte k of state j
-  state-byte : (j k : ℕ) → j < length m → k < count T m + 2
+  pub state-byte : (j k : ℕ) → j < length m → k < count T m + 2
       → getD (imageOf T m) (3 + 3 * count T m + (j * (count T m + 2) + k)) 0 ≡ getD (stateBytes (machineState m j)) k 0
   state-byte j k h i =
       rows-at T m (j * (count T m + 2) + k)

@@ -37,11 +37,11 @@ module _ (T : Table) (im : List ℕ) (ok : Formed T im) where
   listed : (u : Urn) → Used T u → symbolIndex (symbolOf (nodes T) u) (symbols T) < symbolCount im
   listed u h = rw (form-symbols T im ok) (symbol-at-index T u h .0)
 
-  pub step-below : (j : ℕ) → j < stateCount im → (u : Urn) → Used T u → stepIn T im j u < stateCount im
-  step-below j h u used = ok .leads j (symbolIndex (symbolOf (nodes T) u) (symbols T)) h (listed u used)
-
   step-same : (j : ℕ) → j < stateCount im → (u : Urn) → Used T u → walkStep T (machineIn T im) j u ≡ stepIn T im j u
   step-same j h u used = machine-target T im j (symbolIndex (symbolOf (nodes T) u) (symbols T)) h (listed u used)
+
+  pub step-below : (j : ℕ) → j < stateCount im → (u : Urn) → Used T u → stepIn T im j u < stateCount im
+  step-below j h u used = ok .leads j (symbolIndex (symbolOf (nodes T) u) (symbols T)) h (listed u used)
 
   run-same : (j : ℕ) → j < stateCount im → (l : List (Option Urn)) → AllUsed T l
       → (foldl (stepUri (walkStep T (machineIn T im))) j l ≡ foldl (stepUri (stepIn T im)) j l) × (foldl (stepUri (stepIn T im)) j l < stateCount im)

@@ -2,13 +2,14 @@
 use Prim.Native.Nat.{ℕ, _<_}
 use mathlib.Core.Path.{_≡_, refl, sym, ap, subst, _∙_}
 use mathlib.Core.Logic.{_⊎_, inl, inr}
-use mathlib.Core.Bool.{Bool, true, false, not, _&&_, true≢false}
+use mathlib.Core.Bool.{Bool, true, false, not, _&&_, _||_, true≢false}
 use mathlib.Core.Option.{Option, none, some}
 use mathlib.Core.List.{List, [], _∷_, foldl, append-nil, List·Memᴰ, List·Memᴰ·head, List·Memᴰ·tail}
 use lib.ListN.{getD, set}
 use lib.Seq.{getD-set-same, getD-set-other}
 use native.Mathlib.Decide.{ℕ-discrete}
 use Rattle.resolution.specs.Names.{Parts, sameParts, below, candidates}
+use Rattle.resolution.proofs.Lists.{or-true}
 use Rattle.resolution.proofs.Names.{parts-exact, below-to}
 use Rattle.resolution.specs.Table.{Urn}
 use Rattle.resolution.specs.Nodes.{leaf, deepest}
@@ -19,6 +20,10 @@ use Rattle.resolution.proofs.Step.{EnvLaws, Valid, valid-step, leaf-sta
 use Rattle.resolution.specs.NodeStep.{nodeUnder, nodeTakes, nodeMove, nodeIfTaken, nodeStep}
 use Rattle.resolution.proofs.NodeStep.{direct-at-node, symbol-at-node}
 
+-- a URN under a leaf has the leaf's own symbol, not Other
+pub leaf-own : (ns : List Urn) (c : ℕ) (u d : Parts) → leaf ns c d ≡ true → isOther ns c u d ≡ false
+leaf-own ns c u d l = ap not (ap (λ z. sameParts d u || z) l ∙ or-true (sameParts d u))
+
 -- a URN and its symbol are whole alike, or d is a leaf and only the symbol is
 whole-alike : (ns : List Urn) (c : ℕ) (u d : Parts)
     → (sameParts d u ≡ not (isOther ns c u d)) ⊎ ((sameParts d u ≡ false) × (not (isOther ns c u d) ≡ true) × (leaf ns c d ≡ true))
@@ -27,7 +32,7 @@ whole-alike ns c u d = go (sameParts d u) refl (leaf ns c d) refl
     go : (s : Bool) → sameParts d u ≡ s → (l : Bool) → leaf ns c d ≡ l
         → (sameParts d u ≡ not (isOther ns c u d)) ⊎ ((sameParts d u ≡ false) × (not (isOther ns c u d) ≡ true) × (leaf ns c d ≡ true))
     go true e l k = inl (rw e)
-    go false e true k = inr (rw (e, k) (refl, refl, refl))
+    go false e true k = inr (e, ap not (leaf-own ns c u d k), k)
     go false e false k = rw (e, k) (inl refl)
 
 module _ (env : Env) (cats : ℕ) (ns : List Urn) where

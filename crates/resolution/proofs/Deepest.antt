@@ -2,11 +2,12 @@
 use Prim.Native.Nat.{ℕ}
 use mathlib.Core.Path.{_≡_, refl, sym, ap, _∙_}
 use mathlib.Core.Logic.{_⊎_, inl, inr}
-use mathlib.Core.Bool.{Bool, true, false, not, _&&_, _||_, false≢true, and-eq-true-iff}
+use mathlib.Core.Bool.{Bool, true, false, not, _&&_, false≢true, and-eq-true-iff}
 use mathlib.Core.List.{List, [], _∷_, _++_, List·Memᴰ, List·Memᴰ·head, List·Memᴰ·tail}
 use lib.Dec.{eqb}
 use borrow.Author.Tests.{eqb-true, eq-eqb}
 use Rattle.resolution.specs.Names.{Name, Parts, sameParts, properAncestor, longer, candidates, Above}
+use Rattle.resolution.proofs.Lists.{or-true}
 use Rattle.resolution.proofs.Names.{parts-exact, below-self, longer-append, longer-first, in-longer}
 use Rattle.resolution.specs.Table.{Urn, urn}
 use Rattle.resolution.specs.Nodes.{sameUrn, member, isNode, RootOrNode, hasUnder, isRoot, leaf, firstNode, deepest}
@@ -57,10 +58,6 @@ module _ (ns : List Urn) (c : ℕ) where
   under [] q x r h = absurd (false≢true h)
   under (n ∷ ms) q x r h = go (sameUrn (urn c (q ++ x ∷ r)) n) refl (λ h′. under ms q x r h′)
     where
-      or-true : (b : Bool) → b || true ≡ true
-      or-true true = refl
-      or-true false = refl
-
       go : (b : Bool) → sameUrn (urn c (q ++ x ∷ r)) n ≡ b → (member (urn c (q ++ x ∷ r)) ms ≡ true → hasUnder ms c q ≡ true) → hasUnder (n ∷ ms) c q ≡ true
       go true e ih =
           let k = and-eq-true-iff (eqb c (n .cat)) (sameParts (q ++ x ∷ r) (n .path)) .0 e in

@@ -110,39 +110,38 @@ module _ (env : Env) (cats : ℕ) (ns : List Urn) (laws : EnvLaws env cats ns) w
       a : Above d (u .path)
       a = deep-above ns (u .cat) (u .path)
 
+  -- the step by a path with one more part that no node has there, whichever it is
+  pub fresh-at-node : (st : State) → Valid env cats ns st → (c : ℕ) → c < cats → (d : Parts) (x : Name) → isNode ns c (d ++ x ∷ []) ≡ false
+      → step env st (urn c (d ++ x ∷ [])) ≡ nodeStep env st c d false
+  fresh-at-node st g c known d x fresh = step-at-node st g c known d (x ∷ []) quiet (λ p n b. lies p n (b .rest) (b .joined))
+    where
+      quiet : (p : Parts) → List·Memᴰ p (longer d (x ∷ [])) → env .finder (set (env .rows (st .signal)) c p) ≡ none
+      quiet p m = by (env .finder (set (env .rows (st .signal)) c p)) refl
+        where
+          no-hit : p ≡ d ++ x ∷ [] → (p ≡ []) ⊎ (isNode ns c p ≡ true) → ⊥
+          no-hit i (inl k) = omega (arith, length-append d (x ∷ []), ap length i, ap length k)
+          no-hit i (inr k) = true≢false (sym k ∙ ap (isNode ns c) i ∙ fresh)
+
+          by : (o : Option ℕ) → env .finder (set (env .rows (st .signal)) c p) ≡ o → o ≡ none
+          by none e = refl
+          by (some t) e = absurd (no-hit (List·Memᴰ·eq-of-singleton m) (hit-node env cats ns laws (env .rows (st .signal)) c p t (rw (g .wide) known) e))
+
+      lies : (p : Parts) → RootOrNode ns c p → (r : Parts) → p ++ r ≡ d ++ x ∷ [] → Above p d
+      lies p (inl n) r j = rw n (above-root d)
+      lies p (inr n) [] j = absurd (true≢false (sym n ∙ ap (isNode ns c) (sym (append-nil p) ∙ j) ∙ fresh))
+      lies p (inr n) (y ∷ r) j = by (snoc-split p d y x r j)
+        where
+          by : (p ≡ d) ⊎ ((z : Name) × (f : Parts) × (p ++ z ∷ f ≡ d)) → Above p d
+          by (inl e) = rw (← e) (above-self p)
+          by (inr k) = record { rest = k .0 ∷ k .1; joined = k .2 }
+
   -- the step by a symbol, at its node or root
   pub symbol-at-node : (st : State) → Valid env cats ns st → (s : Symbol) → s .cat < cats
       → step env st (stepsAs s) ≡ nodeStep env st (s .cat) (s .path) (not (s .other))
   symbol-at-node st g s known = go (s .other)
     where
-      q : Parts
-      q = getD (env .rows (st .signal)) (s .cat) []
-
-      in-row : s .cat < length (env .rows (st .signal))
-      in-row = rw (g .wide) known
-
-      quiet-fresh : (p : Parts) → List·Memᴰ p (longer (s .path) ([] ∷ [])) → env .finder (set (env .rows (st .signal)) (s .cat) p) ≡ none
-      quiet-fresh p m = by (env .finder (set (env .rows (st .signal)) (s .cat) p)) refl
-        where
-          by : (o : Option ℕ) → env .finder (set (env .rows (st .signal)) (s .cat) p) ≡ o → o ≡ none
-          by none e = refl
-          by (some t) e = absurd (no-hit (List·Memᴰ·eq-of-singleton m) (hit-node env cats ns laws (env .rows (st .signal)) (s .cat) p t in-row e))
-            where
-              no-hit : p ≡ s .path ++ [] ∷ [] → (p ≡ []) ⊎ (isNode ns (s .cat) p ≡ true) → ⊥
-              no-hit i (inl k) = omega (arith, length-append (s .path) ([] ∷ []), ap length i, ap length k)
-              no-hit i (inr k) = true≢false (sym k ∙ ap (isNode ns (s .cat)) i ∙ laws .fresh-node (s .cat) (s .path))
-
-      lies : (p : Parts) → RootOrNode ns (s .cat) p → (r : Parts) → p ++ r ≡ s .path ++ [] ∷ [] → Above p (s .path)
-      lies p (inl n) r j = rw n (above-root (s .path))
-      lies p (inr n) [] j = absurd (true≢false (sym n ∙ ap (isNode ns (s .cat)) (sym (append-nil p) ∙ j) ∙ laws .fresh-node (s .cat) (s .path)))
-      lies p (inr n) (x ∷ r) j = by (snoc-split p (s .path) x [] r j)
-        where
-          by : (p ≡ s .path) ⊎ ((y : Name) × (f : Parts) × (p ++ y ∷ f ≡ s .path)) → Above p (s .path)
-          by (inl e) = rw (← e) (above-self p)
-          by (inr k) = record { rest = k .0 ∷ k .1; joined = k .2 }
-
       go : (o : Bool) → step env st (urn (s .cat) (stepsAsPath o (s .path))) ≡ nodeStep env st (s .cat) (s .path) (not o)
       go false =
           ap (λ z. step env st (urn (s .cat) z)) (sym (append-nil (s .path)))
           ∙ step-at-node st g (s .cat) known (s .path) [] (λ p m. absurd (List·Memᴰ·not-nil m)) (λ p n b. rw append-nil at b)
-      go true = step-at-node st g (s .cat) known (s .path) ([] ∷ []) quiet-fresh (λ p n b. lies p n (b .rest) (b .joined))
+      go true = fresh-at-node st g (s .cat) known (s .path) [] (laws .fresh-node (s .cat) (s .path))

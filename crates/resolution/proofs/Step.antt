@@ -12,7 +12,7 @@ use native.Mathlib.Omega.{arith}
 use Rattle.resolution.specs.Names.{Parts, below, longer, candidates, Above}
 use Rattle.resolution.proofs.Names.{below-self, longer-append, Strict, in-longer}
 use Rattle.resolution.specs.Table.{Urn, Row}
-use Rattle.resolution.specs.Direct.{Status, Open, State, firstHit, statusAfter, takesUrn, move, step, Env}
+use Rattle.resolution.specs.Direct.{Status, Open, Shut, State, firstHit, statusAfter, takesUrn, move, step, Env}
 use Rattle.resolution.proofs.Direct.{search-skip, Moved, step-view, live-step, same-signal, moved-row}
 use Rattle.resolution.specs.Nodes.{isNode, RootOrNode, leaf, deepest}
 use Rattle.resolution.proofs.Deepest.{deep-most, leaf-ends}
@@ -28,6 +28,10 @@ module _ (env : Env) where
   pub step-still : (st : State) (u : Urn) → takesUrn (getD (st .status) (u .cat) Open) (here st (u .cat)) (u .path) ≡ false → next st u ≡ st
   unfolding step
   step-still st u e = rw e
+
+  -- so a shut category takes none
+  pub step-shut : (st : State) (u : Urn) → getD (st .status) (u .cat) Open ≡ Shut → next st u ≡ st
+  step-shut st u e = step-still st u (ap (λ (o : Status). takesUrn o (here st (u .cat)) (u .path)) e)
 
   pub step-takes : (st : State) (u : Urn) (r : Parts) → takesUrn (getD (st .status) (u .cat) Open) (here st (u .cat)) (u .path) ≡ true → here st (u .cat) ++ r ≡ u .path
       → next st u ≡ move env st (u .cat) (u .path) (firstHit env (env .rows (st .signal)) (u .cat) (candidates (here st (u .cat)) r))

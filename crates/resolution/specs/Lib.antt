@@ -13,4 +13,6 @@ pub mod Discovery
 pub mod Build
 pub mod Claim
 pub mod Laws
+pub mod Meaning
+pub mod MachineMeaning
 pub mod Examples

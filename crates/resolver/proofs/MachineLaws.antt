@@ -21,14 +21,16 @@ use Rattle.resolver.specs.Run.{Machine, resolvedFrom}
 use Rattle.resolver.proofs.FoldLaws.{Steps}
 use Rattle.resolver.proofs.AnswerLaws.{value-refused, refused-first, resolved-right}
 use Rattle.stored_table.proofs.Accepting.{accepted}
-use Rattle.signal_table.specs.Listed.{SymbolsIn, Index, Listed, tripleLists, fewer}
+use Rattle.node_step.specs.Uses.{fewer}
+use Rattle.signal_table.specs.Listed.{SymbolsIn, tripleLists, symbolsOf, indexFrom}
+use Rattle.signal_table.specs.declared.symbols.Symbols.{Symbols}
 use Rattle.signal_table.specs.Checks.{formBy}
 use Rattle.signal_table.proofs.TableRight.{table-symbols}
 use Rattle.signal_table.proofs.CheckRight.{form-right}
 use Rattle.signal_table.proofs.NumberRight.{number-right}
 
 module _ (t : List ℕ) (d : Decoded) (h : Holds t (tableOf t) d) (m : Machine) (listed : SymbolsIn (tableOf t) (m .symbols) (m .count))
-    (indexed : Index (m .index) (m .symbols) (fewer (m .count) 128)) where
+    (indexed : m .index ≡ indexFrom (m .symbols) 0 (fewer (m .count) 128)) where
   walk-steps : Steps t (tableOf t) d h m (λ j. Unit) (stepIn (tableOf t) (m .image)) Walk
   walk-steps =
       record {
@@ -66,18 +68,18 @@ module _ (t im v : List ℕ) where
       (λ q. simp q)
 
 -- the listed symbols, and the form of an image, of a decoded table
-module _ (t : List ℕ) (d : Decoded) (means : Means t d) (z : d .refusal ≡ 0) {sy : List ℕ} {n : ℕ}
-    (listed : Listed sy n (tripleLists (d .category) (d .parent) (fewer (d .nodes) 64) (fewer (d .categories) 8))) where
+module _ (t : List ℕ) (d : Decoded) (means : Means t d) (z : d .refusal ≡ 0) {s : Symbols}
+    (listed : s ≡ symbolsOf (tripleLists (d .category) (d .parent) (fewer (d .nodes) 64) (fewer (d .categories) 8))) where
   well : tableRefusal t ≡ 0
   well = sym (means .refusal) ∙ z
 
   held : Holds t (tableOf t) d
   held = means .holds well
 
-  pub symbols-listed : SymbolsIn (tableOf t) sy n
-  symbols-listed = table-symbols t d means z sy n listed
+  pub symbols-listed : SymbolsIn (tableOf t) (s .bytes) (s .count)
+  symbols-listed = table-symbols t d means z s listed
 
-  pub form-listed : (im : List ℕ) {f : Bool} → f ≡ formBy sy n (d .signals) (d .categories) im → f ≡ formOf (tableOf t) im
+  pub form-listed : (im : List ℕ) {f : Bool} → f ≡ formBy (s .bytes) (s .count) (d .signals) (d .categories) im → f ≡ formOf (tableOf t) im
   form-listed im e =
-      e ∙ ap (λ k. formBy sy n (d .signals) k im) (held .categories)
-      ∙ form-right (tableOf t) (held .well-formed) (accepted t well .rows) (d .rows) (d .parent) (d .signals) (held .numbers) sy n symbols-listed im
+      e ∙ ap (λ k. formBy (s .bytes) (s .count) (d .signals) k im) (held .categories)
+      ∙ form-right (tableOf t) (held .well-formed) (accepted t well .rows) (d .rows) (d .parent) (d .signals) (held .numbers) (s .bytes) (s .count) symbols-listed im

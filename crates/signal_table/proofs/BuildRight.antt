@@ -23,7 +23,7 @@ use Rattle.machine_image.specs.Refusals.{buildRefusal, buildLength, bufferOf}
 use Rattle.machine_image.proofs.Build.{own-length}
 use Rattle.signal_table.specs.Built.{refused, accepted, builtOf}
 use Rattle.signal_table.specs.Listed.{SymbolsIn}
-use Rattle.signal_table.specs.States.{nextPair, found, rowBytes, rowsBytes, imageBy, sizeBy, builtBy, bufferBy}
+use Rattle.signal_table.specs.States.{nextPair, found, bytesOf, statesBytes, imageBy, sizeBy, builtBy, bufferBy}
 use Rattle.signal_table.proofs.PairsRight.{code, of-code, found-code, all-found, targets-found}
 
 joined-last : {A : Type 0} (f : A → List ℕ) (l : List A) (x : A) → joined f (l ++ x ∷ []) ≡ joined f l ++ f x
@@ -54,18 +54,18 @@ module _ (T : Table) (wf : WellFormed T) (rows ps : List ℕ) (signals : ℕ) (n
   abbrev made : direct.State → MachineState
   made st = record { pair = st; row = targets sameState (stepAt T) (length (symbols T)) states st }
 
-  row-right : (st : direct.State) → StateOf T st → rowBytes next count (map code states) (code st) ≡ stateBytes (made st)
-  unfolding rowBytes
+  row-right : (st : direct.State) → StateOf T st → bytesOf next count (map code states) (code st) ≡ stateBytes (made st)
+  unfolding bytesOf
   row-right st g =
       ap₂ (λ x y. x .signal ∷ x .shut ∷ y) (of-code (T .cats) (nu .few-cats) st (g .sized))
       (targets-found T wf rows ps signals nu sy count si states st g (all-found T wf rows ps signals nu sy count si 256))
 
-  rows-right : (i : ℕ) → i ≤ length states → rowsBytes next count (map code states) i ≡ joined stateBytes (map made (take i states))
-  unfolding rowsBytes joined
+  rows-right : (i : ℕ) → i ≤ length states → statesBytes next count (map code states) i ≡ joined stateBytes (map made (take i states))
+  unfolding statesBytes joined
   rows-right zero h = refl
   rows-right (suc i) h =
       ap₂ _++_ (rows-right i (omega arith))
-      (ap (rowBytes next count (map code states)) (map-at code states i begin h)
+      (ap (bytesOf next count (map code states)) (map-at code states i begin h)
       ∙ row-right (getD states i begin) (all-found T wf rows ps signals nu sy count si 256 (getD states i begin) (mem-at states i begin h)))
       ∙ sym (joined-last stateBytes (map made (take i states)) (made (getD states i begin)))
       ∙ ap (joined stateBytes) (sym (map-take made states i begin h))
@@ -77,7 +77,7 @@ module _ (T : Table) (wf : WellFormed T) (rows ps : List ℕ) (signals : ℕ) (n
   unfolding imageBy imageOf
   image-right =
       ap₂ (λ n r. count ∷ take (3 * count) sy ++ n % 256 ∷ n / 256 ∷ [] ++ r) (found-length ∙ sym (length-map states made))
-      (ap₂ (rowsBytes next count) (found-code T wf rows ps signals nu sy count si 256) found-length
+      (ap₂ (statesBytes next count) (found-code T wf rows ps signals nu sy count si 256) found-length
       ∙ rows-right (length states) (omega arith) ∙ ap (λ z. joined stateBytes (map made z)) (take-all (length states) states (omega arith)))
       ∙ ap₂ (λ c s. c ∷ s ++ length (map made states) % 256 ∷ length (map made states) / 256 ∷ [] ++ joined stateBytes (map made states)) (sym (si .all-symbols)) (si .held)
 

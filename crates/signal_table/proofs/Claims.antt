@@ -1,5 +1,5 @@
 -- What holds of every build and of every image that the checker accepts, for stored tables.
-use Prim.Native.Nat.{ℕ, _-_, _<_}
+use Prim.Native.Nat.{ℕ, _<_}
 use mathlib.Core.Path.{_≡_, refl, sym, ap, _∙_}
 use mathlib.Core.Bool.{Bool, true, false, cond}
 use mathlib.Core.List.{List}
@@ -18,6 +18,7 @@ use Rattle.machine_image.proofs.Build.{few-found, own-storable, reachable-accep
 use Rattle.machine_image.proofs.Check.{check-to, check-of}
 use Rattle.signal_table.specs.Built.{refused, builtOf, builtFrom, bufferFrom, checkFrom}
 use Rattle.signal_table.specs.Claims.{Builds, RefusedBuild, RightImage}
+use Rattle.signal_table.proofs.FormRight.{form-to-right, right-to-form}
 
 -- each category of a well-formed table has a node
 pub all-used : (t : List ℕ) → tableRefusal t ≡ 0 → (c : ℕ) → c < tableOf t .cats → (p : Parts) × (isNode (nodes (tableOf t)) c p ≡ true)
@@ -68,9 +69,9 @@ module _ (t im : List ℕ) where
       go false e = absurd (eqb-false (tableRefusal t) 0 e (sym (ap (λ b. cond b (checkOf (tableOf t) im) (tableRefusal t)) e) ∙ h))
       go true e =
           let w = check-to (tableOf t) im (sym (ap (λ b. cond b (checkOf (tableOf t) im) (tableRefusal t)) e) ∙ h) in
-          record { well-formed = eqb-true (tableRefusal t) 0 e; form = w .0; right = w .1 }
+          record { well-formed = eqb-true (tableRefusal t) 0 e; form = form-to-right (tableOf t) im (w .0); right = w .1 }
 
   pub right-to-check : RightImage t im → checkFrom t im ≡ 0
   unfolding checkFrom
   right-to-check r =
-      ap (λ b. cond b (checkOf (tableOf t) im) (tableRefusal t)) (eq-eqb (tableRefusal t) 0 (r .well-formed)) ∙ check-of (tableOf t) im (r .form) (r .right)
+      ap (λ b. cond b (checkOf (tableOf t) im) (tableRefusal t)) (eq-eqb (tableRefusal t) 0 (r .well-formed)) ∙ check-of (tableOf t) im (right-to-form (tableOf t) im (r .form)) (r .right)

@@ -12,5 +12,5 @@ pub mod BuildRight
 pub mod CheckRight
 pub mod NumberRight
 pub mod TableRight
-pub mod Examples
+pub mod FormRight
 pub mod Claims

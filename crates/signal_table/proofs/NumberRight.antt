@@ -22,7 +22,8 @@ use Rattle.resolution.proofs.Deepest.{deepest-node}
 use Rattle.resolution.proofs.Symbols.{symbol-exact, symbol-known}
 use Rattle.node_step.specs.Arrays.{NodesIn, Numbers}
 use Rattle.machine_image.specs.Image.{kindOf}
-use Rattle.signal_table.specs.Listed.{childless, fewer, SymbolsIn, isTriple, tripleIndex, kindFor, Index, symbolNumber}
+use Rattle.node_step.specs.Uses.{fewer}
+use Rattle.signal_table.specs.Listed.{childless, SymbolsIn, isTriple, tripleIndex, kindFor, indexFrom, symbolNumber}
 use Rattle.signal_table.proofs.SymbolLaws.{by-index}
 use Rattle.signal_table.proofs.SymbolsRight.{leaf-is}
 use Rattle.signal_table.proofs.PairsRight.{category-at, node-at, kind-at}
@@ -110,7 +111,7 @@ module _ (t ca pos len : List ℕ) (n : ℕ) (T : Table) (ni : NodesIn t ca pos 
         go true ih = sym (add-zero i)
         go false ih = ih ∙ ap (λ z. i + 1 + indexBy sameSymbol s (drop z (symbols T))) (add-one i) ∙ omega arith
 
-  pub number-right : (ix : List ℕ) → Index ix sy (fewer count 128) → (u : Urn)
+  pub number-right : (ix : List ℕ) → ix ≡ indexFrom sy 0 (fewer count 128) → (u : Urn)
       → symbolNumber ix sy count ps n (u .cat) (number ns (u .cat) (deepest ns (u .cat) (u .path))) (sameParts (deepest ns (u .cat) (u .path)) (u .path))
       ≡ symbolIndex (symbolOf ns u) (symbols T)
   unfolding symbolNumber

@@ -1,23 +1,16 @@
--- A list p written over the front of a list b, and how a loop that goes up extends p: by a store, or by a part that was lent and came back.
+-- A list p written over the front of a list b, and how a loop that goes up extends p by a store.
 use mathlib.Core.Path.{_≡_, refl, sym, ap, _∙_}
 use mathlib.Core.List.{List, [], _∷_, _++_, append-assoc, append-nil}
-use Prim.Native.Nat.{ℕ, suc, _+_, _-_, _*_, _≤_, _<_}
+use Prim.Native.Nat.{ℕ, suc, _+_, _≤_, _<_}
 use native.Mathlib.Omega.{arith}
 use native.Mathlib.Numerals.{add-one}
-use native.Mathlib.Nat.{suc-mul, mul-le-mul-right}
-use lib.ListN.{length, getD, set, take, drop, length-append, length-drop, drop-of-length-le}
-use lib.Seq.{length-take-le, take-suc, drop-cons, set-at, take-at, drop-at, drop-drop}
-use Rattle.resolution.specs.Lists.{tabulate}
-use Rattle.resolution.proofs.Lists.{tabulate-length}
+use lib.ListN.{length, getD, set, take, drop, length-append, drop-of-length-le}
+use lib.Seq.{length-take-le, take-suc, drop-cons, set-at}
 
 unfoldable pub over : List ℕ → List ℕ → List ℕ
 over p b = p ++ drop (length p) b
 
 module _ (p b : List ℕ) where
-  pub length-over : length p ≤ length b → length (over p b) ≡ length b
-  unfolding over
-  length-over h = simp (length-append, length-drop) (omega arith)
-
   pub over-all : length p ≡ length b → over p b ≡ p
   unfolding over
   over-all h = ap (λ (t : List ℕ). p ++ t) (drop-of-length-le b {i = length p} (omega arith)) ∙ append-nil p
@@ -30,43 +23,13 @@ module _ (p b : List ℕ) where
       ∙ sym (append-assoc p (v ∷ []) (drop (suc (length p)) b))
       ∙ ap (λ (n : ℕ). (p ++ (v ∷ [])) ++ drop n b) (sym (add-one (length p)) ∙ sym (length-append p (v ∷ [])))
 
-  pub over-lend : (a k : ℕ) (y : List ℕ) → length p ≡ a → length y ≡ k
-      → take a (over p b) ++ (y ++ drop k (drop a (over p b))) ≡ over (p ++ y) b
-  unfolding over
-  over-lend a k y e g =
-      rw (take-at p (drop (length p) b) a e, drop-at p (drop (length p) b) a e, drop-drop k (length p) b)
-      (sym (append-assoc p y (drop (length p + k) b))
-      ∙ ap (λ (n : ℕ). (p ++ y) ++ drop n b) (ap (λ (n : ℕ). length p + n) (sym g) ∙ sym (length-append p y)))
-
 module _ (q b r : List ℕ) (a v : ℕ) (room : a < length b) where
-  -- a turn of a loop that stores f 0, f 1, ..
-  pub over-tabulate : (f : ℕ → ℕ) (k : ℕ) → r ≡ over (q ++ tabulate f k) b → length q + k ≡ a → v ≡ f k → set r a v ≡ over (q ++ tabulate f (k + 1)) b
-  unfolding tabulate
-  over-tabulate f k e l g =
-      rw (e, add-one, g)
-      (over-set (q ++ tabulate f k) b a (f k) (length-append q (tabulate f k) ∙ ap (λ (n : ℕ). length q + n) (tabulate-length f k) ∙ l) room
-      ∙ ap (λ (t : List ℕ). over t b) (append-assoc q (tabulate f k) (f k ∷ [])))
-
   -- a turn of a loop that copies a list's elements
   pub over-copy : (x : List ℕ) (k : ℕ) → r ≡ over (q ++ take k x) b → length q + k ≡ a → k < length x → v ≡ getD x k 0 → set r a v ≡ over (q ++ take (k + 1) x) b
   over-copy x k e l h g =
       rw (e, add-one, g)
       (over-set (q ++ take k x) b a (getD x k 0) (length-append q (take k x) ∙ ap (λ (n : ℕ). length q + n) (length-take-le k x (omega arith)) ∙ l) room
       ∙ ap (λ (t : List ℕ). over t b) (append-assoc q (take k x) (getD x k 0 ∷ []) ∙ ap (λ (t : List ℕ). q ++ t) (sym (take-suc x k 0 h))))
-
--- two stores at the front
-pub over-two : (r : List ℕ) (a b : ℕ) → 2 ≤ length r → set (set r 0 a) 1 b ≡ over (a ∷ b ∷ []) (set (set r 0 a) 1 b)
-unfolding over
-over-two [] a b h = absurd (omega arith)
-over-two (x ∷ []) a b h = absurd (omega arith)
-over-two (x ∷ y ∷ r) a b h = refl
-
--- the stretch numbered i of n stretches of w lies within them
-pub stretch : (i n w : ℕ) → i < n → i * w + w ≤ n * w
-stretch i n w h = rw (← suc-mul i w) (mul-le-mul-right w h)
-
-pub next-stretch : (i w : ℕ) → i * w + w ≡ (i + 1) * w
-next-stretch i w = rw add-one (sym (suc-mul i w))
 
 -- one store at the front
 pub over-one : (r : List ℕ) (a : ℕ) → 1 ≤ length r → set r 0 a ≡ over (a ∷ []) (set r 0 a)

@@ -1,22 +1,20 @@
 -- Laws of listing the symbols, and of finding one's number, at a turn of a loop.
-use Prim.Native.Nat.{ℕ, zero, suc, _+_, _-_, _*_, _≤_, _<_}
+use Prim.Native.Nat.{ℕ, zero, suc, _+_, _-_, _*_, _/_, _%_, _≤_, _<_, min}
 use mathlib.Core.Path.{_≡_, refl, sym, ap, ap₂, subst, _∙_}
 use mathlib.Core.Bool.{Bool, true, false, cond, not, _&&_, and-false, true≢false, and-eq-true-iff}
 use mathlib.Core.List.{List, [], _∷_, _++_, append-assoc, append-nil}
 use lib.Dec.{eqb, ltb}
-use borrow.Author.Tests.{eqb-true, eq-eqb, ne-eqb, le-leb, lt-leb, ltb-true, lt-ltb, le-ltb}
-use lib.ListN.{length, getD, set, take, length-append, length-set}
-use lib.Seq.{take-suc-set, take-all, take-append-le, getD-set-same, getD-set-other}
+use borrow.Author.Tests.{eqb-true, eq-eqb, ne-eqb, ltb-true, lt-ltb, le-ltb}
+use lib.ListN.{length, getD, set, take, drop, replicate, length-append, length-set, length-take, length-replicate, take-append-drop}
+use lib.Seq.{take-suc-set, take-all, take-at, take-append-le, drop-at, drop-drop, drop-set-lt, set-out, getD-set-same, getD-set-other}
 use native.Mathlib.Omega.{arith}
+use native.Mathlib.Nat.{sub-zero}
 use native.Mathlib.Numerals.{add-one}
 use native.Mathlib.Decide.{decLt, ℕ-discrete}
-use Rattle.signal_table.specs.Listed.{childless, triple, nodeTriples, nodesTriples, categoryTriples, tripleLists, fewer, Listed, isTriple, tripleIndex, kindFor, slot, slotAt, Index, entryAt, numberFrom, symbolNumber}
-
-pub fewer-le : (n m : ℕ) → n ≤ m → n ≡ fewer n m
-fewer-le n m h = simp (le-leb n m h)
-
-pub fewer-gt : (n m : ℕ) → m < n → m ≡ fewer n m
-fewer-gt n m h = simp (lt-leb n m h)
+use Rattle.node_step.specs.Uses.{fewer}
+use Rattle.node_step.proofs.UseLaws.{fewer-le, fewer-gt}
+use Rattle.signal_table.specs.declared.symbols.Symbols.{Symbols}
+use Rattle.signal_table.specs.Listed.{childless, triple, nodeTriples, nodesTriples, categoryTriples, tripleLists, symbolsOf, Listed, isTriple, tripleIndex, kindFor, slot, slotAt, indexFrom, entryAt, numberFrom, symbolNumber}
 
 -- a node with a child
 pub child-found : (ps : List ℕ) (d n i : ℕ) → i < n → getD ps i 0 ≡ d → false ≡ childless ps d n
@@ -43,6 +41,7 @@ module _ (bytes : List ℕ) (n : ℕ) (l : List ℕ) (v : Listed bytes n l) (x y
         wide = v .wide;
         counted = omega (arith, v .counted, length-append l (triple x y z));
         held = v .held ∙ sym (take-append-le 384 l (triple x y z) (omega (arith, v .counted)));
+        rest = v .rest;
       }
 
   pub listed-more : n < 128 → Listed (set (set (set bytes (3 * n) x) (3 * n + 1) y) (3 * n + 2) z) (n + 1) (l ++ triple x y z)
@@ -66,7 +65,16 @@ module _ (bytes : List ℕ) (n : ℕ) (l : List ℕ) (v : Listed bytes n l) (x y
             ap (λ q. take q (set b₂ (3 * n + 2) z)) e₃ ∙ t₃
             ∙ ap (λ q. q ++ z ∷ []) (append-assoc l (x ∷ []) (y ∷ [])) ∙ append-assoc l (x ∷ y ∷ []) (z ∷ [])
             ∙ sym (take-all 384 (l ++ triple x y z) (omega (arith, length-append l (triple x y z))));
+        rest =
+            drop-set-lt (3 * (n + 1)) b₂ (3 * n + 2) z (omega arith) ∙ drop-set-lt (3 * (n + 1)) b₁ (3 * n + 1) y (omega arith)
+            ∙ drop-set-lt (3 * (n + 1)) bytes (3 * n) x (omega arith) ∙ three-less;
       }
+    where
+      three-less : drop (3 * (n + 1)) bytes ≡ replicate (384 - 3 * (n + 1)) 0
+      three-less =
+          let e : 3 * (n + 1) ≡ 3 * n + 3 = omega arith in
+          let f : 384 - 3 * n ≡ suc (suc (suc (384 - 3 * (n + 1)))) = omega arith in
+          ap (λ q. drop q bytes) e ∙ sym (drop-drop 3 (3 * n) bytes) ∙ ap (drop 3) (v .rest ∙ ap (λ q. replicate q 0) f)
 
 -- a node's symbols
 module _ (ca ps : List ℕ) (n c i : ℕ) where
@@ -102,9 +110,9 @@ module _ (ca ps : List ℕ) (n c : ℕ) where
 
 -- the loop over the categories
 module _ (ca ps : List ℕ) (n : ℕ) where
-  pub lists-start : (bytes : List ℕ) → length bytes ≡ 384 → Listed bytes 0 (tripleLists ca ps n 0)
+  pub lists-start : (bytes : List ℕ) → bytes ≡ replicate 384 0 → Listed bytes 0 (tripleLists ca ps n 0)
   unfolding tripleLists
-  lists-start bytes w = record { wide = w; counted = omega arith; held = refl }
+  lists-start bytes w = record { wide = ap length w ∙ length-replicate {A = ℕ} 384 0; counted = omega arith; held = refl; rest = w }
 
   pub lists-more : (c : ℕ) (bytes : List ℕ) (m : ℕ) → Listed bytes m (tripleLists ca ps n c ++ categoryTriples ca ps n c) → Listed bytes m (tripleLists ca ps n (c + 1))
   unfolding tripleLists
@@ -113,8 +121,81 @@ module _ (ca ps : List ℕ) (n : ℕ) where
   pub lists-end : (c k : ℕ) → c ≤ k → k ≤ c → (bytes : List ℕ) (m : ℕ) → Listed bytes m (tripleLists ca ps n c) → Listed bytes m (tripleLists ca ps n k)
   lists-end c k a b bytes m v = let e : c ≡ k = omega arith in subst (λ (z : ℕ). Listed bytes m (tripleLists ca ps n z)) e v
 
-pub lists-same : (ca ps : List ℕ) {n n′ k k′ : ℕ} → n ≡ n′ → k ≡ k′ → (bytes : List ℕ) (m : ℕ) → Listed bytes m (tripleLists ca ps n k) → Listed bytes m (tripleLists ca ps n′ k′)
-lists-same ca ps e f bytes m v = subst (Listed bytes m) (ap₂ (tripleLists ca ps) e f) v
+-- what has been listed is the symbols of the list
+pub listed-all : (bytes : List ℕ) (n : ℕ) (l : List ℕ) → Listed bytes n l → record { count = n; bytes = bytes } ≡ symbolsOf l
+unfolding symbolsOf
+listed-all bytes n l v = ap₂ (λ (k : ℕ) (b : List ℕ). record { count = k; bytes = b }) (go (decLt 384 (length l))) filled
+  where
+    go : Dec (384 < length l) → n ≡ fewer (length l / 3) 128
+    go (yes h) = let e : n ≡ 128 = omega (arith, v .counted) in e ∙ at-most (ℕ-discrete (length l / 3) 128)
+      where
+        at-most : Dec (length l / 3 ≡ 128) → 128 ≡ fewer (length l / 3) 128
+        at-most (yes e) = sym e ∙ fewer-le (length l / 3) 128 (omega arith)
+        at-most (no e) = fewer-gt (length l / 3) 128 (omega arith)
+    go (no h) = let e : n ≡ length l / 3 = omega (arith, v .counted) in e ∙ fewer-le (length l / 3) 128 (omega arith)
+
+    filled : bytes ≡ take 384 l ++ replicate (384 - length l) 0
+    filled =
+        let e : 384 - 3 * n ≡ 384 - length l = omega (arith, v .counted) in
+        sym (take-append-drop (3 * n) bytes) ∙ ap₂ _++_ (v .held) (v .rest ∙ ap (λ k. replicate k 0) e)
+
+pub lists-same : (ca ps : List ℕ) {n n′ k k′ : ℕ} → n ≡ n′ → k ≡ k′ → (bytes : List ℕ) (m : ℕ) → Listed bytes m (tripleLists ca ps n k)
+    → record { count = m; bytes = bytes } ≡ symbolsOf (tripleLists ca ps n′ k′)
+lists-same ca ps e f bytes m v = listed-all bytes m _ v ∙ ap symbolsOf (ap₂ (tripleLists ca ps) e f)
+
+-- each symbol has three bytes
+thirds : (a b : List ℕ) → length a % 3 ≡ 0 → length b % 3 ≡ 0 → length (a ++ b) % 3 ≡ 0
+thirds a b x y = omega (arith, length-append a b)
+
+module _ (ca ps : List ℕ) (n : ℕ) where
+  node-thirds : (c i : ℕ) → length (nodeTriples ca ps n c i) % 3 ≡ 0
+  unfolding nodeTriples
+  node-thirds c i = go (eqb (getD ca i 0) c) (childless ps (i + 1) n)
+    where
+      go : (a b : Bool) → length (cond a (triple c (i + 1) 0 ++ cond b [] (triple c (i + 1) 1)) []) % 3 ≡ 0
+      go true true = refl
+      go true false = refl
+      go false b = refl
+
+  nodes-thirds : (c k : ℕ) → length (nodesTriples ca ps n c k) % 3 ≡ 0
+  unfolding nodesTriples
+  nodes-thirds c zero = refl
+  nodes-thirds c (suc k) = thirds (nodesTriples ca ps n c k) (nodeTriples ca ps n c k) (nodes-thirds c k) (node-thirds c k)
+
+  lists-thirds : (k : ℕ) → length (tripleLists ca ps n k) % 3 ≡ 0
+  unfolding tripleLists
+  lists-thirds zero = refl
+  lists-thirds (suc c) = thirds (tripleLists ca ps n c) (categoryTriples ca ps n c) (lists-thirds c) (thirds (nodesTriples ca ps n c n) (triple c 0 1) (nodes-thirds c n) refl)
+
+-- the symbols of a list of symbols' bytes stand in their array
+listed-of : (l : List ℕ) → length l % 3 ≡ 0 → Listed (symbolsOf l .bytes) (symbolsOf l .count) l
+unfolding symbolsOf
+listed-of l h = go (decLt 384 (length l))
+  where
+    zeros : List ℕ
+    zeros = replicate (384 - length l) 0
+
+    sized : (k : ℕ) → 3 * k ≡ min 384 (length l) → Listed (take 384 l ++ zeros) k l
+    sized k e =
+        let t : length (take 384 l) ≡ 3 * k = length-take 384 l ∙ sym e in
+        let f : 384 - length l ≡ 384 - 3 * k = omega arith in
+        record {
+          wide = length-append (take 384 l) zeros ∙ omega (arith, t, length-replicate {A = ℕ} (384 - length l) 0);
+          counted = e;
+          held = take-at (take 384 l) zeros (3 * k) t;
+          rest = drop-at (take 384 l) zeros (3 * k) t ∙ ap (λ m. replicate m 0) f;
+        }
+
+    go : Dec (384 < length l) → Listed (take 384 l ++ zeros) (fewer (length l / 3) 128) l
+    go (yes i) = subst (λ (k : ℕ). Listed (take 384 l ++ zeros) k l) (fewer-gt (length l / 3) 128 (omega arith)) (sized 128 (omega arith))
+    go (no i) = subst (λ (k : ℕ). Listed (take 384 l ++ zeros) k l) (fewer-le (length l / 3) 128 (omega arith)) (sized (length l / 3) (omega arith))
+
+pub lists-listed : (ca ps : List ℕ) (n k : ℕ) {r : Symbols} → r ≡ symbolsOf (tripleLists ca ps n k)
+    → Listed (r .bytes) (r .count) (tripleLists ca ps n k) × (r .count ≤ 128)
+lists-listed ca ps n k {r} e =
+    let v : Listed (r .bytes) (r .count) (tripleLists ca ps n k) =
+    subst (λ (z : Symbols). Listed (z .bytes) (z .count) (tripleLists ca ps n k)) (sym e) (listed-of (tripleLists ca ps n k) (lists-thirds ca ps n k)) in
+    (v, omega (arith, v .counted))
 
 -- one symbol, test by test
 module _ (sy : List ℕ) (c d kind k : ℕ) where
@@ -174,37 +255,48 @@ module _ (c d kind : ℕ) where
   pub slot-node : (d ≡ 0 → ⊥) → 6 + 2 * d + kind ≡ slot c d kind
   slot-node e = sym (ap (λ b. cond b c (6 + 2 * d + kind)) (ne-eqb d 0 e))
 
--- the index of the symbols from k on
-pub record IndexFrom (ix sy : List ℕ) (k n : ℕ) : Type 0 where
-  pub wide : length ix ≡ 136
-  pub first : (j : ℕ) → k ≤ j → j < n → slotAt sy j < 136 → getD ix (slotAt sy j) 0 ≤ j
+index-wide : (sy : List ℕ) (n k : ℕ) → length (indexFrom sy k n) ≡ 136
+unfolding indexFrom
+index-wide sy zero k = length-replicate {A = ℕ} 136 0
+index-wide sy (suc n) k = length-set (indexFrom sy (k + 1) n) (slotAt sy k) k ∙ index-wide sy n (k + 1)
 
-pub indexed-none : (ix sy : List ℕ) (k n : ℕ) → length ix ≡ 136 → k ≡ n → IndexFrom ix sy k n
-indexed-none ix sy k n w e = record { wide = w; first = λ j a b h. absurd (omega arith) }
+-- the index, one symbol more, the one before
+module _ (sy : List ℕ) (n k : ℕ) {ix : List ℕ} where
+  pub index-none : ix ≡ replicate 136 0 → k ≡ n → ix ≡ indexFrom sy k (n - k)
+  unfolding indexFrom
+  index-none w e = let z : n - k ≡ 0 = omega arith in w ∙ sym (ap (indexFrom sy k) z)
 
-module _ (ix sy : List ℕ) (k n : ℕ) (v : IndexFrom ix sy k n) where
-  -- one symbol more, the one before
-  module _ {s : ℕ} (h : 0 < k) (e : s ≡ slotAt sy (k - 1)) where
-    pub indexed-put : s < 136 → IndexFrom (set ix s (k - 1)) sy (k - 1) n
-    indexed-put f = record { wide = length-set ix s (k - 1) ∙ v .wide; first = λ j a b l. go j a b l (ℕ-discrete (slotAt sy j) s) }
+  module _ (v : ix ≡ indexFrom sy k (n - k)) (h : 0 < k) (i : k ≤ n) {s : ℕ} (e : s ≡ slotAt sy (k - 1)) where
+    pub index-put : set ix s (k - 1) ≡ indexFrom sy (k - 1) (n - (k - 1))
+    unfolding indexFrom
+    index-put =
+        let z : n - (k - 1) ≡ suc (n - k) = omega arith in
+        let y : k - 1 + 1 ≡ k = omega arith in
+        ap₂ (λ x q. set x q (k - 1)) (v ∙ ap (λ q. indexFrom sy q (n - k)) (sym y)) e ∙ sym (ap (indexFrom sy (k - 1)) z)
+
+    pub index-skip : 136 ≤ s → ix ≡ indexFrom sy (k - 1) (n - (k - 1))
+    index-skip f = sym (set-out ix s (k - 1) (omega (arith, ap length v, index-wide sy (n - k) k))) ∙ index-put
+
+  pub index-all : ix ≡ indexFrom sy k (n - k) → k ≤ 0 → ix ≡ indexFrom sy 0 n
+  index-all v h = let z : k ≡ 0 = omega arith in v ∙ ap (λ q. indexFrom sy q (n - q)) z ∙ ap (indexFrom sy 0) (sub-zero n)
+
+-- no symbol stands before the one that the index has at its slot
+pub index-first : (sy : List ℕ) (n k j : ℕ) → k ≤ j → j < k + n → slotAt sy j < 136 → getD (indexFrom sy k n) (slotAt sy j) 0 ≤ j
+unfolding indexFrom
+index-first sy zero k j a b l = absurd (omega arith)
+index-first sy (suc n) k j a b l = go (ℕ-discrete (slotAt sy j) (slotAt sy k)) (index-first sy n (k + 1) j)
+  where
+    ix : List ℕ
+    ix = indexFrom sy (k + 1) n
+
+    go : Dec (slotAt sy j ≡ slotAt sy k) → (k + 1 ≤ j → j < k + 1 + n → slotAt sy j < 136 → getD ix (slotAt sy j) 0 ≤ j) → getD (set ix (slotAt sy k) k) (slotAt sy j) 0 ≤ j
+    go (yes z) ih =
+        omega (arith, ap (λ x. getD (set ix (slotAt sy k) k) x 0) z, getD-set-same ix (slotAt sy k) k 0 (omega (arith, index-wide sy n (k + 1))))
+    go (no z) ih = omega (arith, getD-set-other ix (slotAt sy k) (slotAt sy j) k 0 z, ih (later (ℕ-discrete j k)) (omega arith) l)
       where
-        go : (j : ℕ) → k - 1 ≤ j → j < n → slotAt sy j < 136 → Dec (slotAt sy j ≡ s) → getD (set ix s (k - 1)) (slotAt sy j) 0 ≤ j
-        go j a b l (yes z) = omega (arith, ap (λ x. getD (set ix s (k - 1)) x 0) z, getD-set-same ix s (k - 1) 0 (omega (arith, v .wide)))
-        go j a b l (no z) = omega (arith, getD-set-other ix s (slotAt sy j) (k - 1) 0 z, v .first j (at-least (ℕ-discrete j (k - 1))) b l)
-          where
-            at-least : Dec (j ≡ k - 1) → k ≤ j
-            at-least (yes q) = absurd (z (ap (slotAt sy) q ∙ sym e))
-            at-least (no q) = omega arith
-
-    pub indexed-skip : 136 ≤ s → IndexFrom ix sy (k - 1) n
-    indexed-skip f = record { wide = v .wide; first = λ j a b l. go j a b l (ℕ-discrete j (k - 1)) }
-      where
-        go : (j : ℕ) → k - 1 ≤ j → j < n → slotAt sy j < 136 → Dec (j ≡ k - 1) → getD ix (slotAt sy j) 0 ≤ j
-        go j a b l (yes q) = absurd (omega (arith, ap (slotAt sy) q, e))
-        go j a b l (no q) = v .first j (omega arith) b l
-
-  pub indexed-all : k ≤ 0 → Index ix sy n
-  indexed-all h = record { wide = v .wide; first = λ j b l. v .first j (omega arith) b l }
+        later : Dec (j ≡ k) → k + 1 ≤ j
+        later (yes q) = absurd (z (ap (slotAt sy) q))
+        later (no q) = omega arith
 
 -- what the index has at a slot
 module _ (ix : List ℕ) (s : ℕ) where
@@ -264,7 +356,7 @@ module _ (sy : List ℕ) (c d kind : ℕ) where
           by (yes q) = absurd (true≢false (sym e ∙ ap (isTriple sy c d kind) (sym q) ∙ g))
           by (no q) = ih (omega arith) (omega arith) (λ j h. f j (omega arith))
 
-  pub by-index : (ix : List ℕ) (m : ℕ) → Index ix sy m → numberFrom sy m c d kind (entryAt ix (slot c d kind)) ≡ tripleIndex sy c d kind 0 m
+  pub by-index : (ix : List ℕ) (m : ℕ) → ix ≡ indexFrom sy 0 m → numberFrom sy m c d kind (entryAt ix (slot c d kind)) ≡ tripleIndex sy c d kind 0 m
   unfolding numberFrom
   by-index ix m v = go (ltb k m) refl (isTriple sy c d kind k) refl
     where
@@ -275,7 +367,7 @@ module _ (sy : List ℕ) (c d kind : ℕ) where
       least j h e = by (decLt (slot c d kind) 136)
         where
           by : Dec (slot c d kind < 136) → k ≤ j
-          by (yes l) = omega (arith, entry-in ix (slot c d kind) l refl, ap (λ s. getD ix s 0) (slot-of j e), v .first j h (omega (arith, slot-of j e)))
+          by (yes l) = omega (arith, entry-in ix (slot c d kind) l refl, ap (λ s. getD ix s 0) (slot-of j e), ap (λ x. getD x (slotAt sy j) 0) v, index-first sy m 0 j (omega arith) (omega arith) (omega (arith, slot-of j e)))
           by (no l) = omega (arith, entry-out ix (slot c d kind) (omega arith))
 
       go : (a : Bool) → ltb k m ≡ a → (b : Bool) → isTriple sy c d kind k ≡ b → cond (a && b) k (tripleIndex sy c d kind 0 m) ≡ tripleIndex sy c d kind 0 m

@@ -23,7 +23,8 @@ use Rattle.resolution.proofs.Deepest.{leaf-ends}
 use Rattle.node_step.specs.Arrays.{NodesIn, Numbers}
 use Rattle.machine_image.specs.Image.{joined, symbolBytes, storedSymbols}
 use Rattle.machine_image.proofs.Joined.{stored-length}
-use Rattle.signal_table.specs.Listed.{childless, triple, nodeTriples, nodesTriples, categoryTriples, tripleLists, fewer, Listed, SymbolsIn}
+use Rattle.node_step.specs.Uses.{fewer}
+use Rattle.signal_table.specs.Listed.{childless, triple, nodeTriples, nodesTriples, categoryTriples, tripleLists, Listed, SymbolsIn}
 use Rattle.signal_table.proofs.SymbolLaws.{child-found}
 
 joined-append : {A : Type 0} (f : A → List ℕ) (a b : List A) → joined f (a ++ b) ≡ joined f a ++ joined f b

@@ -14,7 +14,10 @@ use Rattle.stored_table.specs.Accepted.{Accepted}
 use Rattle.stored_table.specs.declared.Decoded.{Decoded}
 use Rattle.stored_table.proofs.Accepting.{accepted}
 use Rattle.signal_table.specs.Built.{refused, builtFrom, bufferFrom, checkFrom}
-use Rattle.signal_table.specs.Listed.{tripleLists, fewer, Listed, SymbolsIn}
+use Rattle.node_step.specs.Uses.{fewer}
+use Rattle.signal_table.specs.Listed.{tripleLists, symbolsOf, Listed, SymbolsIn}
+use Rattle.signal_table.specs.declared.symbols.Symbols.{Symbols}
+use Rattle.signal_table.proofs.SymbolLaws.{lists-listed}
 use Rattle.signal_table.specs.States.{nextPair, builtBy, bufferBy}
 use Rattle.signal_table.specs.Checks.{checkBy}
 use Rattle.signal_table.proofs.Claims.{all-used}
@@ -41,8 +44,13 @@ module _ (t : List ℕ) (r : Decoded) (m : Means t r) where
     refused-check im = m .refusal ∙ sym (rw other)
 
   -- a well-formed one, with its symbols listed
-  module _ (z : r .refusal ≡ 0) (sy : List ℕ) (count : ℕ)
-      (v : Listed sy count (tripleLists (r .category) (r .parent) (fewer (r .nodes) 64) (fewer (r .categories) 8))) where
+  module _ (z : r .refusal ≡ 0) (s : Symbols) (v : s ≡ symbolsOf (tripleLists (r .category) (r .parent) (fewer (r .nodes) 64) (fewer (r .categories) 8))) where
+    abbrev sy : List ℕ
+    sy = s .bytes
+
+    abbrev count : ℕ
+    count = s .count
+
     well : tableRefusal t ≡ 0
     well = sym (m .refusal) ∙ z
 
@@ -59,7 +67,7 @@ module _ (t : List ℕ) (r : Decoded) (m : Means t r) where
     table-symbols =
         symbols-in t (r .category) (r .at) (r .len) (r .nodes) (tableOf t) (held .nodes) (r .rows) (r .parent) (r .signals) (held .numbers) sy count
         (omega (arith, few-symbols (tableOf t) (all-used t well), all-well .few-nodes))
-        (subst (λ (k : ℕ). Listed sy count (tripleLists (r .category) (r .parent) (fewer (r .nodes) 64) (fewer k 8))) (held .categories) v)
+        (subst (λ (k : ℕ). Listed sy count (tripleLists (r .category) (r .parent) (fewer (r .nodes) 64) (fewer k 8))) (held .categories) (lists-listed (r .category) (r .parent) (fewer (r .nodes) 64) (fewer (r .categories) 8) v .0))
 
     pub table-built : (room : ℕ) → builtBy (nextPair (r .rows) (r .parent) (r .signals) sy) count room ≡ builtFrom t room
     unfolding builtFrom

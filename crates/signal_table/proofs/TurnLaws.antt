@@ -1,19 +1,20 @@
--- Laws of one turn of discovery: the states kept and the row written, target by target.
-use Prim.Native.Nat.{ℕ, zero, suc, _+_, _/_, _%_, _≤_, _<_}
-use mathlib.Core.Path.{_≡_, sym, ap, subst, _∙_}
+-- Laws of one turn of discovery: the states kept and the numbers of the targets, one by one.
+use Prim.Native.Nat.{ℕ, zero, suc, _+_, _≤_, _<_}
+use mathlib.Core.Path.{_≡_, refl, sym, ap, subst, _∙_}
 use mathlib.Core.Bool.{Bool, true, false, cond}
 use mathlib.Core.List.{List, [], _∷_, _++_}
 use lib.Dec.{eqb}
-use lib.ListN.{length, set, length-append, length-set}
+use lib.ListN.{length, set, take, drop, length-append}
+use lib.Seq.{take-at, length-take-le}
 use native.Mathlib.Omega.{arith}
 use native.Mathlib.Decide.{ℕ-discrete}
 use native.Mathlib.Numerals.{add-one}
 use Rattle.resolution.specs.Lists.{memberBy, addBy, indexBy, tabulate}
 use Rattle.resolution.specs.Discovery.{expand, targets}
 use Rattle.resolution.proofs.Lists.{eqb-exact, Extends, add-extends, add-has, member-extends, tabulate-length, tabulate-same}
-use Rattle.signal_table.specs.States.{Kept, longer, rowBytes, Turned}
+use Rattle.signal_table.specs.States.{Kept, longer, Turned}
 use Rattle.signal_table.proofs.KeptLaws.{index-extends, index-add, add-longer}
-use Rattle.signal_table.proofs.Over.{over, over-all, over-set, over-two}
+use Rattle.signal_table.proofs.Over.{over, over-all, over-set}
 
 pub extends-length : {l k : List ℕ} → Extends l k → length l ≤ length k
 extends-length {l} e = omega (arith, length-append l (e .more), ap length (e .joined))
@@ -42,62 +43,55 @@ module _ (next : ℕ → ℕ → ℕ) (p : ℕ) (l : List ℕ) where
       go (yes e) ih = rw e (omega arith)
       go (no e) ih = omega (arith, ih (omega arith), extends-length (add-extends eqb eqb-exact (after n) (next p n)))
 
-  -- the row's first bytes: the pair, and the targets of the first k symbols
+  -- the numbers of the targets at the first k symbols
   abbrev pub begun : ℕ → List ℕ
-  begun k = p / 256 ∷ p % 256 ∷ targets eqb next k (after k) p
+  begun k = targets eqb next k (after k) p
 
-  begun-length : (k : ℕ) → length (begun k) ≡ k + 2
-  begun-length k = omega (arith, tabulate-length (λ i. indexBy eqb (next p i) (after k)) k)
+  begun-length : (k : ℕ) → length (begun k) ≡ k
+  begun-length k = tabulate-length (λ i. indexBy eqb (next p i) (after k)) k
 
   -- one target more: those before it keep their numbers
   begun-more : (k : ℕ) → begun (suc k) ≡ begun k ++ indexBy eqb (next p k) (after k) ∷ []
   unfolding tabulate expand
   begun-more k =
-      ap (λ z. p / 256 ∷ p % 256 ∷ (z ++ indexBy eqb (next p k) (addBy eqb (after k) (next p k)) ∷ []))
+      ap (λ z. z ++ indexBy eqb (next p k) (addBy eqb (after k) (next p k)) ∷ [])
       (tabulate-same (λ i. indexBy eqb (next p i) (addBy eqb (after k) (next p k))) (λ i. indexBy eqb (next p i) (after k)) k
       (λ i h. index-extends (next p i) (add-extends eqb eqb-exact (after k) (next p k)) (target-there k i h)))
-      ∙ ap (λ z. p / 256 ∷ p % 256 ∷ (targets eqb next k (after k) p ++ z ∷ [])) (index-add (next p k) (after k))
+      ∙ ap (λ z. targets eqb next k (after k) p ++ z ∷ []) (index-add (next p k) (after k))
 
   -- what the loop keeps
-  pub record Turning (count k : ℕ) (row₀ row states index : List ℕ) (m : ℕ) : Type 0 where
+  pub record Turning (k : ℕ) (numbers₀ numbers states index : List ℕ) (m : ℕ) : Type 0 where
     pub kept : Kept states index m (after k)
-    pub written : length row₀ ≡ count + 2 → row ≡ over (begun k) row₀
+    pub numbered : numbers ≡ over (begun k) numbers₀
 
-  module _ (count : ℕ) (row₀ : List ℕ) where
-    pub turning-start : (states index : List ℕ) (m : ℕ) (r : List ℕ) {r₁ : List ℕ} → Kept states index m l
-        → r₁ ≡ set r 0 (p / 256) → row₀ ≡ set r₁ 1 (p % 256) → Turning count 0 row₀ row₀ states index m
-    unfolding expand tabulate
-    turning-start states index m r {r₁} k e f =
-        let g : row₀ ≡ set (set r 0 (p / 256)) 1 (p % 256) = f ∙ ap (λ z. set z 1 (p % 256)) e in
-        record {
-          kept = k;
-          written = λ h. subst (λ (z : List ℕ). z ≡ over (p / 256 ∷ p % 256 ∷ []) z) (sym g)
-              (over-two r (p / 256) (p % 256) (omega (arith, ap length g, length-set (set r 0 (p / 256)) 1 (p % 256), length-set r 0 (p / 256))));
-        }
+  module _ (numbers₀ : List ℕ) where
+    pub turning-start : (states index : List ℕ) (m : ℕ) → Kept states index m l → Turning 0 numbers₀ numbers₀ states index m
+    unfolding expand tabulate over
+    turning-start states index m k = record { kept = k; numbered = refl }
 
-    module _ (k : ℕ) (row states index : List ℕ) (m : ℕ) (t : Turning count k row₀ row states index m) where
-      pub turning-more : (states′ index′ : List ℕ) {q j m′ : ℕ} {row′ : List ℕ} → k < count → q ≡ next p k
+    module _ (k : ℕ) (numbers states index : List ℕ) (m : ℕ) (t : Turning k numbers₀ numbers states index m) where
+      pub turning-more : (states′ index′ : List ℕ) {q : ℕ} {j m′ : ℕ} → k < length numbers₀ → q ≡ next p k
           → ((l′ : List ℕ) → Kept states index m l′ → (j ≡ indexBy eqb q l′) × (j < 256 → Kept states′ index′ (longer m j) (addBy eqb l′ q)))
-          → j < 256 → m′ ≡ longer m j → row′ ≡ set row (k + 2) j → Turning count (k + 1) row₀ row′ states′ index′ m′
+          → j < 256 → m′ ≡ longer m j → Turning (k + 1) numbers₀ (set numbers k j) states′ index′ m′
       unfolding expand
-      turning-more states′ index′ {q} {j} {m′} {row′} h e f i g r =
+      turning-more states′ index′ {q} {j} {m′} h e f i g =
           let w = f (after k) (t .kept) in
           rw add-one
           (record {
             kept = subst (λ (z : ℕ). Kept states′ index′ z (addBy eqb (after k) (next p k))) (sym g)
                 (subst (λ (z : ℕ). Kept states′ index′ (longer m j) (addBy eqb (after k) z)) e (w .1 i));
-            written = λ a.
-                r ∙ ap (λ z. set z (k + 2) j) (t .written a)
-                ∙ over-set (begun k) row₀ (k + 2) j (begun-length k) (omega arith)
-                ∙ ap (λ z. over z row₀) (ap (λ z. begun k ++ z ∷ []) (w .0 ∙ ap (λ z. indexBy eqb z (after k)) e) ∙ sym (begun-more k));
+            numbered =
+                ap (λ z. set z k j) (t .numbered)
+                ∙ over-set (begun k) numbers₀ k j (begun-length k) h
+                ∙ ap (λ z. over z numbers₀) (ap (λ z. begun k ++ z ∷ []) (w .0 ∙ ap (λ z. indexBy eqb z (after k)) e) ∙ sym (begun-more k));
           })
 
       -- a 257th state
-      pub turning-over : (states′ index′ row′ : List ℕ) {q j : ℕ} → k < count → q ≡ next p k
+      pub turning-over : (count : ℕ) (states′ index′ numbers′ : List ℕ) {q : ℕ} {j : ℕ} → k < count → q ≡ next p k
           → ((l′ : List ℕ) → Kept states index m l′ → (j ≡ indexBy eqb q l′) × (j < 256 → Kept states′ index′ (longer m j) (addBy eqb l′ q)))
-          → 256 ≤ j → (room : ℕ) → Turned next count l p room row′ states′ index′ 257
+          → 256 ≤ j → Turned next count l p numbers′ states′ index′ 257
       unfolding expand
-      turning-over states′ index′ row′ {q} {j} h e f i room =
+      turning-over count states′ index′ numbers′ {q} {j} h e f i =
           let w = f (after k) (t .kept) in
           let a : j ≡ indexBy eqb (next p k) (after k) = w .0 ∙ ap (λ z. indexBy eqb z (after k)) e in
           let b : length (after k) ≤ 256 = omega (arith, t .kept .all-kept, t .kept .few) in
@@ -106,7 +100,7 @@ module _ (next : ℕ → ℕ → ℕ) (p : ℕ) (l : List ℕ) where
           record {
             kept = λ z. absurd (omega arith);
             over = λ z. omega (arith, a, d, c .1, after-longer (suc k) count (omega arith));
-            written = λ z. absurd (omega arith);
+            numbered = λ z. absurd (omega arith);
           }
         where
           index-le : (x : ℕ) (y : List ℕ) → indexBy eqb x y ≤ length y
@@ -117,16 +111,31 @@ module _ (next : ℕ → ℕ → ℕ) (p : ℕ) (l : List ℕ) where
               by true ih = omega arith
               by false ih = omega arith
 
-      pub turning-end : k ≤ count → count ≤ k → m ≤ 256 → {room : ℕ} → length row₀ ≡ room → Turned next count l p room row states index m
-      unfolding rowBytes
-      turning-end a b c g =
+      pub turning-end : (count : ℕ) → k ≤ count → count ≤ k → m ≤ 256 → Turned next count l p numbers states index m
+      unfolding over
+      turning-end count a b c =
           let e : k ≡ count = omega arith in
-          let u : Turning count count row₀ row states index m = subst (λ (z : ℕ). Turning count z row₀ row states index m) e t in
+          let u : Turning count numbers₀ numbers states index m = subst (λ (z : ℕ). Turning z numbers₀ numbers states index m) e t in
           record {
             kept = λ z. u .kept;
             over = λ z. absurd (omega arith);
-            written = λ z h. u .written (g ∙ h) ∙ over-all (begun count) row₀ (begun-length count ∙ sym (g ∙ h));
+            numbered = λ z. ap (take count) (u .numbered) ∙ take-at (begun count) (drop (length (begun count)) numbers₀) count (begun-length count);
           }
 
-pub stored-length : (r r₁ : List ℕ) (x y : ℕ) {r₂ : List ℕ} → r₁ ≡ set r 0 x → r₂ ≡ set r₁ 1 y → length r₂ ≡ length r
-stored-length r r₁ x y e f = ap length f ∙ length-set r₁ 1 y ∙ ap length e ∙ length-set r 0 x
+-- the row writer, at the start and at the end
+pub row-start : (numbers row : List ℕ) → row ≡ over ([] ++ take 0 numbers) row
+unfolding over
+row-start numbers row = refl
+
+pub row-done : (numbers row : List ℕ) (k : ℕ) {r : List ℕ} → k ≤ length row → length row ≤ k → length row ≤ length numbers
+    → r ≡ over ([] ++ take k numbers) row → r ≡ take (length row) numbers
+row-done numbers row k h i l e =
+    let z : k ≡ length row = omega arith in
+    e ∙ ap (λ y. over ([] ++ take y numbers) row) z ∙ over-all (take (length row) numbers) row (length-take-le (length row) numbers l)
+
+-- a pair's two bytes fill its part
+pub pair-done : (r : List ℕ) (a b : ℕ) → length r ≡ 2 → set (set r 0 a) 1 b ≡ a ∷ b ∷ []
+pair-done [] a b h = absurd (omega arith)
+pair-done (x ∷ []) a b h = absurd (omega arith)
+pair-done (x ∷ y ∷ []) a b h = refl
+pair-done (x ∷ y ∷ z ∷ r) a b h = absurd (omega arith)

@@ -9,7 +9,7 @@ use native.Mathlib.Omega.{arith}
 use native.Mathlib.Nat.{sub-zero, mul-le-mul-right}
 use borrow.Rule.Slice.PartMut.{putMid}
 use Rattle.signal_table.specs.Built.{refused, accepted}
-use Rattle.signal_table.specs.States.{found, rowsBytes, imageBy, sizeBy, builtBy, bufferBy, Discovered}
+use Rattle.signal_table.specs.States.{found, statesBytes, imageBy, sizeBy, builtBy, bufferBy, Discovered}
 
 -- a part lent up to the end
 lend-end : (b y : List ℕ) (f : ℕ) → f ≤ length b → length y ≡ length b - f → putMid f (length b - f) b y ≡ take f b ++ y
@@ -82,10 +82,10 @@ module _ (next : ℕ → ℕ → ℕ) (count : ℕ) (sy : List ℕ) (room : ℕ)
 
   -- the image, from the head and the rows
   pub image-is : (n : ℕ) (h y : List ℕ) → n ≡ length (found next count 256) → h ≡ count ∷ take (3 * count) sy ++ n % 256 ∷ n / 256 ∷ []
-      → take (n * (count + 2)) y ≡ rowsBytes next count (found next count 256) n → h ++ take (n * (count + 2)) y ≡ imageBy next count sy
+      → take (n * (count + 2)) y ≡ statesBytes next count (found next count 256) n → h ++ take (n * (count + 2)) y ≡ imageBy next count sy
   unfolding imageBy
   image-is n h y e f g =
-      ap₂ _++_ (f ∙ ap (λ z. count ∷ take (3 * count) sy ++ z % 256 ∷ z / 256 ∷ []) e) (g ∙ ap (rowsBytes next count (found next count 256)) e)
+      ap₂ _++_ (f ∙ ap (λ z. count ∷ take (3 * count) sy ++ z % 256 ∷ z / 256 ∷ []) e) (g ∙ ap (statesBytes next count (found next count 256)) e)
 
 -- the same from what discovery gave: n states, their rows in y
 module _ (next : ℕ → ℕ → ℕ) (count : ℕ) (sy : List ℕ) (b y part : List ℕ) (f n : ℕ) (d : Discovered next count part y n) where

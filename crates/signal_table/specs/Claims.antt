@@ -1,13 +1,12 @@
 -- What holds of every build and of every image that the checker accepts.
-use Prim.Native.Nat.{ℕ, _-_, _≤_}
+use Prim.Native.Nat.{ℕ, _-_, _*_, _/_, _%_, _^_, _≤_, _<_}
 use mathlib.Core.Path.{_≡_}
-use mathlib.Core.Bool.{true}
 use mathlib.Core.List.{List, _++_}
-use lib.ListN.{length, replicate}
+use lib.ListN.{length, take, drop, replicate}
+use Rattle.resolution.specs.Table.{Table}
 use Rattle.resolution.specs.Machine.{Accepted}
 use Rattle.stored_table.specs.Tables.{tableOf, tableRefusal}
-use Rattle.machine_image.specs.Image.{machineImage, machineIn}
-use Rattle.machine_image.specs.Refusals.{formOf}
+use Rattle.machine_image.specs.Image.{storedSymbols, machineImage, symbolCount, stateCount, placeOf, signalIn, shutIn, targetIn, machineIn}
 use Rattle.signal_table.specs.Built.{accepted, builtFrom, bufferFrom, checkFrom}
 
 -- of a well-formed table with at most 256 reachable states
@@ -26,8 +25,20 @@ pub record RefusedBuild (t : List ℕ) (room : ℕ) : Type 0 where
   pub no-length : builtFrom t room .len ≡ 0
   pub cleared : bufferFrom t room ≡ replicate room 0
 
+-- an image of the right form for a table
+pub record RightForm (T : Table) (im : List ℕ) : Type 0 where
+  -- it is as long as its two counts give, its symbols are the table's, and it has 1 to 256 states
+  pub length-right : length im ≡ placeOf im (stateCount im)
+  pub symbols-right : take (3 * symbolCount im) (drop 1 im) ≡ storedSymbols T
+  pub some-state : 1 ≤ stateCount im
+  pub few-states : stateCount im ≤ 256
+  -- every state's signal is in the table, no bit of its shut set is at or above the category count, and every target is a state
+  pub signal-listed : (j : ℕ) → j < stateCount im → signalIn im j < length (T .signals)
+  pub shut-within : (j c : ℕ) → j < stateCount im → T .cats ≤ c → shutIn im j / 2 ^ c % 2 ≡ 0
+  pub leads : (j k : ℕ) → j < stateCount im → k < symbolCount im → targetIn im j k < stateCount im
+
 -- the table is well-formed, and the image's form, its start and every row of every state are right for it
 pub record RightImage (t im : List ℕ) : Type 0 where
   pub well-formed : tableRefusal t ≡ 0
-  pub form : formOf (tableOf t) im ≡ true
+  pub form : RightForm (tableOf t) im
   pub right : Accepted (tableOf t) (machineIn (tableOf t) im)

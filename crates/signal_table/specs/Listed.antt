@@ -1,13 +1,15 @@
 -- The symbols as the code lists them, from the nodes' categories and parents (node k at k - 1), three bytes for each.
-use Prim.Native.Nat.{ℕ, zero, suc, _+_, _*_, _≤_, _<_, min}
+use Prim.Native.Nat.{ℕ, zero, suc, _+_, _-_, _*_, _/_, _≤_, min}
 use mathlib.Core.Path.{_≡_}
 use mathlib.Core.Bool.{Bool, true, cond, not, _&&_}
 use mathlib.Core.List.{List, [], _∷_, _++_}
-use lib.Dec.{eqb, ltb, leb}
-use lib.ListN.{length, getD, take}
+use lib.Dec.{eqb, ltb}
+use lib.ListN.{length, getD, set, take, drop, replicate}
 use Rattle.resolution.specs.Table.{Table}
 use Rattle.resolution.specs.Symbols.{symbols}
+use Rattle.node_step.specs.Uses.{fewer}
 use Rattle.machine_image.specs.Image.{storedSymbols}
+use Rattle.signal_table.specs.declared.symbols.Symbols.{Symbols}
 
 -- none of the first n nodes has the parent d
 unfoldable pub childless : List ℕ → ℕ → ℕ → Bool
@@ -36,15 +38,16 @@ unfoldable pub tripleLists : List ℕ → List ℕ → ℕ → ℕ → List ℕ
 tripleLists ca ps n zero = []
 tripleLists ca ps n (suc c) = tripleLists ca ps n c ++ categoryTriples ca ps n c
 
--- n, or m if that is less
-abbrev pub fewer : ℕ → ℕ → ℕ
-fewer n m = cond (leb n m) n m
+-- the symbols of a list of symbols' bytes, the first 128 of them: how many, and their bytes with zeros after them
+unfoldable pub symbolsOf : List ℕ → Symbols
+symbolsOf l = record { count = fewer (length l / 3) 128; bytes = take 384 l ++ replicate (384 - length l) 0 }
 
--- an array of 384 bytes holds the first n symbols of a list of symbols' bytes: all of them, or 128
+-- while they are listed: an array of 384 bytes holds n of them, all or 128, and zeros after them
 pub record Listed (bytes : List ℕ) (n : ℕ) (l : List ℕ) : Type 0 where
   pub wide : length bytes ≡ 384
   pub counted : 3 * n ≡ min 384 (length l)
   pub held : take (3 * n) bytes ≡ take 384 l
+  pub rest : drop (3 * n) bytes ≡ replicate (384 - 3 * n) 0
 
 -- what an array must hold to stand for a table's symbols
 pub record SymbolsIn (T : Table) (sy : List ℕ) (count : ℕ) : Type 0 where
@@ -74,10 +77,10 @@ slot c d kind = cond (eqb d 0) c (6 + 2 * d + kind)
 abbrev pub slotAt : List ℕ → ℕ → ℕ
 slotAt sy k = slot (getD sy (3 * k) 0) (getD sy (3 * k + 1) 0) (getD sy (3 * k + 2) 0)
 
--- no symbol stands before the one that the index names for its slot
-pub record Index (ix sy : List ℕ) (count : ℕ) : Type 0 where
-  pub wide : length ix ≡ 136
-  pub first : (k : ℕ) → k < count → slotAt sy k < 136 → getD ix (slotAt sy k) 0 ≤ k
+-- the index of the n symbols from k on: zeros, and at each one's slot, if there is such a slot, its number; of two with one slot, the first's
+unfoldable pub indexFrom : List ℕ → ℕ → ℕ → List ℕ
+indexFrom sy k zero = replicate 136 0
+indexFrom sy k (suc n) = set (indexFrom sy (k + 1) n) (slotAt sy k) k
 
 -- what the index has at a slot, 0 if there is no such slot
 abbrev pub entryAt : List ℕ → ℕ → ℕ

@@ -1,4 +1,4 @@
--- Discovery as the code does it: a state is one number, and the rows are written as the states are found.
+-- Discovery as the code does it: a state is one number, and each state is written when its targets are found.
 use Prim.Native.Nat.{ℕ, zero, suc, _+_, _-_, _*_, _/_, _%_, _≤_, _<_}
 use mathlib.Core.Path.{_≡_}
 use mathlib.Core.Bool.{cond}
@@ -41,44 +41,46 @@ pub record Kept (states index : List ℕ) (n : ℕ) (l : List ℕ) : Type 0 wher
 abbrev pub longer : ℕ → ℕ → ℕ
 longer n j = cond (eqb j n) (n + 1) n
 
+-- the bytes of state p before its row: its signal and its shut set
+abbrev pub pairBytes : ℕ → List ℕ
+pairBytes p = p / 256 ∷ p % 256 ∷ []
+
+-- state p, with the row that starts the array of numbers, in its stretch at a of a part, if that lies in it
+pub record Placed (count p : ℕ) (numbers : List ℕ) (a : ℕ) (part part′ : List ℕ) : Type 0 where
+  pub same-length : length part′ ≡ length part
+  pub written : a + 2 + count ≤ length part → take (a + 2 + count) part′ ≡ take a part ++ (pairBytes p ++ take count numbers)
+
 module _ (next : ℕ → ℕ → ℕ) (count : ℕ) where
   -- the states found after i turns
   abbrev pub found : ℕ → List ℕ
   found i = discover eqb next count 0 i
 
   -- the bytes of state p, its targets being numbered by the list l
-  unfoldable pub rowBytes : List ℕ → ℕ → List ℕ
-  rowBytes l p = p / 256 ∷ p % 256 ∷ targets eqb next count l p
+  unfoldable pub bytesOf : List ℕ → ℕ → List ℕ
+  bytesOf l p = pairBytes p ++ targets eqb next count l p
 
   -- those of the first i states of l
-  unfoldable pub rowsBytes : List ℕ → ℕ → List ℕ
-  rowsBytes l zero = []
-  rowsBytes l (suc i) = rowsBytes l i ++ rowBytes l (getD l i 0)
+  unfoldable pub statesBytes : List ℕ → ℕ → List ℕ
+  statesBytes l zero = []
+  statesBytes l (suc i) = statesBytes l i ++ bytesOf l (getD l i 0)
 
-  -- a turn of state p over the list l: r states after it, its row in a part with that room; 257 if there are over 256
-  pub record Turned (l : List ℕ) (p room : ℕ) (row′ states′ index′ : List ℕ) (r : ℕ) : Type 0 where
-    pub kept : r ≤ 256 → Kept states′ index′ r (expand eqb next p count l)
+  -- the turn of state p over the list l: r states after it, and the numbers of its targets; 257 if there are over 256
+  pub record Turned (l : List ℕ) (p : ℕ) (numbers states index : List ℕ) (r : ℕ) : Type 0 where
+    pub kept : r ≤ 256 → Kept states index r (expand eqb next p count l)
     pub over : 256 < r → 256 < length (expand eqb next p count l)
-    pub written : r ≤ 256 → room ≡ count + 2 → row′ ≡ rowBytes (expand eqb next p count l) p
+    pub numbered : r ≤ 256 → take count numbers ≡ targets eqb next count (expand eqb next p count l) p
 
-  -- the same with the row's stretch at a of the part, if that lies in it
-  pub record TurnedAt (l : List ℕ) (p a : ℕ) (part part′ states′ index′ : List ℕ) (r : ℕ) : Type 0 where
-    pub same-length : length part′ ≡ length part
-    pub kept : r ≤ 256 → Kept states′ index′ r (expand eqb next p count l)
-    pub over : 256 < r → 256 < length (expand eqb next p count l)
-    pub written : r ≤ 256 → a + count + 2 ≤ length part → take (a + count + 2) part′ ≡ take a part ++ rowBytes (expand eqb next p count l) p
-
-  -- all turns: r states, their rows at the front of the part, if it has room for them
+  -- all turns: r states, their bytes at the front of the part, if it has room for them
   pub record Discovered (part part′ : List ℕ) (r : ℕ) : Type 0 where
     pub same-length : length part′ ≡ length part
     pub few : r ≤ 256 → r ≡ length (found 256)
     pub over : 256 < r → 256 < length (found 256)
-    pub rows : r ≤ 256 → r * (count + 2) ≤ length part → take (r * (count + 2)) part′ ≡ rowsBytes (found 256) r
+    pub rows : r ≤ 256 → r * (count + 2) ≤ length part → take (r * (count + 2)) part′ ≡ statesBytes (found 256) r
 
   -- the image of the states found
   unfoldable pub imageBy : List ℕ → List ℕ
   imageBy sy =
-      count ∷ take (3 * count) sy ++ length (found 256) % 256 ∷ length (found 256) / 256 ∷ [] ++ rowsBytes (found 256) (length (found 256))
+      count ∷ take (3 * count) sy ++ length (found 256) % 256 ∷ length (found 256) / 256 ∷ [] ++ statesBytes (found 256) (length (found 256))
 
   -- its length
   abbrev pub sizeBy : ℕ

@@ -5,9 +5,9 @@ ghost use mathlib.Core.Path.{_≡_};
 ghost use mathlib.Core.List.{List};
 ghost use Prim.Native.Nat.{ℕ, _+_, _*_, _≤_, _<_};
 ghost use lib.Dec.{eqb};
-ghost use lib.ListN.{length, set};
+ghost use lib.ListN.{length, take};
 ghost use Rattle.resolution.specs.Lists.{addBy, indexBy};
-ghost use Rattle.signal_table.specs.States.{nextPair, numberIn, Kept, longer, Turned, TurnedAt, Discovered};
+ghost use Rattle.signal_table.specs.States.{nextPair, numberIn, Kept, longer, pairBytes, Placed, Turned, Discovered};
 
 pub(crate) fn wide(x: u8) -> usize
     ensures { λ r. ⌜ (r ≡ x) × (r < 256) ⌝ }
@@ -92,16 +92,7 @@ fn longer_by(n: usize, j: usize) -> usize
     n
 }
 
-// A byte in a row, if it has room.
-fn store(row: &mut [u8], at: usize, x: u8)
-    ensures { λ _. ⌜ now (row .exit) ≡ set (now (row .entry)) at x ⌝ }
-{
-    if at < row.len() {
-        row[at] = x;
-    }
-}
-
-// The turn of state p: its pair and the numbers of its targets, each kept, go into its row, as far as that has room.
+// The turn of state p: its targets are kept, and their numbers start the array.
 fn turn<'a>(
     rows: &'a [u64; 32],
     parents: &'a [u8; 64],
@@ -112,17 +103,15 @@ fn turn<'a>(
     index: &mut [u8; 8192],
     n: usize,
     p: usize,
-    row: &mut [u8],
+    numbers: &mut [u8; 128],
 ) -> usize
-    requires { ⌜ (count ≤ 128) × (n ≤ 256) × (p < 8192) ⌝ }
-    ensures { λ r. ⌜ (r ≤ 257) × (length (now (row .exit)) ≡ length (now (row .entry))) ⌝ }
+    requires { ⌜ (count ≤ 128) × (n ≤ 256) × (p < 8192) × (length (now numbers) ≡ 128) ⌝ }
+    ensures { λ r. ⌜ (r ≤ 257) × (length (now (numbers .exit)) ≡ 128) ⌝ }
     ensures { λ r. ⌜
         ((l : List ℕ) → Kept (now (states .entry)) (now (index .entry)) n l
-        → Turned (nextPair (now (rows .entry)) (now (parents .entry)) signals (now (symbols .entry))) count l p (length (now (row .entry))) (now (row .exit)) (now (states .exit)) (now (index .exit)) r)
+        → Turned (nextPair (now (rows .entry)) (now (parents .entry)) signals (now (symbols .entry))) count l p (now (numbers .exit)) (now (states .exit)) (now (index .exit)) r)
         ⌝ }
 {
-    store(row, 0, (p / 256) as u8);
-    store(row, 1, (p % 256) as u8);
     let mut m = n;
     let mut k = 0;
     while k < count {
@@ -132,64 +121,47 @@ fn turn<'a>(
             return 257;
         }
         m = longer_by(m, j);
-        store(row, k + 2, j as u8);
+        numbers[k] = j as u8;
         k += 1;
     }
     m
 }
 
-// The turn of state p with the stretch at a for its row, if that lies in the part.
-fn turn_at<'a>(
-    rows: &'a [u64; 32],
-    parents: &'a [u8; 64],
-    signals: usize,
-    symbols: &[u8; 384],
-    count: usize,
-    states: &mut [u16; 256],
-    index: &mut [u8; 8192],
-    n: usize,
-    p: usize,
-    part: &mut [u8],
-    a: usize,
-) -> usize
-    requires { ⌜ (count ≤ 128) × (n ≤ 256) × (p < 8192) × (a ≤ 65536) ⌝ }
-    ensures { λ r. ⌜ r ≤ 257 ⌝ }
-    ensures { λ r. ⌜
-        ((l : List ℕ) → Kept (now (states .entry)) (now (index .entry)) n l
-        → TurnedAt (nextPair (now (rows .entry)) (now (parents .entry)) signals (now (symbols .entry))) count l p a (now (part .entry)) (now (part .exit)) (now (states .exit)) (now (index .exit)) r)
-        ⌝ }
+// A state's two bytes before its row: its signal and its shut set.
+fn write_pair(pair: &mut [u8], p: usize)
+    requires { ⌜ (p < 8192) × (length (now pair) ≡ 2) ⌝ }
+    ensures { λ _. ⌜ now (pair .exit) ≡ pairBytes p ⌝ }
 {
-    let e = a + count + 2;
-    if e <= part.len() {
-        return turn(
-            rows,
-            parents,
-            signals,
-            symbols,
-            count,
-            states,
-            index,
-            n,
-            p,
-            &mut part[a..e],
-        );
-    }
-    let z = 0;
-    turn(
-        rows,
-        parents,
-        signals,
-        symbols,
-        count,
-        states,
-        index,
-        n,
-        p,
-        &mut part[z..z],
-    )
+    pair[0] = (p / 256) as u8;
+    pair[1] = (p % 256) as u8;
 }
 
-// How many states there are, or 257 if over 256; their rows at the front of the part, if it has room for them.
+// The row writer: it is lent a state's row, from its first byte to its last, and writes one target for each symbol.
+fn write_row(row: &mut [u8], numbers: &[u8; 128])
+    requires { ⌜ (length (now row) ≤ 128) × (length (now numbers) ≡ 128) ⌝ }
+    ensures { λ _. ⌜ now (row .exit) ≡ take (length (now (row .entry))) (now (numbers .entry)) ⌝ }
+{
+    let mut k = 0;
+    while k < row.len() {
+        row[k] = numbers[k];
+        k += 1;
+    }
+}
+
+// State p in its stretch at a of the part, if that lies in it: its pair, then its row.
+fn write_state(part: &mut [u8], a: usize, p: usize, numbers: &[u8; 128], count: usize)
+    requires { ⌜ (a ≤ 65536) × (p < 8192) × (length (now numbers) ≡ 128) × (count ≤ 128) ⌝ }
+    ensures { λ _. ⌜ Placed count p (now (numbers .entry)) a (now (part .entry)) (now (part .exit)) ⌝ }
+{
+    let from = a + 2;
+    let to = from + count;
+    if to <= part.len() {
+        write_pair(&mut part[a..from], p);
+        write_row(&mut part[from..to], numbers);
+    }
+}
+
+// How many states there are, or 257 if over 256; their bytes at the front of the part, if it has room for them.
 pub(crate) fn discover<'a>(
     rows: &'a [u64; 32],
     parents: &'a [u8; 64],
@@ -203,12 +175,13 @@ pub(crate) fn discover<'a>(
 {
     let mut states = [0u16; 256];
     let mut index = [0u8; 8192];
+    let mut numbers = [0u8; 128];
     let mut n = 1;
     let mut i = 0;
     let mut a = 0;
     while i < n {
         let p = wide16(states[i]);
-        n = turn_at(
+        n = turn(
             rows,
             parents,
             signals,
@@ -218,12 +191,12 @@ pub(crate) fn discover<'a>(
             &mut index,
             n,
             p,
-            part,
-            a,
+            &mut numbers,
         );
         if 256 < n {
             return 257;
         }
+        write_state(part, a, p, &numbers, count);
         a = a + count + 2;
         i += 1;
     }

@@ -2,8 +2,9 @@
 ghost use mathlib.Core.Path.{_≡_};
 ghost use mathlib.Core.List.{List, [], _∷_, _++_};
 ghost use Prim.Native.Nat.{ℕ, _+_, _*_, _≤_, _<_};
-ghost use lib.ListN.{length};
-ghost use Rattle.signal_table.specs.Listed.{Listed, childless, nodeTriples, categoryTriples, tripleLists, fewer, isTriple, tripleIndex, kindFor, slot, slotAt, Index, entryAt, numberFrom, symbolNumber};
+ghost use lib.ListN.{replicate};
+ghost use Rattle.node_step.specs.Uses.{fewer};
+ghost use Rattle.signal_table.specs.Listed.{childless, nodeTriples, categoryTriples, tripleLists, symbolsOf, Listed, isTriple, tripleIndex, kindFor, slot, slotAt, indexFrom, entryAt, numberFrom, symbolNumber};
 
 // How many symbols there are, and three bytes for each.
 pub struct Symbols {
@@ -103,7 +104,7 @@ fn push_all<'a>(
     categories: usize,
     bytes: &mut [u8; 384],
 ) -> usize
-    requires { ⌜ (nodes ≤ 64) × (categories ≤ 8) × (length (now bytes) ≡ 384) ⌝ }
+    requires { ⌜ (nodes ≤ 64) × (categories ≤ 8) × (now bytes ≡ replicate 384 0) ⌝ }
     ensures { λ r. ⌜ r ≤ 128 ⌝ }
     ensures { λ r. ⌜ Listed (now (bytes .exit)) r (tripleLists (now (category .entry)) (now (parents .entry)) nodes categories) ⌝ }
 {
@@ -116,16 +117,6 @@ fn push_all<'a>(
     n
 }
 
-// n, or m if that is less.
-fn at_most(n: usize, m: usize) -> usize
-    ensures { λ r. ⌜ (r ≡ fewer n m) × (r ≤ m) ⌝ }
-{
-    if n <= m {
-        return n;
-    }
-    m
-}
-
 // The symbols of a table with these nodes, at most 128 of them.
 pub fn list<'a>(
     category: &'a [u8; 64],
@@ -133,14 +124,11 @@ pub fn list<'a>(
     nodes: usize,
     categories: usize,
 ) -> Symbols
-    ensures { λ r. ⌜
-        Listed (r .bytes) (r .count)
-        (tripleLists (now (category .entry)) (now (parents .entry)) (fewer nodes 64) (fewer categories 8)) × (r .count ≤ 128)
-        ⌝ }
+    ensures { λ r. ⌜ r ≡ symbolsOf (tripleLists (now (category .entry)) (now (parents .entry)) (fewer nodes 64) (fewer categories 8)) ⌝ }
 {
     let mut bytes = [0u8; 384];
-    let n = at_most(nodes, 64);
-    let k = at_most(categories, 8);
+    let n = node_step::uses::at_most(nodes, 64);
+    let k = node_step::uses::at_most(categories, 8);
     let count = push_all(category, parents, n, k, &mut bytes);
     Symbols { count, bytes }
 }
@@ -213,10 +201,10 @@ fn slot_at(bytes: &[u8; 384], k: usize) -> usize
 
 // The index of the first symbols: at each one's slot the number of the first that has it.
 pub fn index(bytes: &[u8; 384], count: usize) -> [u8; 136]
-    ensures { λ r. ⌜ Index r (now (bytes .entry)) (fewer count 128) ⌝ }
+    ensures { λ r. ⌜ r ≡ indexFrom (now (bytes .entry)) 0 (fewer count 128) ⌝ }
 {
     let mut index = [0u8; 136];
-    let mut k = at_most(count, 128);
+    let mut k = node_step::uses::at_most(count, 128);
     while 0 < k {
         k -= 1;
         let s = slot_at(bytes, k);
@@ -263,8 +251,8 @@ pub fn number(
 ) -> u8
     ensures { λ r. ⌜ r ≡ symbolNumber (now (index .entry)) (now (bytes .entry)) count (now (parents .entry)) nodes c d whole ⌝ }
 {
-    let n = at_most(nodes, 64);
-    let m = at_most(count, 128);
+    let n = node_step::uses::at_most(nodes, 64);
+    let m = node_step::uses::at_most(count, 128);
     let kind = kind_for(parents, n, d, whole);
     let k = entry_at(index, slot(c, d, kind));
     number_from(bytes, m, c, d, kind, k)

@@ -48,16 +48,6 @@ fn put_head(symbols: &[u8; 384], count: usize, n: usize, head: &mut [u8])
     head[2 + end] = (n / 256) as u8;
 }
 
-// n, or m if that is less.
-fn at_most(n: usize, m: usize) -> usize
-    ensures { λ r. ⌜ (r ≤ m) × (n ≤ m → r ≡ n) ⌝ }
-{
-    if n <= m {
-        return n;
-    }
-    m
-}
-
 // The machine of a table whose places, parents and symbols these are.
 pub(crate) fn build_by<'a>(
     rows: &'a [u64; 32],
@@ -73,7 +63,7 @@ pub(crate) fn build_by<'a>(
 {
     let head = 3 + 3 * count;
     let room = buf.len();
-    let from = at_most(head, room);
+    let from = node_step::uses::at_most(head, room);
     let n = crate::states::discover(rows, parents, signals, symbols, count, &mut buf[from..room]);
     if 256 < n {
         return refuse(buf, 13);

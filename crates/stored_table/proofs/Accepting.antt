@@ -18,11 +18,13 @@ use Rattle.resolution.specs.Nodes.{nodes, nodeAt}
 use Rattle.resolution.proofs.Lists.{mem-at, index-member, index-at}
 use Rattle.resolution.proofs.Names.{name-exact, row-exact}
 use Rattle.resolution.proofs.Nodes.{nodes-all}
-use Rattle.stored_table.specs.Stored.{Read, fault, got, byteIn, text, times, counted, signal, signals, storedFrom, Stored, stored}
-use Rattle.stored_table.specs.Tables.{any, noTwo, formed, uses, isListed, listed, toUrn, tableIn, sameCat, noUrn, single, plain, samePlaces, distinct, fewNodes, verdict, judged, judgedRead, tableRefusal, tableRead, tableOf}
+use Rattle.table_sections.specs.Stored.{Read, fault, got, Stored, stored, sections}
+use Rattle.signal_places.specs.Verdict.{sameCat, noUrn, samePlaces}
+use Rattle.stored_table.specs.Tables.{any, noTwo, formed, uses, isListed, listed, toUrn, tableIn, single, plain, distinct, fewNodes, verdict, judged, judgedRead, tableRefusal, tableRead, tableOf}
 use Rattle.stored_table.specs.Accepted.{Accepted}
-use Rattle.stored_table.proofs.Readings.{after-got, byte-read, times-length}
-use Rattle.stored_table.proofs.Judging.{fault-stored, two-distinct, map-length}
+use Rattle.table_sections.proofs.FaultLaws.{fault-sections, stored-counts}
+use Rattle.table_sections.proofs.SectionLaws.{sections-read}
+use Rattle.stored_table.proofs.Judging.{two-distinct, map-length}
 
 all-mem : {A : Type 0} (p : A → Bool) (xs : List A) (x : A) → all p xs ≡ true → List·Memᴰ x xs → p x ≡ true
 unfolding all
@@ -122,38 +124,11 @@ judged-zero s e = go (formed s) (listed s) (single (tableIn s)) (plain (tableIn 
 
 pub refusal-zero : (t : List ℕ) → tableRefusal t ≡ 0 → (s : Stored) × (p : ℕ) × (stored t ≡ got s p) × (judged s ≡ 0)
 unfolding tableRefusal judgedRead
-refusal-zero t e = byTest (ltb 8192 (length t)) (λ b. absurd (omega (arith, rw b at e))) (λ b. go (stored t) refl (rw b at e))
+refusal-zero t e = go (sections t) refl e
   where
-    go : (r : Read Stored) → stored t ≡ r → judgedRead r ≡ 0 → (s : Stored) × (p : ℕ) × (stored t ≡ got s p) × (judged s ≡ 0)
-    go (fault k) f g = absurd (fault-stored t k f g)
-    go (got s p) f g = (s, p, f, g)
-
--- the counts
-counted-length : {A : Type 0} (lo hi : ℕ) (rd : ℕ → Read A) (t : List ℕ) (at : ℕ) (xs : List A) (q : ℕ) → counted lo hi rd t at ≡ got xs q → (lo ≤ length xs) × (length xs ≤ hi)
-unfolding counted
-counted-length lo hi rd t at xs q e =
-    let a = after-got (byteIn lo hi t at) (λ n p. times rd n p) xs q e in
-    let b = byte-read lo hi t at (a .0) (a .1) (a .2) in
-    let l = times-length rd (a .0) (a .1) xs q (a .3) in
-    (omega (arith, l, b .low), omega (arith, l, b .high))
-
-ended : (ns : List Name) (ss : List (List (List ℕ))) (b : Bool) (p q : ℕ) (s : Stored) → cond b (fault 5) (got (record { names = ns; signals = ss }) p) ≡ got s q → record { names = ns; signals = ss } ≡ s
-ended ns ss true p q s e = let z : _≡_ {A = ℕ} 0 1 = cc in absurd (omega arith)
-ended ns ss false p q s e = cc
-
-stored-counts : (t : List ℕ) (s : Stored) (q : ℕ) → stored t ≡ got s q → (1 ≤ length (s .names)) × (length (s .names) ≤ 8) × (1 ≤ length (s .signals)) × (length (s .signals) ≤ 32)
-unfolding stored storedFrom
-stored-counts t s q e =
-    let a = after-got (counted 1 8 (text 55 t) t 0) (λ ns at. storedFrom t ns at) s q e in
-    let c = counted-length 1 8 (text 55 t) t 0 (a .0) (a .1) (a .2) in
-    let b = after-got (counted 1 32 (signal t) t (a .1)) (λ ss p. cond (ltb p (length t)) (fault 5) (got (record { names = a .0; signals = ss }) p)) s q (a .3) in
-    let d = counted-length 1 32 (signal t) t (a .1) (b .0) (b .1) (b .2) in
-    let z = ended (a .0) (b .0) (ltb (b .1) (length t)) (b .1) q s (b .3) in (
-      omega (arith, c .0, ap (λ (x : Stored). length (x .names)) z),
-      omega (arith, c .1, ap (λ (x : Stored). length (x .names)) z),
-      omega (arith, d .0, ap (λ (x : Stored). length (x .signals)) z),
-      omega (arith, d .1, ap (λ (x : Stored). length (x .signals)) z),
-    )
+    go : (r : Read Stored) → sections t ≡ r → judgedRead r ≡ 0 → (s : Stored) × (p : ℕ) × (stored t ≡ got s p) × (judged s ≡ 0)
+    go (fault k) f g = absurd (fault-sections t k f g)
+    go (got s p) f g = (s, p, sections-read t s p f .1, g)
 
 module _ (t : List ℕ) (s : Stored) (q : ℕ) (r : stored t ≡ got s q) (g : Passed s) where
   -- a URN of the table is a stored URN

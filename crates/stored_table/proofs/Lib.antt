@@ -1,10 +1,5 @@
-pub mod Readings
-pub mod Tabulated
+pub mod NameLaws
 pub mod Indexing
-pub mod Prefixes
-pub mod NodeArrays
-pub mod RowLaws
-pub mod Flat
 pub mod Judging
-pub mod Placing
 pub mod Accepting
+pub mod Decoding

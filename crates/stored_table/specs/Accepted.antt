@@ -7,7 +7,8 @@ use mathlib.Core.List.{List, [], List·Memᴰ}
 use lib.ListN.{length}
 use Rattle.resolution.specs.Table.{Urn, Table, WellFormed, rowOf}
 use Rattle.resolution.specs.Nodes.{nodes}
-use Rattle.stored_table.specs.Tables.{noTwo, sameCat}
+use Rattle.signal_places.specs.Tests.{noTwo}
+use Rattle.signal_places.specs.Verdict.{sameCat}
 
 pub record Accepted (T : Table) : Type 0 where
   pub well : WellFormed T

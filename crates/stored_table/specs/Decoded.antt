@@ -5,6 +5,7 @@ use mathlib.Core.List.{List}
 use lib.ListN.{replicate}
 use Rattle.resolution.specs.Table.{Table, WellFormed}
 use Rattle.node_step.specs.Arrays.{NamesIn, NodesIn, Numbers}
+use Rattle.table_sections.specs.Held.{Padded}
 use Rattle.stored_table.specs.Tables.{categoryNames, tableOf, tableRefusal}
 use Rattle.stored_table.specs.declared.Decoded.{Decoded}
 
@@ -33,8 +34,19 @@ pub record Holds (t : List ℕ) (T : Table) (r : Decoded) : Type 0 where
   pub numbers : Numbers (r .rows) (r .parent) (r .signals) T
   pub well-formed : WellFormed T
 
+-- past what the counts say, the arrays are 0
+pub record Past (r : Decoded) : Type 0 where
+  pub name-at : Padded 8 (r .categories) (r .«name_at»)
+  pub name-len : Padded 8 (r .categories) (r .«name_len»)
+  pub category : Padded 64 (r .nodes) (r .category)
+  pub parent : Padded 64 (r .nodes) (r .parent)
+  pub at : Padded 64 (r .nodes) (r .at)
+  pub len : Padded 64 (r .nodes) (r .len)
+  pub rows : Padded 32 (r .signals) (r .rows)
+
 -- what `decode` answers
 pub record Means (t : List ℕ) (r : Decoded) : Type 0 where
   pub refusal : r .refusal ≡ tableRefusal t
   pub refused : (tableRefusal t ≡ 0 → ⊥) → r ≡ refusedTable (tableRefusal t)
   pub holds : tableRefusal t ≡ 0 → Holds t (tableOf t) r
+  pub past : Past r

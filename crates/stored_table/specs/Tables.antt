@@ -1,26 +1,16 @@
 -- Which table the bytes say, and with which of the numbers 4 to 12 they are refused.
 use Prim.Native.Nat.{ℕ}
-use mathlib.Core.Bool.{Bool, true, false, cond, not, _&&_}
-use mathlib.Core.List.{List, [], _∷_, map}
-use lib.ListN.{length, getD}
-use lib.Dec.{leb, ltb, eqb}
+use mathlib.Core.Bool.{Bool, cond, _&&_}
+use mathlib.Core.List.{List, [], map}
+use lib.ListN.{length}
 use Rattle.resolution.specs.Lists.{memberBy, indexBy}
 use Rattle.resolution.specs.Names.{Name, sameName}
-use Rattle.resolution.specs.Table.{Urn, urn, Table, rowFrom, sameRow}
-use Rattle.resolution.specs.Nodes.{nodes}
+use Rattle.resolution.specs.Table.{Urn, urn, Table}
 use Rattle.alert_urn.specs.Text.{all, fields, nameOk}
 use Rattle.alert_urn.specs.Urn.{urnOk, categoryOf, pathOf}
-use Rattle.stored_table.specs.Stored.{Read, fault, got, Stored, stored}
-
--- some element passes the test
-unfoldable pub any : {A : Type 0} → (A → Bool) → List A → Bool
-any p [] = false
-any p (x ∷ xs) = cond (p x) true (any p xs)
-
--- no element clashes with a later one
-unfoldable pub noTwo : {A : Type 0} → (A → A → Bool) → List A → Bool
-noTwo q [] = true
-noTwo q (x ∷ xs) = not (any (q x) xs) && noTwo q xs
+use Rattle.table_sections.specs.Stored.{Read, fault, got, Stored, stored, sections}
+unfoldable pub use Rattle.signal_places.specs.Tests.{any, noTwo}
+unfoldable pub use Rattle.signal_places.specs.Verdict.{single, plain, distinct, fewNodes, verdict}
 
 -- 7: every category name and every URN has its form, and a URN 1 to 8 parts
 unfoldable pub formed : Stored → Bool
@@ -48,36 +38,6 @@ toUrn names u = urn (indexBy sameName (categoryOf u) names) (fields 58 (pathOf u
 abbrev pub tableIn : Stored → Table
 tableIn s = record { cats = length (s .names); signals = map (map (toUrn (s .names))) (s .signals) }
 
--- 9: no signal has two URNs of one category
-abbrev pub sameCat : Urn → Urn → Bool
-sameCat u v = eqb (u .cat) (v .cat)
-
-unfoldable pub single : Table → Bool
-single T = all (noTwo sameCat) (T .signals)
-
--- 10: signal 0 has no URN
-abbrev pub noUrn : List Urn → Bool
-noUrn [] = true
-noUrn (u ∷ us) = false
-
-unfoldable pub plain : Table → Bool
-plain T = noUrn (getD (T .signals) 0 [])
-
--- 11: no two signals have the same places
-abbrev pub samePlaces : ℕ → List Urn → List Urn → Bool
-samePlaces n a b = sameRow (rowFrom a 0 n) (rowFrom b 0 n)
-
-unfoldable pub distinct : Table → Bool
-distinct T = noTwo (samePlaces (T .cats)) (T .signals)
-
--- 12: at most 64 nodes
-unfoldable pub fewNodes : Table → Bool
-fewNodes T = leb (length (nodes T)) 64
-
--- the first of 9 to 12 that holds of a table, or 0
-unfoldable pub verdict : Table → ℕ
-verdict T = cond (single T) (cond (plain T) (cond (distinct T) (cond (fewNodes T) 0 12) 11) 10) 9
-
 -- the first of 7 to 12 that holds of what is stored, or 0
 unfoldable pub judged : Stored → ℕ
 judged s = cond (formed s) (cond (listed s) (verdict (tableIn s)) 8) 7
@@ -88,7 +48,7 @@ judgedRead (got s at) = judged s
 
 -- the number with which a stored table is refused, or 0: well-formed
 unfoldable pub tableRefusal : List ℕ → ℕ
-tableRefusal t = cond (ltb 8192 (length t)) 4 (judgedRead (stored t))
+tableRefusal t = judgedRead (sections t)
 
 -- the names of the categories, in their order; none where the bytes cannot be read
 unfoldable pub namesRead : Read Stored → List Name

@@ -1,5 +1,9 @@
-use crate::forms::name_text;
-use crate::forms::urn_text;
+use table_sections::bytes::short;
+use table_sections::bytes::small;
+use table_sections::bytes::wide;
+use table_sections::bytes::wider;
+use table_sections::texts::name_text;
+use table_sections::texts::urn_text;
 ghost use mathlib.Core.Path.{_≡_};
 ghost use mathlib.Core.Bool.{true};
 ghost use Prim.Native.Nat.{_≤_, _<_, _+_};
@@ -80,9 +84,9 @@ pub(crate) fn index_urns(
         let c = name_index(t, &u[a..k], n, name_at, name_len);
         if c < n {
             let e = path_start(u.len(), k);
-            category[i] = crate::read::small(c);
-            path_at[i] = crate::read::short(crate::read::wider(at[i]) + e);
-            path_len[i] = crate::read::small(u.len() - e);
+            category[i] = small(c);
+            path_at[i] = short(wider(at[i]) + e);
+            path_len[i] = small(u.len() - e);
             i += 1;
         } else {
             return false;
@@ -98,7 +102,7 @@ fn has_category(category: &[u8; 256], m: usize, c: usize) -> bool
 {
     let mut i = 0;
     while i < m {
-        if crate::read::wide(category[i]) == c {
+        if wide(category[i]) == c {
             return true;
         }
         i += 1;

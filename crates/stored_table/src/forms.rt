@@ -1,32 +1,11 @@
+use table_sections::texts::name_text;
+use table_sections::texts::urn_text;
 ghost use mathlib.Core.Path.{_≡_};
-ghost use mathlib.Core.Bool.{_&&_};
-ghost use Prim.Native.Nat.{_≤_, _<_};
-ghost use lib.ListN.{length};
+ghost use Prim.Native.Nat.{_≤_};
 ghost use Rattle.resolution.specs.Lists.{tabulate};
 ghost use Rattle.alert_urn.specs.Text.{all, nameOk};
 ghost use Rattle.alert_urn.specs.Urn.{urnOk};
 ghost use Rattle.node_step.specs.Arrays.{stretch};
-
-// The name of category i.
-pub(crate) fn name_text<'a>(t: &'a [u8], at: &[u16; 8], len: &[u8; 8], i: usize) -> &'a [u8]
-    requires { ⌜ i < 8 ⌝ }
-    ensures { λ r. ⌜ now r ≡ stretch (now (t .entry)) (now (at .entry)) (now (len .entry)) i ⌝ }
-{
-    let a = crate::read::wider(at[i]);
-    let n = crate::read::wide(len[i]);
-    alert_urn::text::part(t, a, n)
-}
-
-// The i-th URN, or its path.
-pub(crate) fn urn_text<'a>(t: &'a [u8], at: &[u16; 256], len: &[u8; 256], i: usize) -> &'a [u8]
-    requires { ⌜ i < 256 ⌝ }
-    ensures { λ r. ⌜ now r ≡ stretch (now (t .entry)) (now (at .entry)) (now (len .entry)) i ⌝ }
-    ensures short { λ r. ⌜ length (now r) ≤ 255 ⌝ }
-{
-    let a = crate::read::wider(at[i]);
-    let n = crate::read::wide(len[i]);
-    alert_urn::text::part(t, a, n)
-}
 
 // Every category name has its form.
 pub(crate) fn names_formed(t: &[u8], n: usize, at: &[u16; 8], len: &[u8; 8]) -> bool

@@ -1,18 +1,12 @@
 // Stored tables: which bytes are a table, with which number the others are refused, and the table as arrays of numbers.
 mod categories;
 mod forms;
-mod nodes;
-mod places;
-mod read;
-mod signals;
 
-use crate::read::Counts;
+use table_sections::Counts;
 ghost use mathlib.Core.Path.{_≡_};
-ghost use Prim.Native.Nat.{_≤_};
-ghost use lib.ListN.{length};
+ghost use Rattle.table_sections.specs.Held.{ReadAs};
 ghost use Rattle.stored_table.specs.Tables.{tableRefusal};
-ghost use Rattle.stored_table.specs.Held.{ReadAs};
-ghost use Rattle.stored_table.specs.Stages.{FormedAs, ListedAs, SlotsAs};
+ghost use Rattle.stored_table.specs.Stages.{FormedAs, ListedAs};
 ghost use Rattle.stored_table.specs.Decoded.{refusedTable, Means};
 
 // A decoded table: its refusal number, its categories' names, its nodes and the places of its signals. Node k stands at k - 1.
@@ -49,7 +43,7 @@ fn refused(k: u8) -> Decoded
     }
 }
 
-// The nodes and the places, with refusals 11 and 12. If there are too many nodes, the places are compared as texts.
+// The nodes and the places, with refusals 9 to 12.
 fn placed(
     t: &[u8],
     l: Counts,
@@ -59,9 +53,8 @@ fn placed(
     category: &[u8; 256],
     path_at: &[u16; 256],
     path_len: &[u8; 256],
-    slots: &[u16; 256],
 ) -> Decoded
-    requires { ⌜ SlotsAs (now t) (now «name_at») (now «name_len») (now signal) (now category) (now «path_at») (now «path_len») (now slots) l ⌝ }
+    requires { ⌜ ListedAs (now t) (now «name_at») (now «name_len») (now signal) (now category) (now «path_at») (now «path_len») l ⌝ }
     ensures { λ r. ⌜ Means (now (t .entry)) r ⌝ }
 {
     let mut node = [0u8; 256];
@@ -69,7 +62,7 @@ fn placed(
     let mut parent = [0u8; 64];
     let mut at = [0u16; 64];
     let mut len = [0u8; 64];
-    let n = nodes::add_all(
+    let n = table_nodes::add_all(
         t,
         l.urns,
         category,
@@ -82,11 +75,20 @@ fn placed(
         &mut len,
     );
     if 64 < n {
-        return refused(places::crowded(t, l.signals, l.categories, slots, path_at, path_len));
+        return refused(signal_places::by_texts(
+            t,
+            l.signals,
+            l.categories,
+            l.urns,
+            signal,
+            category,
+            path_at,
+            path_len,
+        ));
     }
     let mut rows = [0u64; 32];
-    places::fill_rows(l.signals, slots, &node, &mut rows);
-    if places::rows_distinct(l.signals, &rows) {
+    let k = signal_places::by_nodes(l.signals, l.urns, signal, category, &node, &mut rows);
+    if k == 0 {
         return Decoded {
             refusal: 0,
             categories: l.categories,
@@ -101,41 +103,7 @@ fn placed(
             rows,
         };
     }
-    refused(11)
-}
-
-// Refusals 9 and 10.
-fn slotted(
-    t: &[u8],
-    l: Counts,
-    name_at: &[u16; 8],
-    name_len: &[u8; 8],
-    signal: &[u8; 256],
-    category: &[u8; 256],
-    path_at: &[u16; 256],
-    path_len: &[u8; 256],
-) -> Decoded
-    requires { ⌜ ListedAs (now t) (now «name_at») (now «name_len») (now signal) (now category) (now «path_at») (now «path_len») l ⌝ }
-    ensures { λ r. ⌜ Means (now (t .entry)) r ⌝ }
-{
-    let mut slots = [0u16; 256];
-    if signals::fill_slots(l.urns, signal, category, &mut slots) {
-        if signals::silent(l.urns, signal) {
-            return placed(
-                t,
-                l,
-                name_at,
-                name_len,
-                signal,
-                category,
-                path_at,
-                path_len,
-                &slots,
-            );
-        }
-        return refused(10);
-    }
-    refused(9)
+    refused(k)
 }
 
 // Refusal 8.
@@ -168,7 +136,7 @@ fn listed(
             &mut path_len,
         ) {
             if categories::all_used(&category, l.urns, l.categories) {
-                return slotted(
+                return placed(
                     t,
                     l,
                     name_at,
@@ -196,7 +164,7 @@ fn formed(
     len: &[u8; 256],
     signal: &[u8; 256],
 ) -> Decoded
-    requires { ⌜ (length (now t) ≤ 8192) × ReadAs (now t) (now «name_at») (now «name_len») (now at) (now len) (now signal) l ⌝ }
+    requires { ⌜ ReadAs (now t) (now «name_at») (now «name_len») (now at) (now len) (now signal) l ⌝ }
     ensures { λ r. ⌜ Means (now (t .entry)) r ⌝ }
 {
     if forms::names_formed(t, l.categories, name_at, name_len) {
@@ -212,15 +180,12 @@ fn formed(
 pub fn decode(t: &[u8]) -> Decoded
     ensures { λ r. ⌜ Means (now (t .entry)) r ⌝ }
 {
-    if 8192 < t.len() {
-        return refused(4);
-    }
     let mut name_at = [0u16; 8];
     let mut name_len = [0u8; 8];
     let mut at = [0u16; 256];
     let mut len = [0u8; 256];
     let mut signal = [0u8; 256];
-    let l = read::read_table(
+    let l = table_sections::read(
         t,
         &mut name_at,
         &mut name_len,

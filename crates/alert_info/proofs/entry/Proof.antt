@@ -1,6 +1,7 @@
-use mathlib.Core.Path.{refl}
+use mathlib.Core.Path.{refl, ap}
 use native.Mathlib.Omega.{arith}
-use Rattle.alert_info.proofs.PassLaws.{span-fits, entry-of}
+use Rattle.alert_info.proofs.PassLaws.{span-fits, span-of, entry-of}
+use Rattle.alert_info.specs.declared.alert_param.Span.{Span}
 use denote.Ref.{now}
 use borrow.Author.Needs.{needs}
 use Rattle.alert_info.proofs.entry.Statement.{statement}
@@ -22,7 +23,10 @@ part-result-end : tie.Need-part-result-end
 part-result-end c = span-fits _ _ _ (c .before .judge .ensures)
 
 returns : tie.Need-returns
-returns c = entry-of _ _ _ (c .before .before .judge .ensures) _ refl
+returns c =
+    let j = c .before .before .judge .ensures in
+    let place = ap (λ (p : Span). p .start) (span-of _ _ _ j) in
+    (entry-of _ _ _ j _ refl, (refl, omega (arith, place)))
 
 pub entry-spec : {M : Type 1} → statement M
 entry-spec =

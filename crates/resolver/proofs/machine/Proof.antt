@@ -34,7 +34,7 @@ value-first-requires-2 c κs = search needs
 returns-3 : tie.Need-returns-3
 returns-3 c = let z = sym (c .before .before .before .before .before .before .before .before .before .before .decode .ensures .refusal) ∙ c .before .before .before .before .before .before .before .before .before .if2 .left in
     let h = c .before .before .before .before .before .before .before .before .before .before .decode .ensures .holds z in
-    c .value-first2 .ensures ∙ machine-form _ _ _ z (sym (form-listed _ _ (c .before .before .before .before .before .before .before .before .before .before .decode .ensures) (c .before .before .before .before .before .before .before .before .before .if2 .left) (c .before .before .before .before .before .list .ensures .0) _ (c .before .before .formed .ensures)) ∙ not-true _ (c .before .if3 .taken))
+    c .value-first2 .ensures ∙ machine-form _ _ _ z (sym (form-listed _ _ (c .before .before .before .before .before .before .before .before .before .before .decode .ensures) (c .before .before .before .before .before .before .before .before .before .if2 .left) (c .before .before .before .before .before .list .ensures) _ (c .before .before .formed .ensures)) ∙ not-true _ (c .before .if3 .taken))
 
 index-requires : tie.Need-index-requires
 index-requires c κs = search needs
@@ -45,8 +45,8 @@ resolved-requires c κs = search needs
 returns-4 : tie.Need-returns-4
 returns-4 c = let z = sym (c .before .before .before .before .before .before .before .before .before .before .before .before .before .before .before .before .decode .ensures .refusal) ∙ c .before .before .before .before .before .before .before .before .before .before .before .before .before .before .before .if2 .left in
     let h = c .before .before .before .before .before .before .before .before .before .before .before .before .before .before .before .before .decode .ensures .holds z in
-    let f = sym (form-listed _ _ (c .before .before .before .before .before .before .before .before .before .before .before .before .before .before .before .before .decode .ensures) (c .before .before .before .before .before .before .before .before .before .before .before .before .before .before .before .if2 .left) (c .before .before .before .before .before .before .before .before .before .before .before .list .ensures .0) _ (c .before .before .before .before .before .before .before .before .formed .ensures)) ∙ not-false _ (c .before .before .before .before .before .before .before .if3 .left) in
-    c .resolved .ensures ∙ machine-right _ _ h _ (symbols-listed _ _ (c .before .before .before .before .before .before .before .before .before .before .before .before .before .before .before .before .decode .ensures) (c .before .before .before .before .before .before .before .before .before .before .before .before .before .before .before .if2 .left) (c .before .before .before .before .before .before .before .before .before .before .before .list .ensures .0)) (c .before .before .before .before .index .ensures) _ (omega (arith, c .before .before .before .before .before .before .before .before .before .before .before .before .before .before .before .before .before .if1 .left)) z f
+    let f = sym (form-listed _ _ (c .before .before .before .before .before .before .before .before .before .before .before .before .before .before .before .before .decode .ensures) (c .before .before .before .before .before .before .before .before .before .before .before .before .before .before .before .if2 .left) (c .before .before .before .before .before .before .before .before .before .before .before .list .ensures) _ (c .before .before .before .before .before .before .before .before .formed .ensures)) ∙ not-false _ (c .before .before .before .before .before .before .before .if3 .left) in
+    c .resolved .ensures ∙ machine-right _ _ h _ (symbols-listed _ _ (c .before .before .before .before .before .before .before .before .before .before .before .before .before .before .before .before .decode .ensures) (c .before .before .before .before .before .before .before .before .before .before .before .before .before .before .before .if2 .left) (c .before .before .before .before .before .before .before .before .before .before .before .list .ensures)) (c .before .before .before .before .index .ensures) _ (omega (arith, c .before .before .before .before .before .before .before .before .before .before .before .before .before .before .before .before .before .if1 .left)) z f
 
 pub machine-spec : {M : Type 1} → statement M
 machine-spec =

@@ -13,8 +13,8 @@ index-urns-requires c κs = search needs
 all-used-requires : tie.Need-all-used-requires
 all-used-requires c κs = search needs
 
-slotted-requires : tie.Need-slotted-requires
-slotted-requires c κs = let a = c .before .before .before .before .before .before .before .before .before .before .before .before .before .before .args in listed-as (a .t .now) (a .name-at .now) (a .name-len .now) (a .at .now) (a .len .now) (a .signal .now) (a .l) (c .before .before .before .before .before .before .before .before .before .before .before .before .before .before .pre) (c .before .before .before .before .before .before .before .index-urns .ensures .1 (c .before .before .before .before .before .before .if2 .taken)) (c .before .before .before .before .before .before .before .before .before .before .before .before .names-distinct .ensures) (c .before .before .before .before .before .before .before .before .before .before .before .if1 .taken) (c .before .before .before .before .all-used .ensures) (c .before .before .before .if3 .taken) (c .before .before .before .before .before .before .before .index-urns .ensures .0) (c .before .before .before .before .before .before .if2 .taken)
+placed-requires : tie.Need-placed-requires
+placed-requires c κs = let a = c .before .before .before .before .before .before .before .before .before .before .before .before .before .before .args in listed-as (a .t .now) (a .name-at .now) (a .name-len .now) (a .at .now) (a .len .now) (a .signal .now) (a .l) (c .before .before .before .before .before .before .before .before .before .before .before .before .before .before .pre) (c .before .before .before .before .before .before .before .index-urns .ensures .1 (c .before .before .before .before .before .before .if2 .taken)) (c .before .before .before .before .before .before .before .before .before .before .before .before .names-distinct .ensures) (c .before .before .before .before .before .before .before .before .before .before .before .if1 .taken) (c .before .before .before .before .all-used .ensures) (c .before .before .before .if3 .taken) (c .before .before .before .before .before .before .before .index-urns .ensures .0) (c .before .before .before .before .before .before .if2 .taken)
 
 returns : tie.Need-returns
 returns c = search needs
@@ -44,7 +44,7 @@ listed-spec =
     names-distinct-requires
     index-urns-requires
     all-used-requires
-    slotted-requires
+    placed-requires
     returns
     refused-requires
     returns-2

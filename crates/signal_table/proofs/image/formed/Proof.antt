@@ -1,3 +1,4 @@
+use native.Mathlib.Omega.{arith}
 use borrow.Author.Tests.{not-true, not-false}
 use Rattle.signal_table.proofs.ImageLaws.{form-cats, form-count, form-short, form-length, form-symbols, form-none, form-many, form-states}
 use borrow.Author.Needs.{needs}
@@ -60,7 +61,7 @@ returns-6 c = let a = c .before .before .before .before .before .before .before 
 returns-7 : tie.Need-returns-7
 returns-7 c = let a = c .before .before .before .before .before .before .before .before .before .before .before .before .before .before .before .args in
     form-many (a .symbols .now) (a .count) (a .signals) (a .categories) (a .im .now) (c .before .before .before .before .before .before .before .before .before .before .before .before .before .if1 .left) (c .before .before .before .before .before .before .before .before .before .before .before .before .if2 .left) (c .before .before .before .before .before .before .before .before .before .before .before .at .ensures .0) (c .before .before .before .before .before .before .before .before .before .before .if3 .left) (c .before .before .before .before .before .before .before .before .before .state-count .ensures .0) (c .before .before .before .before .before .before .before .before .place .ensures .0) (c .before .before .before .before .before .before .before .if4 .left)
-    (c .before .before .before .before .before .before .part .ensures) (c .before .before .before .before .part2 .ensures) (c .before .before .before .same .ensures) (not-false _ (c .before .before .if5 .left)) (c .before .if6 .left) (c .if7 .taken)
+    (c .before .before .before .before .before .before .part .ensures) (c .before .before .before .before .part2 .ensures) (c .before .before .before .same .ensures) (not-false _ (c .before .before .if5 .left)) (c .before .if6 .left) (omega (arith, c .if7 .taken))
 
 states-formed-requires : tie.Need-states-formed-requires
 states-formed-requires c κs = search needs

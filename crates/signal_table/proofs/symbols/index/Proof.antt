@@ -1,14 +1,15 @@
 use native.Mathlib.Omega.{arith}
-use Prim.Native.Nat.{_≤_}
-use mathlib.Core.Path.{refl}
-use Rattle.signal_table.specs.Listed.{fewer}
-use Rattle.signal_table.proofs.SymbolLaws.{IndexFrom, indexed-none, indexed-put, indexed-skip, indexed-all}
+use Prim.Native.Nat.{_-_, _≤_}
+use mathlib.Core.Path.{_≡_, refl}
+use Rattle.node_step.specs.Uses.{fewer}
+use Rattle.signal_table.specs.Listed.{indexFrom}
+use Rattle.signal_table.proofs.SymbolLaws.{index-none, index-put, index-skip, index-all}
 use borrow.Author.Needs.{needs}
 use Rattle.signal_table.proofs.symbols.index.Statement.{statement}
 use Rattle.signal_table.proofs.symbols.index.Tie as tie
 
 abbrev Inv-loop : tie.InvT-loop
-Inv-loop bytes count index₀ k₀ index k = (k ≤ 128) × IndexFrom index bytes k (fewer count 128)
+Inv-loop bytes count index₀ k₀ index k = (k ≤ 128) × (k ≤ fewer count 128) × (index ≡ indexFrom bytes k (fewer count 128 - k))
 
 abbrev μ-loop : tie.MeasureT-loop
 μ-loop bytes count index₀ k₀ index k = k
@@ -17,7 +18,7 @@ at-most-requires : tie.Need-at-most-requires Inv-loop μ-loop
 at-most-requires c κs = search needs
 
 loop-holds : tie.Need-loop-holds Inv-loop μ-loop
-loop-holds c = (c .at-most .ensures .1, indexed-none _ _ _ _ refl (c .at-most .ensures .0))
+loop-holds c = (c .at-most .ensures .1, omega (arith, c .at-most .ensures .0), index-none _ _ _ refl (c .at-most .ensures .0))
 
 sub-k : tie.Need-sub-k Inv-loop μ-loop
 sub-k c = search needs
@@ -35,16 +36,16 @@ loop-less : tie.Need-loop-less Inv-loop μ-loop
 loop-less c = omega arith
 
 loop-again : tie.Need-loop-again Inv-loop μ-loop
-loop-again c = (omega arith, indexed-put _ (c .before .before .before .before .before .args .bytes .now) _ _ (c .before .before .before .loop .inv .1) (c .before .before .loop-test .taken) (c .before .slot-at .ensures) (c .if1 .taken))
+loop-again c = let i = c .before .before .before .loop .inv in (omega arith, omega (arith, i .1), index-put _ _ _ (i .2) (omega (arith, c .before .before .loop-test .taken)) (i .1) (c .before .slot-at .ensures))
 
 loop-less-2 : tie.Need-loop-less-2 Inv-loop μ-loop
 loop-less-2 c = omega arith
 
 loop-again-2 : tie.Need-loop-again-2 Inv-loop μ-loop
-loop-again-2 c = (omega arith, indexed-skip _ (c .before .before .before .before .before .args .bytes .now) _ _ (c .before .before .before .loop .inv .1) (c .before .before .loop-test .taken) (c .before .slot-at .ensures) (c .if1 .left))
+loop-again-2 c = let i = c .before .before .before .loop .inv in (omega arith, omega (arith, i .1), index-skip _ _ _ (i .2) (omega (arith, c .before .before .loop-test .taken)) (i .1) (c .before .slot-at .ensures) (c .if1 .left))
 
 returns : tie.Need-returns Inv-loop μ-loop
-returns c = indexed-all _ _ _ _ (c .before .loop .inv .1) (c .loop-test .left)
+returns c = index-all _ _ _ (c .before .loop .inv .2) (c .loop-test .left)
 
 pub index-spec : {M : Type 1} → statement M
 index-spec =

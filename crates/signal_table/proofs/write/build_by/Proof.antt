@@ -1,6 +1,7 @@
-use mathlib.Core.Path.{refl, ap, _∙_}
+use mathlib.Core.Path.{refl, sym, ap, _∙_}
 use native.Mathlib.Omega.{arith}
 use lib.ListN.{replicate}
+use Rattle.node_step.proofs.UseLaws.{fewer-le}
 use Rattle.signal_table.specs.States.{nextPair}
 use Rattle.signal_table.proofs.WriteLaws.{first-length, built-many, built-short, built-done, rows-fit}
 use borrow.Author.Needs.{needs}
@@ -38,7 +39,7 @@ returns : tie.Need-returns
 returns c = let a = c .before .before .before .before .before .before .before .before .before .before .before .args in
     let m = built-many (nextPair (a .rows .now) (a .parents .now) (a .signals) (a .symbols .now)) (a .count) (a .symbols .now) (a .buf .now) (c .before .before .before .before .before .before .before .discover .last .1 .1 .1 .1 .1 .0) _ (c .before .before .before .before .before .before .before .before .before .at-most .result) (c .before .before .before .before .before .before .before .discover .result) (c .before .before .before .before .before .before .before .discover .ensures) (c .before .before .before .before .if1 .taken) in (
       c .before .before .refuse .ensures .0 ∙ m .0,
-      c .before .before .refuse .ensures .1 ∙ ap (λ k. replicate k 0) (first-length (a .buf .now) (c .before .before .before .before .before .before .before .discover .last .1 .1 .1 .1 .1 .0) (c .before .before .before .before .before .before .before .before .before .at-most .result) (c .before .before .before .before .before .before .before .before .before .at-most .ensures .0) (c .before .before .before .before .before .before .before .discover .ensures .same-length)) ∙ m .1,
+      c .before .before .refuse .ensures .1 ∙ ap (λ k. replicate k 0) (first-length (a .buf .now) (c .before .before .before .before .before .before .before .discover .last .1 .1 .1 .1 .1 .0) (c .before .before .before .before .before .before .before .before .before .at-most .result) (c .before .before .before .before .before .before .before .before .before .at-most .ensures .1) (c .before .before .before .before .before .before .before .discover .ensures .same-length)) ∙ m .1,
     )
 
 add-size : tie.Need-add-size
@@ -60,7 +61,7 @@ returns-2 : tie.Need-returns-2
 returns-2 c = let a = c .before .before .before .before .before .before .before .before .before .before .before .before .args in
     let m = built-short (nextPair (a .rows .now) (a .parents .now) (a .signals) (a .symbols .now)) (a .count) (a .symbols .now) (a .buf .now) (c .before .before .before .before .before .before .before .before .discover .last .1 .1 .1 .1 .1 .0) _ (c .before .before .before .before .before .before .before .before .before .before .at-most .result) (c .before .before .before .before .before .before .before .before .discover .result) (c .before .before .before .before .before .before .before .before .discover .ensures) (c .before .before .before .before .before .if1 .left) (c .before .before .before .before .if2 .taken) in (
       c .before .before .refuse2 .ensures .0 ∙ m .0,
-      c .before .before .refuse2 .ensures .1 ∙ ap (λ k. replicate k 0) (first-length (a .buf .now) (c .before .before .before .before .before .before .before .before .discover .last .1 .1 .1 .1 .1 .0) (c .before .before .before .before .before .before .before .before .before .before .at-most .result) (c .before .before .before .before .before .before .before .before .before .before .at-most .ensures .0) (c .before .before .before .before .before .before .before .before .discover .ensures .same-length)) ∙ m .1,
+      c .before .before .refuse2 .ensures .1 ∙ ap (λ k. replicate k 0) (first-length (a .buf .now) (c .before .before .before .before .before .before .before .before .discover .last .1 .1 .1 .1 .1 .0) (c .before .before .before .before .before .before .before .before .before .before .at-most .result) (c .before .before .before .before .before .before .before .before .before .before .at-most .ensures .1) (c .before .before .before .before .before .before .before .before .discover .ensures .same-length)) ∙ m .1,
     )
 
 sub-put-head : tie.Need-sub-put-head
@@ -90,7 +91,7 @@ same-length-3 c = search needs
 returns-3 : tie.Need-returns-3
 returns-3 c = let a = c .before .before .before .before .before .before .before .before .before .before .before .before .before .before .before .before .args in
     built-done (nextPair (a .rows .now) (a .parents .now) (a .signals) (a .symbols .now)) (a .count) (a .symbols .now) (a .buf .now) (c .before .before .before .before .before .before .before .before .before .before .before .before .discover .last .1 .1 .1 .1 .1 .0) _ (c .before .before .before .before .before .before .before .before .before .before .before .before .before .before .at-most .result) (c .before .before .before .before .before .before .before .before .before .before .before .before .discover .result) (c .before .before .before .before .before .before .before .before .before .before .before .before .discover .ensures) (c .before .before .before .before .before .before .before .before .before .if1 .left)
-    (c .before .before .before .before .before .before .before .before .if2 .left) (c .before .before .before .before .before .before .put-head .last .1 .1 .1 .0) (c .before .before .clear .last .0) (c .before .before .before .before .before .before .before .before .before .before .before .before .before .before .at-most .ensures .1 (omega arith)) (c .before .before .before .before .before .before .before .before .before .before .before .before .before .before .before .before .pre .1) (c .before .before .before .before .before .before .before .before .before .before .before .before .before .before .before .before .pre .0) refl (c .before .before .before .before .before .before .put-head .ensures) (c .before .before .clear .ensures)
+    (c .before .before .before .before .before .before .before .before .if2 .left) (c .before .before .before .before .before .before .put-head .last .1 .1 .1 .0) (c .before .before .clear .last .0) (c .before .before .before .before .before .before .before .before .before .before .before .before .before .before .at-most .ensures .0 ∙ sym (fewer-le _ _ (omega arith))) (c .before .before .before .before .before .before .before .before .before .before .before .before .before .before .before .before .pre .1) (c .before .before .before .before .before .before .before .before .before .before .before .before .before .before .before .before .pre .0) refl (c .before .before .before .before .before .before .put-head .ensures) (c .before .before .clear .ensures)
 
 pub build-by-spec : {M : Type 1} → statement M
 build-by-spec =

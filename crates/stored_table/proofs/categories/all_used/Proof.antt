@@ -7,7 +7,7 @@ use lib.Dec.{eqb}
 use Rattle.resolution.specs.Lists.{tabulate}
 use Rattle.alert_urn.specs.Text.{all}
 use Rattle.stored_table.specs.Tables.{any}
-use Rattle.stored_table.proofs.Tabulated.{all-start, all-next, all-fails, all-ends}
+use Rattle.signal_places.proofs.TestLaws.{all-start, all-next, all-fails, all-ends}
 use borrow.Author.Needs.{needs}
 use Rattle.stored_table.proofs.categories.all_used.Statement.{statement}
 use Rattle.stored_table.proofs.categories.all_used.Tie as tie

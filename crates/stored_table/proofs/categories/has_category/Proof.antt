@@ -7,7 +7,7 @@ use lib.Dec.{eqb}
 use borrow.Author.Tests.{eq-eqb, ne-eqb}
 use Rattle.resolution.specs.Lists.{tabulate}
 use Rattle.stored_table.specs.Tables.{any}
-use Rattle.stored_table.proofs.Tabulated.{any-start, any-next, any-found, any-ends}
+use Rattle.signal_places.proofs.TestLaws.{any-start, any-next, any-found, any-ends}
 use borrow.Author.Needs.{needs}
 use Rattle.stored_table.proofs.categories.has_category.Statement.{statement}
 use Rattle.stored_table.proofs.categories.has_category.Tie as tie

@@ -1,3 +1,4 @@
+use Rattle.table_sections.proofs.Padding.{one-byte, two-bytes}
 use Rattle.stored_table.proofs.Indexing.{at-stretch}
 use native.Mathlib.Omega.{arith}
 use Prim.Native.Nat.{_≤_, _<_, _-_}
@@ -11,7 +12,7 @@ use Rattle.alert_urn.proofs.Fields.{upTo-le}
 use Rattle.node_step.specs.Arrays.{stretch}
 use Rattle.stored_table.specs.Tables.{isListed}
 use Rattle.stored_table.specs.Held.{Indexed}
-use Rattle.stored_table.proofs.Tabulated.{all-start, all-next, all-fails, all-ends}
+use Rattle.signal_places.proofs.TestLaws.{all-start, all-next, all-fails, all-ends}
 use Rattle.stored_table.proofs.Indexing.{part-inside, indexed-start, urn-listed, urn-strange, urn-put, indexed-end}
 use borrow.Author.Needs.{needs}
 use Rattle.stored_table.proofs.categories.index_urns.Statement.{statement}
@@ -69,7 +70,7 @@ add-short : tie.Need-add-short Inv-loop μ-loop
 add-short c = omega (arith, c .wider .ensures .1, c .before .before .before .before .before .before .before .before .urn-text .ensures .1, c .before .before .before .path-start .ensures .0)
 
 short-requires : tie.Need-short-requires Inv-loop μ-loop
-short-requires c κs = let a = c .before .before .before .before .before .before .before .before .before .before .before .before .args in part-inside (a .t .now) (c .wider .result) (getD (a .len .now) (c .before .before .before .before .before .before .before .before .before .before .loop .i) 0) (c .before .before .before .path-start .result) (c .before .before .before .before .before .before .before .before .urn-text .ensures .0 ∙ at-stretch (a .t .now) (a .at .now) (a .len .now) (c .before .before .before .before .before .before .before .before .before .before .loop .i) (c .wider .ensures .0)) (c .before .before .before .path-start .ensures .0) (c .before .before .before .before .before .before .before .before .before .before .before .before .pre .2) (c .wider .ensures .1)
+short-requires c κs = search needs
 
 mul-path-at : tie.Need-mul-path-at Inv-loop μ-loop
 mul-path-at c = search needs
@@ -81,7 +82,7 @@ sub-small : tie.Need-sub-small Inv-loop μ-loop
 sub-small c = search needs
 
 small-requires-2 : tie.Need-small-requires-2 Inv-loop μ-loop
-small-requires-2 c κs = omega (arith, c .before .before .before .before .before .before .before .before .before .urn-text .ensures .1)
+small-requires-2 c κs = search needs
 
 element-write-path-len : tie.Need-element-write-path-len Inv-loop μ-loop
 element-write-path-len c = search needs
@@ -96,21 +97,22 @@ loop-again : tie.Need-loop-again Inv-loop μ-loop
 loop-again c = let l = c .before .before .before .before .before .before .before .before .before .before .before .before .loop in
     let a = c .before .before .before .before .before .before .before .before .before .before .before .before .before .before .args in
     let names = tabulate (stretch (a .t .now) (a .name-at .now) (a .name-len .now)) (a .n) in
+    let w = part-inside (a .t .now) (c .before .before .wider .result) (getD (a .len .now) (c .before .before .before .before .before .before .before .before .before .before .before .before .loop .i) 0) (c .before .before .before .before .before .path-start .result) (c .before .before .before .before .before .before .before .before .before .before .urn-text .ensures .0 (omega arith) ∙ at-stretch (a .t .now) (a .at .now) (a .len .now) (c .before .before .before .before .before .before .before .before .before .before .before .before .loop .i) (c .before .before .wider .ensures .0)) (c .before .before .before .before .before .path-start .ensures .0) (c .before .before .before .before .before .before .before .before .before .before .before .before .before .before .pre .2) (c .before .before .wider .ensures .1) in
     let h : c .before .before .before .before .before .before .before .name-index .result < length names = omega (arith, c .before .before .before .before .before .before .if1 .taken, tabulate-length (stretch (a .t .now) (a .name-at .now) (a .name-len .now)) (a .n)) in (
       omega arith,
       length-set (l .category) (l .i) (c .before .before .before .before .small .result) ∙ l .inv .1,
       length-set (l .path-at) (l .i) (c .before .short .result) ∙ l .inv .2,
       length-set (l .path-len) (l .i) (c .small2 .result) ∙ l .inv .3,
-      all-next _ _ _ (l .inv .4) (sym (urn-listed names (c .before .before .before .before .before .before .before .before .before .find .ensures) (c .before .before .before .before .before .before .before .name-index .ensures .0) (c .before .before .before .before .before .before .before .before .before .before .urn-text .ensures .0) h)) refl,
+      all-next _ _ _ (l .inv .4) (sym (urn-listed names (c .before .before .before .before .before .before .before .before .before .find .ensures) (c .before .before .before .before .before .before .before .name-index .ensures .0) (c .before .before .before .before .before .before .before .before .before .before .urn-text .ensures .0 (omega arith)) h)) refl,
       urn-put (a .t .now) names (a .at .now) (a .len .now) (l .i) (l .category) (l .path-at) (l .path-len) (l .inv .5) (omega arith) (omega arith) (omega arith)
-          (c .before .before .before .before .before .before .before .before .before .find .ensures) (c .before .before .before .before .before .before .before .name-index .ensures .0) (c .before .before .before .before .before .before .before .before .before .before .urn-text .ensures .0) h (c .before .before .before .before .before .path-start .ensures) (c .before .before .before .before .small .ensures) (c .before .before .wider .ensures .0) (c .before .short .ensures) (c .small2 .ensures),
+          (c .before .before .before .before .before .before .before .before .before .find .ensures) (c .before .before .before .before .before .before .before .name-index .ensures .0) (c .before .before .before .before .before .before .before .before .before .before .urn-text .ensures .0 (omega arith)) h (c .before .before .before .before .before .path-start .ensures) (one-byte (c .before .before .before .before .small .ensures) (omega (arith, c .before .before .before .before .before .before .if1 .taken))) (c .before .before .wider .ensures .0) (two-bytes (c .before .short .ensures) w) (one-byte (c .small2 .ensures) (omega (arith, c .before .before .before .before .before .before .before .before .before .before .urn-text .ensures .1))),
     )
 
 returns : tie.Need-returns Inv-loop μ-loop
 returns c = let a = c .before .before .before .before .before .before .before .before .args in
     let names = tabulate (stretch (a .t .now) (a .name-at .now) (a .name-len .now)) (a .n) in
     let h : length names ≤ c .before .name-index .result = omega (arith, c .if1 .left, tabulate-length (stretch (a .t .now) (a .name-at .now) (a .name-len .now)) (a .n)) in
-    (all-fails _ _ _ _ (c .before .before .before .before .before .loop-test .taken) (sym (urn-strange names (c .before .before .before .find .ensures) (c .before .name-index .ensures .0) (c .before .before .before .before .urn-text .ensures .0) h)) refl, λ e. absurd (false≢true e))
+    (all-fails _ _ _ _ (c .before .before .before .before .before .loop-test .taken) (sym (urn-strange names (c .before .before .before .find .ensures) (c .before .name-index .ensures .0) (c .before .before .before .before .urn-text .ensures .0 (omega arith)) h)) refl, λ e. absurd (false≢true e))
 
 returns-2 : tie.Need-returns-2 Inv-loop μ-loop
 returns-2 c = (all-ends _ _ _ _ (c .before .loop .inv .4) (c .before .loop .inv .0) (c .loop-test .left), λ _. indexed-end (c .before .loop .i) _ (c .before .loop .inv .5) (c .before .loop .inv .0) (c .loop-test .left))

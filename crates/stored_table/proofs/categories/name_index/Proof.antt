@@ -5,7 +5,7 @@ use mathlib.Core.Bool.{false}
 use Rattle.resolution.specs.Lists.{tabulate, memberBy}
 use Rattle.resolution.specs.Names.{sameName}
 use Rattle.node_step.specs.Arrays.{stretch}
-use Rattle.stored_table.proofs.Tabulated.{index-start, index-hit, index-next, index-none}
+use Rattle.table_sections.proofs.Tabulated.{index-start, index-hit, index-next, index-none}
 use borrow.Author.Needs.{needs}
 use Rattle.stored_table.proofs.categories.name_index.Statement.{statement}
 use Rattle.stored_table.proofs.categories.name_index.Tie as tie
@@ -26,7 +26,7 @@ same-requires : tie.Need-same-requires Inv-loop μ-loop
 same-requires c κs = search needs
 
 returns : tie.Need-returns Inv-loop μ-loop
-returns c = (index-hit _ _ _ _ _ (c .before .before .before .before .loop .inv .1) (c .before .before .before .loop-test .taken) (c .before .same .ensures ∙ ap (sameName (c .before .before .before .before .before .before .before .args .s .now)) (c .before .before .name-text .ensures)) (c .if1 .taken), omega arith)
+returns c = (index-hit _ _ _ _ _ (c .before .before .before .before .loop .inv .1) (c .before .before .before .loop-test .taken) (c .before .same .ensures ∙ ap (sameName (c .before .before .before .before .before .before .before .args .s .now)) (c .before .before .name-text .ensures (omega arith))) (c .if1 .taken), omega arith)
 
 add-i : tie.Need-add-i Inv-loop μ-loop
 add-i c = search needs
@@ -35,7 +35,7 @@ loop-less : tie.Need-loop-less Inv-loop μ-loop
 loop-less c = omega arith
 
 loop-again : tie.Need-loop-again Inv-loop μ-loop
-loop-again c = (omega arith, index-next _ _ _ _ (c .before .before .before .before .before .before .before .args .n) (c .before .before .before .before .loop .inv .1) (c .before .same .ensures ∙ ap (sameName (c .before .before .before .before .before .before .before .args .s .now)) (c .before .before .name-text .ensures)) (c .if1 .left))
+loop-again c = (omega arith, index-next _ _ _ _ (c .before .before .before .before .before .before .before .args .n) (c .before .before .before .before .loop .inv .1) (c .before .same .ensures ∙ ap (sameName (c .before .before .before .before .before .before .before .args .s .now)) (c .before .before .name-text .ensures (omega arith))) (c .if1 .left))
 
 returns-2 : tie.Need-returns-2 Inv-loop μ-loop
 returns-2 c = (index-none _ _ _ _ _ (c .before .loop .inv .1) (c .before .loop .inv .0) (c .loop-test .left), omega arith)

@@ -6,7 +6,8 @@ use Rattle.resolution.specs.Lists.{tabulate}
 use Rattle.resolution.specs.Names.{sameName}
 use Rattle.node_step.specs.Arrays.{stretch}
 use Rattle.stored_table.specs.Tables.{noTwo}
-use Rattle.stored_table.proofs.Tabulated.{two-start, name-twice, name-once, two-ends}
+use Rattle.signal_places.proofs.TestLaws.{two-start, two-ends}
+use Rattle.stored_table.proofs.NameLaws.{name-twice, name-once}
 use borrow.Author.Needs.{needs}
 use Rattle.stored_table.proofs.categories.names_distinct.Statement.{statement}
 use Rattle.stored_table.proofs.categories.names_distinct.Tie as tie
@@ -27,7 +28,7 @@ name-index-requires : tie.Need-name-index-requires Inv-loop μ-loop
 name-index-requires c κs = search needs
 
 returns : tie.Need-returns Inv-loop μ-loop
-returns c = name-twice _ _ _ (c .before .before .name-text .ensures) (c .before .name-index .ensures .0) (c .before .before .before .loop-test .taken) (c .if1 .taken)
+returns c = name-twice _ _ _ (c .before .before .name-text .ensures (omega arith)) (c .before .name-index .ensures .0) (c .before .before .before .loop-test .taken) (c .if1 .taken)
 
 add-i : tie.Need-add-i Inv-loop μ-loop
 add-i c = search needs
@@ -36,7 +37,7 @@ loop-less : tie.Need-loop-less Inv-loop μ-loop
 loop-less c = omega arith
 
 loop-again : tie.Need-loop-again Inv-loop μ-loop
-loop-again c = (omega arith, name-once _ _ (c .before .before .before .before .before .before .args .n) (c .before .before .name-text .ensures) (c .before .name-index .ensures .0) (c .before .before .before .before .loop .inv .1) (c .if1 .left))
+loop-again c = (omega arith, name-once _ _ (c .before .before .before .before .before .before .args .n) (c .before .before .name-text .ensures (omega arith)) (c .before .name-index .ensures .0) (c .before .before .before .before .loop .inv .1) (c .if1 .left))
 
 returns-2 : tie.Need-returns-2 Inv-loop μ-loop
 returns-2 c = two-ends _ _ _ _ (c .before .loop .inv .1) (c .before .loop .inv .0) (c .loop-test .left)

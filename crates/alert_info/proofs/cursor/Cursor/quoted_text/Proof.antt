@@ -1,7 +1,7 @@
 use mathlib.Core.Path.{sym, _∙_}
 use native.Mathlib.Omega.{arith}
 use denote.Ref.{now}
-use Rattle.alert_info.proofs.RunLaws.{peeked}
+use Rattle.alert_info.proofs.RunLaws.{peeked, byte-in}
 use Rattle.alert_info.proofs.QuoteLaws.{quote-closed, quote-stray, quote-escape, quote-here}
 use borrow.Author.Needs.{needs}
 use Rattle.alert_info.proofs.cursor.Cursor.quoted_text.Statement.{statement}
@@ -26,7 +26,7 @@ peek-requires-2 : tie.Need-peek-requires-2
 peek-requires-2 c κs = search needs
 
 add-after : tie.Need-add-after
-add-after c = omega (arith, peeked (now (c .before .before .before .before .before .before .args .s)) (c .before .before .run .result .at) 33 (sym (c .before .peek2 .ensures) ∙ c .if2 .taken))
+add-after c = omega (arith, byte-in (now (c .before .before .before .before .before .before .args .s)) (c .before .before .run .result .at) (sym (c .before .peek2 .ensures) ∙ c .if2 .taken) (omega arith))
 
 returns-2 : tie.Need-returns-2
 returns-2 c = quote-closed _ _ _ (c .before .before .run .ensures) _ (c .before .peek2 .ensures) (c .if2 .taken)

@@ -1,0 +1,125 @@
+use native.Mathlib.Omega.{arith}
+use Prim.Native.Nat.{ℕ, _≤_, _<_, _-_, _+_, _*_}
+use mathlib.Core.Path.{_≡_, _∙_, ap}
+use mathlib.Core.Bool.{true, false≢true}
+use lib.ListN.{length, getD, length-set}
+use Rattle.resolution.specs.Lists.{tabulate}
+use Rattle.table_sections.proofs.Padding.{two-bytes}
+use Rattle.signal_places.specs.Tests.{noTwo}
+use Rattle.signal_places.specs.Slots.{InRange, keyAt, sameKey, slotIn}
+use Rattle.signal_places.proofs.TestLaws.{two-start, two-ends}
+use Rattle.signal_places.proofs.SlotLaws.{slot-start, slot-twice, slot-once, slot-put, slots-within}
+use borrow.Author.Needs.{needs}
+use Rattle.signal_places.proofs.signals.fill_slots.Statement.{statement}
+use Rattle.signal_places.proofs.signals.fill_slots.Tie as tie
+
+abbrev Inv-loop : tie.InvT-loop
+Inv-loop m signal category slots₀ i₀ slots i =
+    (i ≤ m) × (length slots ≡ 256) × ((j : ℕ) → getD slots j 0 ≤ 256) × (InRange signal category m → (noTwo sameKey (tabulate (keyAt signal category) i) ≡ true)
+    × ((s c : ℕ) → c < 8 → getD slots (8 * s + c) 0 ≡ slotIn (keyAt signal category) s c i))
+
+abbrev μ-loop : tie.MeasureT-loop
+μ-loop m signal category slots₀ i₀ slots i = m - i
+
+loop-holds : tie.Need-loop-holds Inv-loop μ-loop
+loop-holds c = (omega arith, omega arith, λ j. omega (arith, c .pre .2 j), λ r. (two-start _ _, slot-start (c .args .signal .now) (c .args .category .now) (c .args .slots .now) (c .pre .2)))
+
+element-copy-out-wide : tie.Need-element-copy-out-wide Inv-loop μ-loop
+element-copy-out-wide c = search needs
+
+wide-requires : tie.Need-wide-requires Inv-loop μ-loop
+wide-requires c κs = search needs
+
+mul-k : tie.Need-mul-k Inv-loop μ-loop
+mul-k c = search needs
+
+element-copy-out-wide-2 : tie.Need-element-copy-out-wide-2 Inv-loop μ-loop
+element-copy-out-wide-2 c = search needs
+
+wide-requires-2 : tie.Need-wide-requires-2 Inv-loop μ-loop
+wide-requires-2 c κs = search needs
+
+add-k : tie.Need-add-k Inv-loop μ-loop
+add-k c = search needs
+
+returns : tie.Need-returns Inv-loop μ-loop
+returns c = let far : InRange (c .before .before .before .before .before .before .before .args .signal .now) (c .before .before .before .before .before .before .before .args .category .now) (c .before .before .before .before .before .before .before .args .m) → ⊥ =
+    λ r. omega (arith, c .if1 .taken, c .before .wide2 .ensures .0, c .before .before .before .wide .ensures .0, r .0 _ (c .before .before .before .before .before .loop-test .taken), r .1 _ (c .before .before .before .before .before .loop-test .taken)) in
+    (λ r. absurd (far r), (λ r. absurd (far r), c .before .before .before .before .before .before .loop .inv .2))
+
+mul-if2 : tie.Need-mul-if2 Inv-loop μ-loop
+mul-if2 c = search needs
+
+element-copy-out-if2 : tie.Need-element-copy-out-if2 Inv-loop μ-loop
+element-copy-out-if2 c = search needs
+
+add-i : tie.Need-add-i Inv-loop μ-loop
+add-i c = search needs
+
+short-requires : tie.Need-short-requires Inv-loop μ-loop
+short-requires c κs = search needs
+
+mul-slots : tie.Need-mul-slots Inv-loop μ-loop
+mul-slots c = search needs
+
+element-write-slots : tie.Need-element-write-slots Inv-loop μ-loop
+element-write-slots c = search needs
+
+loop-less : tie.Need-loop-less Inv-loop μ-loop
+loop-less c = omega arith
+
+loop-again : tie.Need-loop-again Inv-loop μ-loop
+loop-again c = let a = c .before .before .before .before .before .before .before .before .before .before .args in
+    let x = c .before .before .before .before .before .before .wide .result in
+    let y = c .before .before .before .before .wide2 .result in
+    let l = c .before .before .before .before .before .before .before .before .before .loop in
+    let k : 8 * x + y < length (l .slots) = omega (arith, c .before .before .before .if1 .left, l .inv .1) in
+    let w = two-bytes (c .short .ensures) (omega arith) in (
+      omega arith,
+      length-set (l .slots) (8 * x + y) (c .short .result) ∙ l .inv .1,
+      slots-within (l .slots) (8 * x + y) (c .short .result) 256 (l .inv .2) (omega (arith, w)) k,
+      λ r.
+          let h : y < 8 = omega (arith, c .before .before .before .before .wide2 .ensures .0, r .1 _ (c .before .before .before .before .before .before .before .before .loop-test .taken)) in
+          let v = l .inv .3 r in (
+            slot-once (a .signal .now) (a .category .now) (l .slots) (l .i) (a .m) x y (c .before .before .before .before .before .before .wide .ensures .0) (c .before .before .before .before .wide2 .ensures .0) h (v .1) (v .0) (c .before .if2 .taken),
+            slot-put (a .signal .now) (a .category .now) (l .slots) (l .i) (a .m) x y (c .before .before .before .before .before .before .wide .ensures .0) (c .before .before .before .before .wide2 .ensures .0) h (v .1) _ w k,
+          ),
+    )
+
+returns-2 : tie.Need-returns-2 Inv-loop μ-loop
+returns-2 c = let a = c .before .before .before .before .before .before .before .before .before .args in
+    let l = c .before .before .before .before .before .before .before .before .loop in (
+      λ r.
+          let h : c .before .before .before .wide2 .result < 8 = omega (arith, c .before .before .before .wide2 .ensures .0, r .1 _ (c .before .before .before .before .before .before .before .loop-test .taken)) in
+          slot-twice (a .signal .now) (a .category .now) (l .slots) (l .i) (a .m) _ _ (c .before .before .before .before .before .wide .ensures .0) (c .before .before .before .wide2 .ensures .0) h (l .inv .3 r .1) (c .before .before .before .before .before .before .before .loop-test .taken) (c .if2 .left),
+      (λ r e. absurd (false≢true e), l .inv .2),
+    )
+
+returns-3 : tie.Need-returns-3 Inv-loop μ-loop
+returns-3 c = let e : c .before .loop .i ≡ c .before .before .args .m = omega arith in
+    (λ r. two-ends _ _ _ _ (c .before .loop .inv .3 r .0) (c .before .loop .inv .0) (c .loop-test .left), (λ r _ s k h. c .before .loop .inv .3 r .1 s k h ∙ ap (slotIn (keyAt (c .before .before .args .signal .now) (c .before .before .args .category .now)) s k) e, c .before .loop .inv .2))
+
+pub fill-slots-spec : {M : Type 1} → statement M
+fill-slots-spec =
+    tie.close
+    (tie.spec
+    Inv-loop
+    μ-loop
+    loop-holds
+    element-copy-out-wide
+    wide-requires
+    mul-k
+    element-copy-out-wide-2
+    wide-requires-2
+    add-k
+    returns
+    mul-if2
+    element-copy-out-if2
+    add-i
+    short-requires
+    mul-slots
+    element-write-slots
+    loop-less
+    loop-again
+    returns-2
+    returns-3)

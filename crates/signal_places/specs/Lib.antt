@@ -1,0 +1,3 @@
+pub mod Tests
+pub mod Verdict
+pub mod Slots

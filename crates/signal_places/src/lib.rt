@@ -1,0 +1,80 @@
+// The places of the signals, and refusals 9 to 12, from the signal, category and node of every URN, or its path where there are too many nodes.
+mod places;
+mod signals;
+
+ghost use mathlib.Core.Path.{_≡_};
+ghost use Prim.Native.Nat.{ℕ, _≤_, _<_};
+ghost use lib.ListN.{length};
+ghost use Rattle.resolution.specs.Names.{Parts};
+ghost use Rattle.resolution.specs.Table.{Table};
+ghost use Rattle.resolution.specs.Nodes.{nodes};
+ghost use Rattle.alert_urn.specs.Text.{fields};
+ghost use Rattle.node_step.specs.Arrays.{stretch};
+ghost use Rattle.table_sections.specs.Held.{Padded};
+ghost use Rattle.signal_places.specs.Verdict.{verdict};
+ghost use Rattle.signal_places.specs.Slots.{Listing, Numbering, Placed};
+
+// The places of n signals with m URNs, by the node of each URN; or 9, 10 or 11.
+pub fn by_nodes(
+    n: usize,
+    m: usize,
+    signal: &[u8; 256],
+    category: &[u8; 256],
+    node: &[u8; 256],
+    rows: &mut [u64; 32],
+) -> u8
+    ensures { λ r. ⌜ ((T : Table) (path : ℕ → Parts) → Listing T (now (signal .entry)) (now (category .entry)) path n m
+        → Numbering T (now (category .entry)) path (now (node .entry)) m → Padded 32 0 (now (rows .entry)) → Placed T (now (rows .exit)) n r) ⌝ }
+{
+    if 32 < n {
+        return 9;
+    }
+    if 256 < m {
+        return 9;
+    }
+    let mut slots = [0u16; 256];
+    if signals::fill_slots(m, signal, category, &mut slots) {
+        if signals::silent(m, signal) {
+            places::fill_rows(n, &slots, node, rows);
+            if places::rows_distinct(n, rows) {
+                return 0;
+            }
+            return 11;
+        }
+        return 10;
+    }
+    9
+}
+
+// The number of a table with too many nodes: 9, 10 or 11, or else 12. Places are compared by their texts.
+pub fn by_texts(
+    t: &[u8],
+    n: usize,
+    categories: usize,
+    m: usize,
+    signal: &[u8; 256],
+    category: &[u8; 256],
+    path_at: &[u16; 256],
+    path_len: &[u8; 256],
+) -> u8
+    ensures { λ r. ⌜ ((T : Table) → Listing T (now (signal .entry)) (now (category .entry)) (λ i. fields 58 (stretch (now (t .entry)) (now («path_at» .entry)) (now («path_len» .entry)) i)) n m
+        → T .cats ≡ categories → 64 < length (nodes T) → r ≡ verdict T) ⌝ }
+{
+    if 32 < n {
+        return 9;
+    }
+    if 256 < m {
+        return 9;
+    }
+    if 8 < categories {
+        return 9;
+    }
+    let mut slots = [0u16; 256];
+    if signals::fill_slots(m, signal, category, &mut slots) {
+        if signals::silent(m, signal) {
+            return places::crowded(t, n, categories, &slots, path_at, path_len);
+        }
+        return 10;
+    }
+    9
+}

@@ -1,0 +1,200 @@
+// The nodes of a table, from the categories and paths of its URNs: each one's category, parent and path, and the node of every URN.
+use table_sections::bytes::short;
+use table_sections::bytes::small;
+use table_sections::bytes::wide;
+use table_sections::bytes::wider;
+ghost use mathlib.Core.Path.{_≡_};
+ghost use Prim.Native.Nat.{_≤_, _<_};
+ghost use Rattle.resolution.specs.Lists.{tabulate};
+ghost use Rattle.resolution.specs.Table.{urn};
+ghost use Rattle.resolution.specs.Nodes.{sameUrn, number};
+ghost use Rattle.alert_urn.specs.Text.{fields};
+ghost use Rattle.node_step.specs.Arrays.{stretch};
+ghost use Rattle.table_nodes.specs.Nodes.{nodeUrn, pathUrn, Clear, AddsNode, AddsPath, AddsUrn, AllAdded};
+
+// The path of node i + 1.
+fn node_text<'a>(t: &'a [u8], at: &[u16; 64], len: &[u8; 64], i: usize) -> &'a [u8]
+    requires { ⌜ i < 64 ⌝ }
+    ensures { λ r. ⌜ now r ≡ stretch (now (t .entry)) (now (at .entry)) (now (len .entry)) i ⌝ }
+{
+    let a = wider(at[i]);
+    let n = wide(len[i]);
+    alert_urn::text::part(t, a, n)
+}
+
+// Node i + 1 has the category c and the path s.
+fn node_is(
+    t: &[u8],
+    c: u8,
+    s: &[u8],
+    i: usize,
+    cats: &[u8; 64],
+    at: &[u16; 64],
+    len: &[u8; 64],
+) -> bool
+    requires { ⌜ i < 64 ⌝ }
+    ensures { λ r. ⌜ r ≡ sameUrn (urn c (fields 58 (now (s .entry)))) (nodeUrn (now (t .entry)) (now (cats .entry)) (now (at .entry)) (now (len .entry)) i) ⌝ }
+{
+    let x = cats[i];
+    if c == x {
+        return alert_urn::text::same(s, node_text(t, at, len, i));
+    }
+    false
+}
+
+// The number of the node of category c with the path s, from 1, or 0.
+fn find_node(
+    t: &[u8],
+    c: u8,
+    s: &[u8],
+    n: usize,
+    cats: &[u8; 64],
+    at: &[u16; 64],
+    len: &[u8; 64],
+) -> usize
+    requires { ⌜ n ≤ 64 ⌝ }
+    ensures { λ r. ⌜ (r ≡ number (tabulate (nodeUrn (now (t .entry)) (now (cats .entry)) (now (at .entry)) (now (len .entry))) n) c (fields 58 (now (s .entry)))) × (r ≤ n) ⌝ }
+{
+    let mut i = 0;
+    while i < n {
+        if node_is(t, c, s, i, cats, at, len) {
+            return i + 1;
+        }
+        i += 1;
+    }
+    0
+}
+
+// A node's number, 0 if there is no room, and how many nodes there are.
+pub struct Added {
+    pub node: usize,
+    pub count: usize,
+}
+
+// The node of category c with the path in the len bytes from `at`, under the node `parent`, is added unless it is there.
+fn add_node(
+    t: &[u8],
+    c: u8,
+    from: usize,
+    k: usize,
+    parent: usize,
+    n: usize,
+    cats: &mut [u8; 64],
+    parents: &mut [u8; 64],
+    at: &mut [u16; 64],
+    len: &mut [u8; 64],
+) -> Added
+    requires { ⌜ (n ≤ 64) × (from < 65536) × (k < 256) × (parent ≤ 64) ⌝ }
+    ensures { λ r. ⌜ AddsNode (now (t .entry)) c from k parent n (now (cats .entry)) (now (parents .entry)) (now (at .entry)) (now (len .entry))
+        (now (cats .exit)) (now (parents .exit)) (now (at .exit)) (now (len .exit)) r ⌝ }
+    ensures few { λ r. ⌜ (r .node ≤ 64) × (r .count ≤ 64) ⌝ }
+{
+    let m = find_node(t, c, alert_urn::text::part(t, from, k), n, cats, at, len);
+    if 0 < m {
+        return Added { node: m, count: n };
+    }
+    if n < 64 {
+        cats[n] = c;
+        parents[n] = small(parent);
+        at[n] = short(from);
+        len[n] = small(k);
+        let next = n + 1;
+        return Added {
+            node: next,
+            count: next,
+        };
+    }
+    Added { node: 0, count: n }
+}
+
+// The ancestors of a path and the path itself are added, shortest first.
+fn add_path(
+    t: &[u8],
+    c: u8,
+    from: usize,
+    k: usize,
+    n: usize,
+    cats: &mut [u8; 64],
+    parents: &mut [u8; 64],
+    at: &mut [u16; 64],
+    len: &mut [u8; 64],
+) -> Added
+    requires { ⌜ (n ≤ 64) × (from < 65536) × (k < 256) ⌝ }
+    ensures { λ r. ⌜ AddsPath (now (t .entry)) c from k n (now (cats .entry)) (now (parents .entry)) (now (at .entry)) (now (len .entry))
+        (now (cats .exit)) (now (parents .exit)) (now (at .exit)) (now (len .exit)) r ⌝ }
+    ensures few { λ r. ⌜ (r .node ≤ 64) × (r .count ≤ 64) ⌝ }
+{
+    let w = alert_urn::text::part(t, from, k);
+    let e = w.len();
+    let mut i = alert_urn::text::find(w, 58);
+    let mut r = add_node(t, c, from, i, 0, n, cats, parents, at, len);
+    while i < e {
+        if r.node == 0 {
+            return r;
+        }
+        let a = i + 1;
+        i = a + alert_urn::text::find(&w[a..e], 58);
+        r = add_node(t, c, from, i, r.node, r.count, cats, parents, at, len);
+    }
+    r
+}
+
+// The nodes of one URN are added, unless its path is a node already: then its ancestors are nodes too.
+fn add_urn(
+    t: &[u8],
+    c: u8,
+    from: usize,
+    k: usize,
+    n: usize,
+    cats: &mut [u8; 64],
+    parents: &mut [u8; 64],
+    at: &mut [u16; 64],
+    len: &mut [u8; 64],
+) -> Added
+    requires { ⌜ (n ≤ 64) × (from < 65536) × (k < 256) ⌝ }
+    ensures { λ r. ⌜ AddsUrn (now (t .entry)) c from k n (now (cats .entry)) (now (parents .entry)) (now (at .entry)) (now (len .entry))
+        (now (cats .exit)) (now (parents .exit)) (now (at .exit)) (now (len .exit)) r ⌝ }
+    ensures few { λ r. ⌜ (r .node ≤ 64) × (r .count ≤ 64) ⌝ }
+{
+    let m = find_node(t, c, alert_urn::text::part(t, from, k), n, cats, at, len);
+    if 0 < m {
+        return Added { node: m, count: n };
+    }
+    add_path(t, c, from, k, n, cats, parents, at, len)
+}
+
+// The nodes of all URNs, and each URN's node; 65 if there are more than 64.
+pub fn add_all(
+    t: &[u8],
+    m: usize,
+    category: &[u8; 256],
+    path_at: &[u16; 256],
+    path_len: &[u8; 256],
+    node: &mut [u8; 256],
+    cats: &mut [u8; 64],
+    parents: &mut [u8; 64],
+    at: &mut [u16; 64],
+    len: &mut [u8; 64],
+) -> usize
+    ensures { λ r. ⌜ (m ≤ 256 → Clear (now (node .entry)) (now (cats .entry)) (now (parents .entry)) (now (at .entry)) (now (len .entry))
+        → AllAdded (now (t .entry)) (pathUrn (now (t .entry)) (now (category .entry)) (now («path_at» .entry)) (now («path_len» .entry))) m
+        (now (node .exit)) (now (cats .exit)) (now (parents .exit)) (now (at .exit)) (now (len .exit)) r) ⌝ }
+{
+    if 256 < m {
+        return 65;
+    }
+    let mut n: usize = 0;
+    let mut i = 0;
+    while i < m {
+        let from = wider(path_at[i]);
+        let k = wide(path_len[i]);
+        let r = add_urn(t, category[i], from, k, n, cats, parents, at, len);
+        if r.node == 0 {
+            return 65;
+        }
+        node[i] = small(r.node);
+        n = r.count;
+        i += 1;
+    }
+    n
+}

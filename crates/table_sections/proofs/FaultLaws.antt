@@ -1,0 +1,86 @@
+-- Laws of what a reading answers: the number of a fault, and how many things were read.
+use Prim.Native.Nat.{ℕ, suc, zero, _+_, _-_, _≤_}
+use mathlib.Core.Path.{_≡_, ap, _∙_}
+use mathlib.Core.Logic.{_≢_}
+use mathlib.Core.Bool.{Bool, true, false, cond}
+use mathlib.Core.List.{List, [], _∷_}
+use native.Mathlib.Omega.{arith}
+use lib.ListN.{length, getD}
+use lib.Dec.{leb, ltb}
+use Rattle.alert_urn.specs.Text.{within}
+use Rattle.table_sections.specs.Stored.{Read, fault, got, andThen, byteIn, text, times, counted, signal, storedFrom, Stored, stored, sections}
+use Rattle.table_sections.proofs.Readings.{after-got, byte-read, times-length}
+
+-- it has a number: 4, 5 or 6
+abbrev Faulty : {A : Type 0} → Read A → Type 0
+Faulty {A} r = (k : ℕ) → r ≡ fault k → k ≢ 0
+
+fault-then : {A B : Type 0} (r : Read A) (f : A → ℕ → Read B) → Faulty r → ((x : A) (p : ℕ) → Faulty (f x p)) → Faulty (andThen r f)
+unfolding andThen
+fault-then (fault j) f a b k e = a k (let z : j ≡ k = cc in ap fault z)
+fault-then (got x p) f a b k e = b x p k e
+
+fault-got : {A : Type 0} (x : A) (p : ℕ) → Faulty (got x p)
+fault-got x p k e = let z : _≡_ {A = ℕ} 0 1 = cc in absurd (omega arith)
+
+fault-some : {A : Type 0} (j : ℕ) → j ≢ 0 → (k : ℕ) → _≡_ {A = Read A} (fault j) (fault k) → k ≢ 0
+fault-some j n k e z = n (let y : j ≡ k = cc in y ∙ z)
+
+fault-if : {A : Type 0} (b : Bool) (x y : Read A) → Faulty x → Faulty y → Faulty (cond b x y)
+fault-if true x y f g = f
+fault-if false x y f g = g
+
+fault-byte : (lo hi : ℕ) (t : List ℕ) (at : ℕ) → Faulty (byteIn lo hi t at)
+unfolding byteIn
+fault-byte lo hi t at =
+    fault-if (ltb at (length t)) _ _ (fault-if (within lo hi (getD t at 0)) _ _ (fault-got (getD t at 0) (at + 1)) (fault-some 6 (λ z. omega arith))) (fault-some 5 (λ z. omega arith))
+
+fault-text : (hi : ℕ) (t : List ℕ) (at : ℕ) → Faulty (text hi t at)
+unfolding text
+fault-text hi t at = fault-then (byteIn 1 hi t at) _ (fault-byte 1 hi t at) (λ n p. fault-if (leb n (length t - p)) _ _ (fault-got _ (p + n)) (fault-some 5 (λ z. omega arith)))
+
+fault-times : {A : Type 0} (rd : ℕ → Read A) → ((at : ℕ) → Faulty (rd at)) → (n at : ℕ) → Faulty (times rd n at)
+unfolding times
+fault-times rd f zero at = fault-got [] at
+fault-times rd f (suc n) at = fault-then (rd at) _ (f at) (λ x p. fault-then (times rd n p) _ (fault-times rd f n p) (λ xs q. fault-got (x ∷ xs) q))
+
+fault-counted : {A : Type 0} (lo hi : ℕ) (rd : ℕ → Read A) (t : List ℕ) → ((at : ℕ) → Faulty (rd at)) → (at : ℕ) → Faulty (counted lo hi rd t at)
+unfolding counted
+fault-counted lo hi rd t f at = fault-then (byteIn lo hi t at) _ (fault-byte lo hi t at) (λ n p. fault-times rd f n p)
+
+fault-stored : (t : List ℕ) → Faulty (stored t)
+unfolding stored storedFrom
+fault-stored t =
+    fault-then (counted 1 8 (text 55 t) t 0) _ (fault-counted 1 8 (text 55 t) t (fault-text 55 t) 0)
+    (λ ns p. fault-then (counted 1 32 (signal t) t p) _ (fault-counted 1 32 (signal t) t (fault-counted 0 8 (text 255 t) t (fault-text 255 t)) p)
+    (λ ss q. fault-if (ltb q (length t)) _ _ (fault-some 5 (λ z. omega arith)) (fault-got _ q)))
+
+pub fault-sections : (t : List ℕ) → Faulty (sections t)
+fault-sections t = fault-if (ltb 8192 (length t)) _ _ (fault-some 4 (λ z. omega arith)) (fault-stored t)
+
+-- the counts
+counted-length : {A : Type 0} (lo hi : ℕ) (rd : ℕ → Read A) (t : List ℕ) (at : ℕ) (xs : List A) (q : ℕ) → counted lo hi rd t at ≡ got xs q → (lo ≤ length xs) × (length xs ≤ hi)
+unfolding counted
+counted-length lo hi rd t at xs q e =
+    let a = after-got (byteIn lo hi t at) (λ n p. times rd n p) xs q e in
+    let b = byte-read lo hi t at (a .0) (a .1) (a .2) in
+    let l = times-length rd (a .0) (a .1) xs q (a .3) in
+    (omega (arith, l, b .low), omega (arith, l, b .high))
+
+ended : (ns : List (List ℕ)) (ss : List (List (List ℕ))) (b : Bool) (p q : ℕ) (s : Stored) → cond b (fault 5) (got (record { names = ns; signals = ss }) p) ≡ got s q → record { names = ns; signals = ss } ≡ s
+ended ns ss true p q s e = let z : _≡_ {A = ℕ} 0 1 = cc in absurd (omega arith)
+ended ns ss false p q s e = cc
+
+pub stored-counts : (t : List ℕ) (s : Stored) (q : ℕ) → stored t ≡ got s q → (1 ≤ length (s .names)) × (length (s .names) ≤ 8) × (1 ≤ length (s .signals)) × (length (s .signals) ≤ 32)
+unfolding stored storedFrom
+stored-counts t s q e =
+    let a = after-got (counted 1 8 (text 55 t) t 0) (λ ns at. storedFrom t ns at) s q e in
+    let c = counted-length 1 8 (text 55 t) t 0 (a .0) (a .1) (a .2) in
+    let b = after-got (counted 1 32 (signal t) t (a .1)) (λ ss p. cond (ltb p (length t)) (fault 5) (got (record { names = a .0; signals = ss }) p)) s q (a .3) in
+    let d = counted-length 1 32 (signal t) t (a .1) (b .0) (b .1) (b .2) in
+    let z = ended (a .0) (b .0) (ltb (b .1) (length t)) (b .1) q s (b .3) in (
+      omega (arith, c .0, ap (λ (x : Stored). length (x .names)) z),
+      omega (arith, c .1, ap (λ (x : Stored). length (x .names)) z),
+      omega (arith, d .0, ap (λ (x : Stored). length (x .signals)) z),
+      omega (arith, d .1, ap (λ (x : Stored). length (x .signals)) z),
+    )

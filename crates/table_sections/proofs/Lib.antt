@@ -1,0 +1,5 @@
+pub mod Padding
+pub mod Tabulated
+pub mod Readings
+pub mod FaultLaws
+pub mod SectionLaws

@@ -1,0 +1,40 @@
+use native.Mathlib.Omega.{arith}
+use Rattle.table_sections.proofs.Readings.{byte-of, number-fault, number-got}
+use Rattle.table_sections.proofs.SectionLaws.{signal-fault, signal-more, at-most}
+use borrow.Author.Needs.{needs}
+use Rattle.table_sections.proofs.signals.read_signal.Statement.{statement}
+use Rattle.table_sections.proofs.signals.read_signal.Tie as tie
+
+byte-in-requires : tie.Need-byte-in-requires
+byte-in-requires c κs = search needs
+
+enum-known-got : tie.Need-enum-known-got
+enum-known-got c = search needs
+
+enum-known-got-2 : tie.Need-enum-known-got-2
+enum-known-got-2 c = search needs
+
+add-read-urns : tie.Need-add-read-urns
+add-read-urns c = let b = byte-of 0 8 (c .before .before .before .before .before .args .t .now) _ _ _ (c .before .before .before .byte-in .ensures) (c .before .got2 .given .1) in omega (arith, b .high)
+
+read-urns-requires : tie.Need-read-urns-requires
+read-urns-requires c κs = let b = byte-of 0 8 (c .before .before .before .before .before .before .before .before .args .t .now) _ _ _ (c .before .before .before .before .before .before .byte-in .ensures) (c .before .before .before .before .got2 .given .1) in (omega arith, omega (arith, b .high), omega arith)
+
+returns : tie.Need-returns
+returns c = (λ a. signal-fault _ _ _ _ (number-fault _ (c .before .before .before .byte-in .ensures) (c .before .got .given .1)), (tt, λ a. a))
+
+returns-2 : tie.Need-returns-2
+returns-2 c = let b = byte-of 0 8 (c .before .before .before .before .before .before .before .before .before .args .t .now) _ _ _ (c .before .before .before .before .before .before .before .byte-in .ensures) (c .before .before .before .before .before .got2 .given .1) in
+    (λ a. signal-more _ _ _ _ _ (c .before .before .before .before .before .before .before .before .before .args .start) (number-got _ _ (c .before .before .before .before .before .before .before .byte-in .ensures) (c .before .before .before .before .before .got2 .given .1)) (c .read-urns .ensures .0 a), (at-most (c .read-urns .result) (c .before .before .before .before .before .before .before .before .before .args .start) _ _ (c .read-urns .ensures .1 .0) (b .high), c .read-urns .ensures .1 .1))
+
+pub read-signal-spec : {M : Type 1} → statement M
+read-signal-spec =
+    tie.close
+    (tie.spec
+    byte-in-requires
+    enum-known-got
+    enum-known-got-2
+    add-read-urns
+    read-urns-requires
+    returns
+    returns-2)

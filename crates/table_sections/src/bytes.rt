@@ -1,0 +1,70 @@
+ghost use mathlib.Core.Path.{_≡_};
+ghost use Prim.Native.Nat.{_<_, _%_};
+ghost use Rattle.table_sections.specs.Stored.{byteIn, text};
+ghost use Rattle.table_sections.specs.Held.{numberRead, textRead, textInside};
+
+// A fault's number, or a value with the position after it.
+pub enum Reading {
+    Fault(u8),
+    Got(usize, usize),
+}
+
+// A number in more bytes, or in its last one or two.
+pub fn wide(b: u8) -> usize
+    ensures { λ r. ⌜ (r ≡ b) × (r < 256) ⌝ }
+{
+    b as usize
+}
+
+pub fn wider(x: u16) -> usize
+    ensures { λ r. ⌜ (r ≡ x) × (r < 65536) ⌝ }
+{
+    x as usize
+}
+
+pub fn small(x: usize) -> u8
+    ensures { λ r. ⌜ r ≡ x % 256 ⌝ }
+{
+    (x % 256) as u8
+}
+
+pub fn short(x: usize) -> u16
+    ensures { λ r. ⌜ r ≡ x % 65536 ⌝ }
+{
+    (x % 65536) as u16
+}
+
+// A byte from lo to hi.
+pub fn byte_in(t: &[u8], at: usize, lo: usize, hi: usize) -> Reading
+    ensures { λ r. ⌜ numberRead r ≡ byteIn lo hi (now (t .entry)) at ⌝ }
+{
+    if at < t.len() {
+        let b = wide(t[at]);
+        if b < lo {
+            return Reading::Fault(6);
+        }
+        if hi < b {
+            return Reading::Fault(6);
+        }
+        return Reading::Got(b, at + 1);
+    }
+    Reading::Fault(5)
+}
+
+// A length byte from 1 to hi and so many bytes: their number, and the position after them.
+pub fn read_text(t: &[u8], at: usize, hi: usize) -> Reading
+    ensures { λ r. ⌜ textRead (now (t .entry)) r ≡ text hi (now (t .entry)) at ⌝ }
+    ensures inside { λ r. ⌜ textInside (now (t .entry)) hi r ⌝ }
+{
+    let got = byte_in(t, at, 1, hi);
+    match got {
+        Reading::Fault(k) => Reading::Fault(k),
+        Reading::Got(n, p) => {
+            if n <= t.len() - p {
+                Reading::Got(n, p + n)
+            } else {
+                Reading::Fault(5)
+            }
+        }
+    }
+}

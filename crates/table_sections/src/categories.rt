@@ -1,0 +1,46 @@
+use crate::bytes::Reading;
+use crate::bytes::byte_in;
+use crate::bytes::read_text;
+use crate::bytes::short;
+use crate::bytes::small;
+ghost use mathlib.Core.Path.{_≡_};
+ghost use Prim.Native.Nat.{_≤_};
+ghost use Rattle.table_sections.specs.Stored.{text, times, categories};
+ghost use Rattle.table_sections.specs.Held.{NamesRead, readUpTo, readAtMost};
+
+// The names of n categories, from a position on.
+fn read_names(t: &[u8], from: usize, n: usize, at: &mut [u16; 8], len: &mut [u8; 8]) -> Reading
+    requires { ⌜ n ≤ 8 ⌝ }
+    ensures { λ r. ⌜ NamesRead (now (t .entry)) (now (at .entry)) (now (len .entry)) (now (at .exit)) (now (len .exit)) (times (text 55 (now (t .entry))) n from) r ⌝ }
+    ensures few { λ r. ⌜ readUpTo r n ⌝ }
+{
+    let mut i = 0;
+    let mut p = from;
+    while i < n {
+        let got = read_text(t, p, 55);
+        match got {
+            Reading::Fault(k) => {
+                return Reading::Fault(k);
+            }
+            Reading::Got(m, next) => {
+                at[i] = short(next - m);
+                len[i] = small(m);
+                p = next;
+                i += 1;
+            }
+        }
+    }
+    Reading::Got(i, p)
+}
+
+// 1 to 8 categories, at the beginning of a table: how many, and the position after them.
+pub fn read_categories(t: &[u8], at: &mut [u16; 8], len: &mut [u8; 8]) -> Reading
+    ensures { λ r. ⌜ NamesRead (now (t .entry)) (now (at .entry)) (now (len .entry)) (now (at .exit)) (now (len .exit)) (categories (now (t .entry)) 0) r ⌝ }
+    ensures few { λ r. ⌜ readAtMost r 8 ⌝ }
+{
+    let got = byte_in(t, 0, 1, 8);
+    match got {
+        Reading::Fault(k) => Reading::Fault(k),
+        Reading::Got(n, p) => read_names(t, p, n, at, len),
+    }
+}

@@ -1,0 +1,93 @@
+// The sections of a stored table: where the categories' names and the signals' URNs stand, and refusals 4 to 6.
+pub mod bytes;
+pub mod categories;
+mod signals;
+pub mod texts;
+
+use crate::bytes::Reading;
+use crate::bytes::byte_in;
+ghost use mathlib.Core.Path.{_≡_};
+ghost use mathlib.Core.Bool.{true, false};
+ghost use Prim.Native.Nat.{_≤_};
+ghost use lib.ListN.{length};
+ghost use Rattle.table_sections.specs.Held.{Padded, Room, ReadFrom, Reads};
+
+// The fault met, 4 to 6; or how many categories, signals and URNs there are.
+pub struct Counts {
+    pub ok: bool,
+    pub fault: u8,
+    pub categories: usize,
+    pub signals: usize,
+    pub urns: usize,
+}
+
+fn at_fault(k: u8) -> Counts
+    ensures { λ r. ⌜ r ≡ record { ok = false; fault = k; categories = 0; signals = 0; urns = 0 } ⌝ }
+{
+    Counts {
+        ok: false,
+        fault: k,
+        categories: 0,
+        signals: 0,
+        urns: 0,
+    }
+}
+
+// The section of the signals, with nothing behind it.
+fn read_rest(
+    t: &[u8],
+    from: usize,
+    categories: usize,
+    at: &mut [u16; 256],
+    len: &mut [u8; 256],
+    signal: &mut [u8; 256],
+) -> Counts
+    requires { ⌜ length (now t) ≤ 8192 ⌝ }
+    ensures { λ r. ⌜ (Room (now (at .entry)) (now (len .entry)) (now (signal .entry)) → ReadFrom (now (t .entry)) (now (at .exit)) (now (len .exit)) (now (signal .exit)) from r) ⌝ }
+    ensures names { λ r. ⌜ (r .ok ≡ true → r .categories ≡ categories) ⌝ }
+{
+    let first = byte_in(t, from, 1, 32);
+    match first {
+        Reading::Fault(k) => at_fault(k),
+        Reading::Got(n, p) => {
+            let got = signals::read_signals(t, p, n, at, len, signal);
+            match got {
+                Reading::Fault(k) => at_fault(k),
+                Reading::Got(m, q) => {
+                    if q < t.len() {
+                        return at_fault(5);
+                    }
+                    Counts {
+                        ok: true,
+                        fault: 0,
+                        categories,
+                        signals: n,
+                        urns: m,
+                    }
+                }
+            }
+        }
+    }
+}
+
+// The whole table: the names of its categories and the URNs of its signals, as places in the bytes, and each URN's signal.
+pub fn read(
+    t: &[u8],
+    name_at: &mut [u16; 8],
+    name_len: &mut [u8; 8],
+    at: &mut [u16; 256],
+    len: &mut [u8; 256],
+    signal: &mut [u8; 256],
+) -> Counts
+    ensures { λ r. ⌜ (Padded 8 0 (now («name_at» .entry)) → Padded 8 0 (now («name_len» .entry)) → Room (now (at .entry)) (now (len .entry)) (now (signal .entry))
+        → Reads (now (t .entry)) (now («name_at» .exit)) (now («name_len» .exit)) (now (at .exit)) (now (len .exit)) (now (signal .exit)) r) ⌝ }
+{
+    if 8192 < t.len() {
+        return at_fault(4);
+    }
+    let got = categories::read_categories(t, name_at, name_len);
+    match got {
+        Reading::Fault(k) => at_fault(k),
+        Reading::Got(n, p) => read_rest(t, p, n, at, len, signal),
+    }
+}
