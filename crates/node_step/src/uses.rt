@@ -1,8 +1,11 @@
 ghost use mathlib.Core.Path.{_≡_};
-ghost use Prim.Native.Nat.{_+_, _*_, _≤_, _<_};
+ghost use mathlib.Core.Bool.{cond, _&&_};
+ghost use Prim.Native.Nat.{_+_, _*_, _≤_, _<_, min};
+ghost use lib.Dec.{leb};
 ghost use lib.ListN.{length};
+ghost use Rattle.alert_urn.specs.Text.{endsAt};
 ghost use Rattle.node_step.specs.Arrays.{stretch};
-ghost use Rattle.node_step.specs.Uses.{findName, nothing, metWith, lookAt, searchFrom, fewer, usesOf};
+ghost use Rattle.node_step.specs.Uses.{findName, nothing, metWith, lookBy, searchFrom, fewer, usesOf};
 
 // What a URI is to the table: skipped, or used, with the deepest node or root above it, whether it is that node, and the
 // bytes compared to find it.
@@ -73,6 +76,46 @@ pub(crate) fn path_at<'a, 'b>(t: &'a [u8], at: &'b [u16; 64], len: &'b [u8; 64],
     alert_urn::text::part(t, from, size)
 }
 
+// A path of so many bytes, n of them in common with w, is w or above it.
+fn covers_by(all: usize, w: &[u8], n: usize) -> bool
+    ensures { λ r. ⌜ r ≡ (leb all n && endsAt (now (w .entry)) all) ⌝ }
+{
+    if n < all {
+        return false;
+    }
+    alert_urn::text::ends_at(w, all)
+}
+
+// How many bytes are compared of a path of so many bytes, n of them in common with another.
+fn looked(all: usize, n: usize) -> u32
+    requires { ⌜ all ≤ 255 ⌝ }
+    ensures { λ r. ⌜ (r ≡ min all (n + 1)) × (r ≤ 255) ⌝ }
+{
+    if n < all {
+        return n as u32 + 1;
+    }
+    all as u32
+}
+
+// x if so, else y.
+fn pick(b: bool, x: u8, y: u8) -> u8
+    ensures { λ r. ⌜ r ≡ cond b x y ⌝ }
+{
+    if b {
+        return x;
+    }
+    y
+}
+
+fn pick_bool(b: bool, x: bool, y: bool) -> bool
+    ensures { λ r. ⌜ r ≡ cond b x y ⌝ }
+{
+    if b {
+        return x;
+    }
+    y
+}
+
 // The search for w at node k with the path p, which has n bytes in common with w, and has nodes under it or none.
 fn met(p: &[u8], w: &[u8], inner: bool, k: u8, n: usize, s: Search) -> Search
     requires { ⌜ (length (now p) ≤ 255) × (s .compared ≤ 65535) ⌝ }
@@ -80,62 +123,47 @@ fn met(p: &[u8], w: &[u8], inner: bool, k: u8, n: usize, s: Search) -> Search
     ensures { λ r. ⌜ r .compared ≤ s .compared + 255 ⌝ }
 {
     let all = p.len();
-    if n < all {
-        let looked = n as u32 + 1;
+    let above = covers_by(all, w, n);
+    let whole = all == w.len();
+    let leaf = !inner;
+    Search {
+        ends: pick_bool(above, leaf, false),
+        node: pick(above, k, s.node),
+        whole: pick_bool(above, whole, s.whole),
+        same: n,
+        compared: s.compared + looked(all, n),
+    }
+}
+
+// The search for w at the node at i, whose path shares l bytes with the one before it.
+fn look<'a>(
+    t: &[u8],
+    at: &'a [u16; 64],
+    len: &'a [u8; 64],
+    inner: &'a [bool; 64],
+    w: &[u8],
+    i: usize,
+    l: usize,
+    s: Search,
+) -> Search
+    requires { ⌜ (i < 64) × (l ≤ 255) × (s .compared ≤ 255 * i) ⌝ }
+    ensures { λ r. ⌜ r ≡ lookBy (now (t .entry)) (now (at .entry)) (now (len .entry)) (now (inner .entry)) (now (w .entry)) i l s ⌝ }
+    ensures { λ r. ⌜ r .compared ≤ 255 * (i + 1) ⌝ }
+{
+    if s.same < l {
+        let more = s.same as u32 + 1;
         return Search {
             ends: false,
             node: s.node,
             whole: s.whole,
-            same: n,
-            compared: s.compared + looked,
+            same: s.same,
+            compared: s.compared + more,
         };
     }
-    let compared = s.compared + all as u32;
-    if alert_urn::text::ends_at(w, all) {
-        return Search {
-            ends: !inner,
-            node: k,
-            whole: all == w.len(),
-            same: n,
-            compared,
-        };
-    }
-    Search {
-        ends: false,
-        node: s.node,
-        whole: s.whole,
-        same: n,
-        compared,
-    }
-}
-
-// The search for w in category c at the node at i.
-fn look<'a>(
-    t: &[u8],
-    category: &'a [u8; 64],
-    at: &'a [u16; 64],
-    len: &'a [u8; 64],
-    shared: &'a [u8; 64],
-    inner: &'a [bool; 64],
-    c: u8,
-    w: &[u8],
-    i: usize,
-    s: Search,
-) -> Search
-    requires { ⌜ (i < 64) × (s .compared ≤ 255 * i) ⌝ }
-    ensures { λ r. ⌜
-        r ≡ lookAt (now (t .entry)) (now (category .entry)) (now (at .entry)) (now (len .entry)) (now (shared .entry)) (now (inner .entry))
-        c (now (w .entry)) i s
-        ⌝ }
-    ensures { λ r. ⌜ r .compared ≤ 255 * (i + 1) ⌝ }
-{
-    if category[i] == c {
-        let p = path_at(t, at, len, i);
-        let n = alert_urn::text::common_next(p, w, s.same, wide8(shared[i]));
-        let k = i as u8 + 1;
-        return met(p, w, inner[i], k, n, s);
-    }
-    s
+    let p = path_at(t, at, len, i);
+    let n = alert_urn::text::common_next(p, w, s.same, l);
+    let k = i as u8 + 1;
+    met(p, w, inner[i], k, n, s)
 }
 
 // The search for w in category c, over the n nodes in their order.
@@ -165,9 +193,11 @@ fn search_nodes<'a>(
     };
     let mut i = 0;
     while i < n {
-        s = look(t, category, at, len, shared, inner, c, w, i, s);
-        if s.ends {
-            return s;
+        if category[i] == c {
+            s = look(t, at, len, inner, w, i, wide8(shared[i]), s);
+            if s.ends {
+                return s;
+            }
         }
         i += 1;
     }
@@ -206,11 +236,13 @@ pub fn uses<'a>(
     if alert_urn::urn::is_alert_urn(uri) {
         let n = uri.len();
         let s = alert_urn::text::part(uri, 10, n);
-        let name = alert_urn::text::before_colon(s);
+        let colon = alert_urn::text::find(s, 58);
+        let name = alert_urn::text::part(s, 0, colon);
         let c = find_name(t, name_at, name_len, name, at_most(categories, 8));
         if c < 8 {
             let found = c as u8;
-            let w = alert_urn::text::after_colon(s);
+            let path = colon + 1;
+            let w = alert_urn::text::part(s, path, n);
             let most = at_most(nodes, 64);
             let e = search_nodes(t, category, at, len, shared, inner, found, w, most);
             return Use::Used {

@@ -1,20 +1,25 @@
 use native.Mathlib.Omega.{arith}
-use Rattle.node_step.proofs.UseLaws.{look-node, look-other}
+use mathlib.Core.Path.{refl}
+use Rattle.node_step.proofs.UseLaws.{look-counted, look-met}
 use borrow.Author.Needs.{needs}
 use Rattle.node_step.proofs.uses.look.Statement.{statement}
 use Rattle.node_step.proofs.uses.look.Tie as tie
 
-element-copy-out-if1 : tie.Need-element-copy-out-if1
-element-copy-out-if1 c = search needs
+cast-more : tie.Need-cast-more
+cast-more c = search needs
+
+add-more : tie.Need-add-more
+add-more c = search needs
+
+add-t14 : tie.Need-add-t14
+add-t14 c = search needs
+
+returns : tie.Need-returns
+returns c = let a = c .before .before .before .before .before .before .args in
+    (look-counted (a .t .now) (a .at .now) (a .len .now) (a .inner .now) (a .w .now) (a .i) (a .l) (a .s) (c .before .before .if1 .taken) refl, omega (arith, c .before .before .if1 .taken, c .before .before .before .before .before .before .pre))
 
 path-at-requires : tie.Need-path-at-requires
 path-at-requires c κs = search needs
-
-element-copy-out-wide8 : tie.Need-element-copy-out-wide8
-element-copy-out-wide8 c = search needs
-
-wide8-requires : tie.Need-wide8-requires
-wide8-requires c κs = search needs
 
 common-next-requires : tie.Need-common-next-requires
 common-next-requires c κs = search needs
@@ -31,26 +36,22 @@ element-copy-out-met c = search needs
 met-requires : tie.Need-met-requires
 met-requires c κs = search needs
 
-returns : tie.Need-returns
-returns c = let a = c .before .before .before .before .before .before .before .before .before .before .args in
-    (look-node (a .t .now) (a .category .now) (a .at .now) (a .len .now) (a .shared .now) (a .inner .now) (a .c) (a .w .now) (a .i) (a .s) (c .before .before .before .before .before .before .if1 .taken) (c .before .before .before .before .before .path-at .ensures .0) (c .before .before .before .wide8 .ensures .0) (c .before .before .common-next .ensures) (c .met .ensures .0), omega (arith, c .met .ensures .1, c .before .before .before .before .before .before .before .before .before .before .pre))
-
 returns-2 : tie.Need-returns-2
-returns-2 c = let a = c .before .before .before .before .args in
-    (look-other (a .t .now) (a .category .now) (a .at .now) (a .len .now) (a .shared .now) (a .inner .now) (a .c) (a .w .now) (a .i) (a .s) (c .if1 .left), omega (arith, c .before .before .before .before .pre))
+returns-2 c = let a = c .before .before .before .before .before .before .before .before .args in
+    (look-met (a .t .now) (a .at .now) (a .len .now) (a .inner .now) (a .w .now) (a .i) (a .l) (a .s) (c .before .before .before .before .if1 .left) (c .before .before .before .path-at .ensures .0) (c .before .before .common-next .ensures) (c .met .ensures .0), omega (arith, c .met .ensures .1, c .before .before .before .before .before .before .before .before .pre))
 
 pub look-spec : {M : Type 1} → statement M
 look-spec =
     tie.close
     (tie.spec
-    element-copy-out-if1
+    cast-more
+    add-more
+    add-t14
+    returns
     path-at-requires
-    element-copy-out-wide8
-    wide8-requires
     common-next-requires
     cast-k
     add-k
     element-copy-out-met
     met-requires
-    returns
     returns-2)
