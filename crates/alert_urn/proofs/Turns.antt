@@ -104,18 +104,6 @@ pub words-less : (a b : List ℕ) (i n : ℕ) {x y : ℕ} → x ≡ wordOf a i n
 words-less a b i n e f m =
     byTest (sameName a b) (λ t. absurd (m (e ∙ ap (λ (s : List ℕ). wordOf s i n) (name-exact .to a b t) ∙ sym f))) (λ t. sym t)
 
--- the bytes before and after the first c, as the code lends them
-pub before-end : (c : ℕ) (s : List ℕ) (k : ℕ) → k ≡ length (upTo c s) → take (k - 0) s ≡ upTo c s
-before-end c s k e = simp (sub-zero, e) (upTo-take c s)
-
-pub after-end : (c : ℕ) (s : List ℕ) (k : ℕ) → k ≡ length (upTo c s) → take (length s - (k + 1)) (drop (k + 1) s) ≡ past c s
-after-end c s k e = part-end s (k + 1) ∙ rw (add-one, e) (past-drop c s)
-
-pub after-none : (c : ℕ) (s : List ℕ) (k : ℕ) → k ≡ length (upTo c s) → length s ≤ k → take (length s - length s) (drop (length s) s) ≡ past c s
-after-none c s k e h =
-    let z : past c s ≡ [] = sym (past-drop c s) ∙ drop-of-length-le s {i = suc (length (upTo c s))} (omega (arith, e)) in
-    rw (sub-self, z)
-
 -- what two texts have in common, one byte or some bytes further
 module _ (a b : List ℕ) (i : ℕ) {x : ℕ} (v : x ≡ i + common (drop i a) (drop i b)) where
   pub common-more : i < length a → i < length b → getD a i 0 ≡ getD b i 0 → x ≡ i + 1 + common (drop (i + 1) a) (drop (i + 1) b)

@@ -2,7 +2,7 @@ ghost use mathlib.Core.Path.{_≡_};
 ghost use Prim.Native.Nat.{_≤_, _<_, _+_, min};
 ghost use lib.ListN.{length, take, drop, getD};
 ghost use Rattle.resolution.specs.Names.{sameName};
-ghost use Rattle.alert_urn.specs.Text.{within, labelByte, labelRun, labelOk, upTo, past, nameOk, nameLength, common, commonNext, endsAt, wordOf};
+ghost use Rattle.alert_urn.specs.Text.{within, labelByte, labelRun, labelOk, upTo, nameOk, nameLength, common, commonNext, endsAt, wordOf};
 
 // lo ≤ x ≤ hi
 pub(crate) fn in_range(x: u8, lo: u8, hi: u8) -> bool
@@ -278,26 +278,4 @@ pub fn ends_at(w: &[u8], n: usize) -> bool
         return w[n] == 58;
     }
     true
-}
-
-// The bytes before the first colon.
-pub fn before_colon(s: &[u8]) -> &[u8]
-    ensures { λ r. ⌜ now r ≡ upTo 58 (now (s .entry)) ⌝ }
-{
-    let a = 0;
-    let end = find(s, 58);
-    &s[a..end]
-}
-
-// The bytes after the first colon.
-pub fn after_colon(s: &[u8]) -> &[u8]
-    ensures { λ r. ⌜ now r ≡ past 58 (now (s .entry)) ⌝ }
-{
-    let n = s.len();
-    let k = find(s, 58);
-    if k < n {
-        let a = k + 1;
-        return &s[a..n];
-    }
-    &s[n..n]
 }
