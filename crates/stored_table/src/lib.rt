@@ -95,6 +95,8 @@ fn placed(
     let k = signal_places::by_nodes(l.signals, l.urns, signal, category, &node, &mut rows);
     if k == 0 {
         let m = node_step::marks::of_nodes(t, &cats, &parent, &at, &len, n);
+        let shared = m.shared;
+        let inner = m.inner;
         return Decoded {
             refusal: 0,
             categories: l.categories,
@@ -106,8 +108,8 @@ fn placed(
             parent,
             at,
             len,
-            shared: m.shared,
-            inner: m.inner,
+            shared,
+            inner,
             rows,
         };
     }
