@@ -66,7 +66,12 @@ fn find_name<'a>(
 }
 
 // The path of the node at i, in the table's bytes.
-pub(crate) fn path_at<'a, 'b>(t: &'a [u8], at: &'b [u16; 64], len: &'b [u8; 64], i: usize) -> &'a [u8]
+pub(crate) fn path_at<'a, 'b>(
+    t: &'a [u8],
+    at: &'b [u16; 64],
+    len: &'b [u8; 64],
+    i: usize,
+) -> &'a [u8]
     requires { ⌜ i < 64 ⌝ }
     ensures { λ r. ⌜ now r ≡ stretch (now (t .entry)) (now (at .entry)) (now (len .entry)) i ⌝ }
     ensures short { λ r. ⌜ length (now r) ≤ 255 ⌝ }
@@ -91,10 +96,10 @@ fn looked(all: usize, n: usize) -> u32
     requires { ⌜ all ≤ 255 ⌝ }
     ensures { λ r. ⌜ (r ≡ min all (n + 1)) × (r ≤ 255) ⌝ }
 {
-    if n < all {
-        return n as u32 + 1;
+    if all <= n {
+        return all as u32;
     }
-    all as u32
+    n as u32 + 1
 }
 
 // x if so, else y.
