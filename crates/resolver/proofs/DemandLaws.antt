@@ -32,7 +32,9 @@ use Rattle.resolver.specs.Resolve.{takenAs, directSignal, walkedSignal, 
 use Rattle.resolver.specs.Demands.{WalkClaim, DemandOne, DemandTwo, DemandThree}
 use Rattle.resolver.proofs.TableLaws.{names-count}
 use Rattle.resolver.proofs.FoldLaws.{used-urn}
-use Rattle.resolver.proofs.RefusalLaws.{value-number, entry-number, table-number, plain-number, machine-number, build-number, check-number, entry-refused}
+use Rattle.resolver.proofs.RefusalLaws.{value-number, entry-number, plain-number, machine-number, build-number, check-number}
+use Rattle.alert_info.proofs.EntryLaws.{refused-entry}
+use Rattle.stored_table.proofs.RefusalNumbers.{refusal-numbers}
 
 -- an answer that is refused is refused as a whole, where the answer within is
 by-number : (t v : List ℕ) (r : Resolution) → ((r .refusal ≡ 0 → ⊥) → r ≡ refused (r .refusal))
@@ -68,12 +70,12 @@ demand-one t =
     record {
       value-number = value-number;
       entry-number = entry-number;
-      table-number = table-number t;
+      table-number = refusal-numbers t;
       plain-number = plain-number t;
       machine-number = machine-number t;
       build-number = build-number t;
       check-number = check-number t;
-      entry-refused = entry-refused;
+      entry-refused = refused-entry;
       plain-refused = plain-refused t;
       machine-refused = machine-refused t;
       build-refused = build-refused t;

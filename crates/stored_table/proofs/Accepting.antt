@@ -1,13 +1,13 @@
 -- A table that none of 4 to 12 refuses is well-formed.
 use Prim.Native.Nat.{ℕ, suc, zero, _-_, _≤_, _<_}
-use mathlib.Core.Path.{_≡_, refl, ap, sym, _∙_, subst}
+use mathlib.Core.Path.{_≡_, refl, ap, ap₂, sym, _∙_, subst}
 use mathlib.Core.Logic.{_⊎_, inl, inr, _≢_}
 use mathlib.Core.Bool.{Bool, true, false, cond, not, _&&_, and-eq-true-iff, true≢false, false≢true}
 use mathlib.Core.List.{List, [], _∷_, map, List·Memᴰ, List·Memᴰ·head, List·Memᴰ·tail, List·Memᴰ·cases-cons, List·Memᴰ·not-nil}
 use native.Mathlib.Omega.{arith}
 use lib.ListN.{length, getD, length-append}
 use lib.Dec.{leb, ltb}
-use borrow.Author.Tests.{leb-true, ltb-true, ltb-false}
+use borrow.Author.Tests.{le-leb, leb-true, ltb-true, ltb-false}
 use Rattle.alert_urn.specs.Text.{all, upTo, past, fields, within, nameOk, labelOk}
 use Rattle.alert_urn.specs.Urn.{urnOk, categoryOf}
 use Rattle.alert_urn.proofs.Fields.{byTest, fields-first, fields-more, fields-last}
@@ -22,7 +22,7 @@ use Rattle.table_sections.specs.Stored.{Read, fault, got, Stored, stored, secti
 use Rattle.signal_places.specs.Verdict.{sameCat, noUrn, samePlaces}
 use Rattle.stored_table.specs.Tables.{any, noTwo, formed, uses, isListed, listed, toUrn, tableIn, single, plain, distinct, fewNodes, verdict, judged, judgedRead, tableRefusal, tableRead, tableOf}
 use Rattle.stored_table.specs.Accepted.{Accepted}
-use Rattle.table_sections.proofs.FaultLaws.{fault-sections, stored-counts}
+use Rattle.table_sections.proofs.FaultLaws.{fault-some-number, stored-counts}
 use Rattle.table_sections.proofs.SectionLaws.{sections-read}
 use Rattle.stored_table.proofs.Judging.{two-distinct, map-length}
 
@@ -127,7 +127,7 @@ unfolding tableRefusal judgedRead
 refusal-zero t e = go (sections t) refl e
   where
     go : (r : Read Stored) → sections t ≡ r → judgedRead r ≡ 0 → (s : Stored) × (p : ℕ) × (stored t ≡ got s p) × (judged s ≡ 0)
-    go (fault k) f g = absurd (fault-sections t k f g)
+    go (fault k) f g = absurd (fault-some-number t k f g)
     go (got s p) f g = (s, p, sections-read t s p f .1, g)
 
 module _ (t : List ℕ) (s : Stored) (q : ℕ) (r : stored t ≡ got s q) (g : Passed s) where
@@ -241,3 +241,32 @@ pub node-parts : (T : Table) → Accepted T → (k : ℕ) → k < length (nodes 
 node-parts T A k h =
     let n = nodes-all T (nodeAt (nodes T) k) (mem-at (nodes T) k (urn 0 []) h) in
     omega (arith, A .few-parts (n .signal) (n .listed) (n .by) (n .named), ap length (n .above .joined), length-append (nodeAt (nodes T) k .path) (n .above .rest))
+
+-- and a table of which all this holds is refused with none of 9 to 12
+all-of : {A : Type 0} (p : A → Bool) (xs : List A) → ((x : A) → List·Memᴰ x xs → p x ≡ true) → all p xs ≡ true
+unfolding all
+all-of p [] h = refl
+all-of p (x ∷ xs) h = ap₂ _&&_ (h x (List·Memᴰ·head refl)) (all-of p xs (λ y m. h y (List·Memᴰ·tail m)))
+
+none-of : {A : Type 0} (p : A → Bool) (xs : List A) (d : A) → ((j : ℕ) → j < length xs → p (getD xs j d) ≡ false) → any p xs ≡ false
+unfolding any
+none-of p [] d h = refl
+none-of p (x ∷ xs) d h = rw (h 0 (omega arith)) (none-of p xs d (λ j l. h (suc j) (omega arith)))
+
+two-of : {A : Type 0} (q : A → A → Bool) (xs : List A) (d : A) → ((i j : ℕ) → i < j → j < length xs → q (getD xs i d) (getD xs j d) ≡ false) → noTwo q xs ≡ true
+unfolding noTwo
+two-of q [] d h = refl
+two-of q (x ∷ xs) d h =
+    ap₂ (λ a b. not a && b) (none-of (q x) xs d (λ j l. h 0 (suc j) (omega arith) (omega arith))) (two-of q xs d (λ i j k l. h (suc i) (suc j) (omega arith) (omega arith)))
+
+pub accepted-verdict : (T : Table) → Accepted T → verdict T ≡ 0
+unfolding verdict single plain distinct fewNodes
+accepted-verdict T A =
+    let once : all (noTwo sameCat) (T .signals) ≡ true = all-of (noTwo sameCat) (T .signals) (A .once) in
+    let silent : noUrn (getD (T .signals) 0 []) ≡ true = ap noUrn (A .well .silent) in
+    let rows : noTwo (samePlaces (T .cats)) (T .signals) ≡ true =
+    two-of (samePlaces (T .cats)) (T .signals) []
+    (λ i j h k. byTest (sameRow (rowOf T i) (rowOf T j))
+    (λ e. absurd (omega (arith, A .rows i j (omega arith) k (row-exact .to (rowOf T i) (rowOf T j) e))))
+    (λ e. e)) in
+    rw (once, silent, rows, le-leb (length (nodes T)) 64 (A .few-nodes))

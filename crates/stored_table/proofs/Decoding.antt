@@ -35,9 +35,9 @@ snoc-same (z ∷ p) [] x y e = absurd (omega (arith, ap length e, length-append 
 snoc-same (z ∷ p) (w ∷ q) x y e = let a : z ≡ w = cc in let b : p ++ x ∷ [] ≡ q ++ y ∷ [] = cc in ap₂ _∷_ a (snoc-same p q x y b)
 
 -- a table with too many nodes is refused
-pub crowded : (T : Table) → 64 < length (nodes T) → verdict T ≢ 0
+pub many-nodes : (T : Table) → 64 < length (nodes T) → verdict T ≢ 0
 unfolding verdict fewNodes
-crowded T h e = go (single T) (plain T) (distinct T) (rw (lt-leb (length (nodes T)) 64 h) at e)
+many-nodes T h e = go (single T) (plain T) (distinct T) (rw (lt-leb (length (nodes T)) 64 h) at e)
   where
     go : (a b c : Bool) → _≡_ {A = ℕ} (cond a (cond b (cond c 12 11) 10) 9) 0 → ⊥
     go true true true z = omega arith

@@ -16,7 +16,7 @@ use Rattle.resolution.specs.Table.{Urn, urn, Table}
 use Rattle.resolution.proofs.Lists.{tabulate-same, tabulate-length, tabulate-at, index-member, index-at}
 use Rattle.resolution.proofs.Names.{name-exact}
 use Rattle.node_step.specs.Arrays.{stretch}
-use Rattle.table_sections.specs.Stored.{fault, got, Stored, sections}
+use Rattle.table_sections.specs.Stored.{fault, got, Stored, stored, sections}
 use Rattle.table_sections.specs.Held.{tag, taggedFrom, joined, urnAt, ReadAs}
 use Rattle.table_sections.specs.declared.Counts.{Counts}
 use Rattle.table_sections.proofs.Padding.{clear}
@@ -55,6 +55,11 @@ table-read t s p e = ap tableRead (sections-read t s p e .1)
 names-read : (t : List ℕ) (s : Stored) (p : ℕ) → sections t ≡ got s p → categoryNames t ≡ s .names
 unfolding categoryNames namesRead
 names-read t s p e = ap namesRead (sections-read t s p e .1)
+
+-- bytes that cannot be read say nothing
+pub unread : (t : List ℕ) (k : ℕ) → stored t ≡ fault k → (tableOf t ≡ record { cats = 0; signals = [] }) × (categoryNames t ≡ [])
+unfolding tableOf tableRead categoryNames namesRead
+unread t k e = (ap tableRead e, ap namesRead e)
 
 -- 7
 module _ (t nameAt nameLen at len signal : List ℕ) (l : Counts) (R : ReadAs t nameAt nameLen at len signal l) where

@@ -3,3 +3,4 @@ pub mod Indexing
 pub mod Judging
 pub mod Accepting
 pub mod Decoding
+pub mod RefusalNumbers

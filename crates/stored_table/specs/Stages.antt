@@ -1,10 +1,11 @@
 -- What is known of a table and its arrays after refusals 7 and 8.
-use Prim.Native.Nat.{ℕ, _≤_}
+use Prim.Native.Nat.{ℕ, _≤_, _<_}
 use mathlib.Core.Path.{_≡_}
 use mathlib.Core.Bool.{true}
 use mathlib.Core.List.{List}
 use lib.ListN.{length}
 use Rattle.resolution.specs.Lists.{tabulate}
+use Rattle.resolution.specs.Nodes.{nodes}
 use Rattle.alert_urn.specs.Text.{fields}
 use Rattle.node_step.specs.Arrays.{stretch}
 use Rattle.table_sections.specs.Held.{Padded, ReadAs}
@@ -26,3 +27,10 @@ pub record ListedAs (t nameAt nameLen signal category pathAt pathLen : List ℕ)
   pub refusal : tableRefusal t ≡ verdict (tableOf t)
   pub past-at : Padded 8 (l .categories) nameAt
   pub past-len : Padded 8 (l .categories) nameLen
+
+-- after 8, where there are too many nodes
+pub record CrowdedAs (t signal category pathAt pathLen : List ℕ) (l : Counts) : Type 0 where
+  pub cats : tableOf t .cats ≡ l .categories
+  pub listing : Listing (tableOf t) signal category (λ i. fields 58 (stretch t pathAt pathLen i)) (l .signals) (l .urns)
+  pub refusal : tableRefusal t ≡ verdict (tableOf t)
+  pub many : 64 < length (nodes (tableOf t))

@@ -1,5 +1,7 @@
 -- Which table the bytes say, and with which of the numbers 4 to 12 they are refused.
-use Prim.Native.Nat.{ℕ}
+use Prim.Native.Nat.{ℕ, _≤_}
+use mathlib.Core.Path.{_≡_}
+use mathlib.Core.Logic.{_⊎_}
 use mathlib.Core.Bool.{Bool, cond, _&&_}
 use mathlib.Core.List.{List, [], map}
 use lib.ListN.{length}
@@ -49,6 +51,10 @@ judgedRead (got s at) = judged s
 -- the number with which a stored table is refused, or 0: well-formed
 unfoldable pub tableRefusal : List ℕ → ℕ
 tableRefusal t = judgedRead (sections t)
+
+-- no other numbers are given
+abbrev pub RefusalNumbers : Type 0
+RefusalNumbers = (t : List ℕ) → (tableRefusal t ≡ 0) ⊎ ((4 ≤ tableRefusal t) × (tableRefusal t ≤ 12))
 
 -- the names of the categories, in their order; none where the bytes cannot be read
 unfoldable pub namesRead : Read Stored → List Name

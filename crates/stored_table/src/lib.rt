@@ -6,7 +6,7 @@ use table_sections::Counts;
 ghost use mathlib.Core.Path.{_≡_};
 ghost use Rattle.table_sections.specs.Held.{ReadAs};
 ghost use Rattle.stored_table.specs.Tables.{tableRefusal};
-ghost use Rattle.stored_table.specs.Stages.{FormedAs, ListedAs};
+ghost use Rattle.stored_table.specs.Stages.{FormedAs, ListedAs, CrowdedAs};
 ghost use Rattle.stored_table.specs.Decoded.{refusedTable, Means};
 
 // A decoded table: its refusal number, its categories' names, its nodes and the places of its signals. Node k stands at k - 1; its path
@@ -48,6 +48,30 @@ fn refused(k: u8) -> Decoded
     }
 }
 
+// The answer to a table with too many nodes.
+fn crowded(
+    t: &[u8],
+    l: Counts,
+    signal: &[u8; 256],
+    category: &[u8; 256],
+    path_at: &[u16; 256],
+    path_len: &[u8; 256],
+) -> Decoded
+    requires { ⌜ CrowdedAs (now t) (now signal) (now category) (now «path_at») (now «path_len») l ⌝ }
+    ensures { λ r. ⌜ Means (now (t .entry)) r ⌝ }
+{
+    refused(signal_places::by_texts(
+        t,
+        l.signals,
+        l.categories,
+        l.urns,
+        signal,
+        category,
+        path_at,
+        path_len,
+    ))
+}
+
 // The nodes and the places, with refusals 9 to 12.
 fn placed(
     t: &[u8],
@@ -80,16 +104,7 @@ fn placed(
         &mut len,
     );
     if 64 < n {
-        return refused(signal_places::by_texts(
-            t,
-            l.signals,
-            l.categories,
-            l.urns,
-            signal,
-            category,
-            path_at,
-            path_len,
-        ));
+        return crowded(t, l, signal, category, path_at, path_len);
     }
     let mut rows = [0u64; 32];
     let k = signal_places::by_nodes(l.signals, l.urns, signal, category, &node, &mut rows);

@@ -1,6 +1,6 @@
 -- Laws of what a reading answers: the number of a fault, and how many things were read.
 use Prim.Native.Nat.{ℕ, suc, zero, _+_, _-_, _≤_}
-use mathlib.Core.Path.{_≡_, ap, _∙_}
+use mathlib.Core.Path.{_≡_, ap}
 use mathlib.Core.Logic.{_≢_}
 use mathlib.Core.Bool.{Bool, true, false, cond}
 use mathlib.Core.List.{List, [], _∷_}
@@ -11,9 +11,9 @@ use Rattle.alert_urn.specs.Text.{within}
 use Rattle.table_sections.specs.Stored.{Read, fault, got, andThen, byteIn, text, times, counted, signal, storedFrom, Stored, stored, sections}
 use Rattle.table_sections.proofs.Readings.{after-got, byte-read, times-length}
 
--- it has a number: 4, 5 or 6
+-- a fault's number is 4, 5 or 6
 abbrev Faulty : {A : Type 0} → Read A → Type 0
-Faulty {A} r = (k : ℕ) → r ≡ fault k → k ≢ 0
+Faulty {A} r = (k : ℕ) → r ≡ fault k → (4 ≤ k) × (k ≤ 6)
 
 fault-then : {A B : Type 0} (r : Read A) (f : A → ℕ → Read B) → Faulty r → ((x : A) (p : ℕ) → Faulty (f x p)) → Faulty (andThen r f)
 unfolding andThen
@@ -23,8 +23,8 @@ fault-then (got x p) f a b k e = b x p k e
 fault-got : {A : Type 0} (x : A) (p : ℕ) → Faulty (got x p)
 fault-got x p k e = let z : _≡_ {A = ℕ} 0 1 = cc in absurd (omega arith)
 
-fault-some : {A : Type 0} (j : ℕ) → j ≢ 0 → (k : ℕ) → _≡_ {A = Read A} (fault j) (fault k) → k ≢ 0
-fault-some j n k e z = n (let y : j ≡ k = cc in y ∙ z)
+fault-some : {A : Type 0} (j : ℕ) → (4 ≤ j) × (j ≤ 6) → (k : ℕ) → _≡_ {A = Read A} (fault j) (fault k) → (4 ≤ k) × (k ≤ 6)
+fault-some j n k e = let y : j ≡ k = cc in (omega (arith, y, n .0), omega (arith, y, n .1))
 
 fault-if : {A : Type 0} (b : Bool) (x y : Read A) → Faulty x → Faulty y → Faulty (cond b x y)
 fault-if true x y f g = f
@@ -33,11 +33,11 @@ fault-if false x y f g = g
 fault-byte : (lo hi : ℕ) (t : List ℕ) (at : ℕ) → Faulty (byteIn lo hi t at)
 unfolding byteIn
 fault-byte lo hi t at =
-    fault-if (ltb at (length t)) _ _ (fault-if (within lo hi (getD t at 0)) _ _ (fault-got (getD t at 0) (at + 1)) (fault-some 6 (λ z. omega arith))) (fault-some 5 (λ z. omega arith))
+    fault-if (ltb at (length t)) _ _ (fault-if (within lo hi (getD t at 0)) _ _ (fault-got (getD t at 0) (at + 1)) (fault-some 6 (omega arith, omega arith))) (fault-some 5 (omega arith, omega arith))
 
 fault-text : (hi : ℕ) (t : List ℕ) (at : ℕ) → Faulty (text hi t at)
 unfolding text
-fault-text hi t at = fault-then (byteIn 1 hi t at) _ (fault-byte 1 hi t at) (λ n p. fault-if (leb n (length t - p)) _ _ (fault-got _ (p + n)) (fault-some 5 (λ z. omega arith)))
+fault-text hi t at = fault-then (byteIn 1 hi t at) _ (fault-byte 1 hi t at) (λ n p. fault-if (leb n (length t - p)) _ _ (fault-got _ (p + n)) (fault-some 5 (omega arith, omega arith)))
 
 fault-times : {A : Type 0} (rd : ℕ → Read A) → ((at : ℕ) → Faulty (rd at)) → (n at : ℕ) → Faulty (times rd n at)
 unfolding times
@@ -53,10 +53,13 @@ unfolding stored storedFrom
 fault-stored t =
     fault-then (counted 1 8 (text 55 t) t 0) _ (fault-counted 1 8 (text 55 t) t (fault-text 55 t) 0)
     (λ ns p. fault-then (counted 1 32 (signal t) t p) _ (fault-counted 1 32 (signal t) t (fault-counted 0 8 (text 255 t) t (fault-text 255 t)) p)
-    (λ ss q. fault-if (ltb q (length t)) _ _ (fault-some 5 (λ z. omega arith)) (fault-got _ q)))
+    (λ ss q. fault-if (ltb q (length t)) _ _ (fault-some 5 (omega arith, omega arith)) (fault-got _ q)))
 
 pub fault-sections : (t : List ℕ) → Faulty (sections t)
-fault-sections t = fault-if (ltb 8192 (length t)) _ _ (fault-some 4 (λ z. omega arith)) (fault-stored t)
+fault-sections t = fault-if (ltb 8192 (length t)) _ _ (fault-some 4 (omega arith, omega arith)) (fault-stored t)
+
+pub fault-some-number : (t : List ℕ) (k : ℕ) → sections t ≡ fault k → k ≢ 0
+fault-some-number t k e z = omega (arith, z, fault-sections t k e .0)
 
 -- the counts
 counted-length : {A : Type 0} (lo hi : ℕ) (rd : ℕ → Read A) (t : List ℕ) (at : ℕ) (xs : List A) (q : ℕ) → counted lo hi rd t at ≡ got xs q → (lo ≤ length xs) × (length xs ≤ hi)

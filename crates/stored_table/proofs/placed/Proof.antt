@@ -1,10 +1,10 @@
-use mathlib.Core.Path.{refl, sym, _∙_}
+use mathlib.Core.Path.{refl}
 use Rattle.alert_urn.specs.Text.{fields}
 use Rattle.node_step.specs.Arrays.{stretch}
 use Rattle.table_sections.proofs.Padding.{clear}
 use Rattle.stored_table.specs.Tables.{tableOf}
 use Rattle.stored_table.proofs.Judging.{means-refused}
-use Rattle.stored_table.proofs.Decoding.{crowded, over, numbering, placed-refused, means-accepted}
+use Rattle.stored_table.proofs.Decoding.{over, numbering, placed-refused, means-accepted}
 use borrow.Author.Needs.{needs}
 use Rattle.stored_table.proofs.placed.Statement.{statement}
 use Rattle.stored_table.proofs.placed.Tie as tie
@@ -12,19 +12,14 @@ use Rattle.stored_table.proofs.placed.Tie as tie
 add-all-requires : tie.Need-add-all-requires
 add-all-requires c κs = search needs
 
-by-texts-requires : tie.Need-by-texts-requires
-by-texts-requires c κs = search needs
-
-refused-requires : tie.Need-refused-requires
-refused-requires c κs = search needs
+crowded-requires : tie.Need-crowded-requires
+crowded-requires c κs = let a = c .before .before .before .before .before .before .before .before .args in
+    let S = c .before .before .before .before .before .before .before .before .pre in
+    let A = c .before .add-all .ensures (S .listing .few-urns) (refl, clear 64, clear 64, clear 64, clear 64) in
+    record { cats = S .cats; listing = S .listing; refusal = S .refusal; many = over (a .t .now) (a .name-at .now) (a .name-len .now) (a .signal .now) (a .category .now) (a .path-at .now) (a .path-len .now) (a .l) S A (c .if1 .taken) }
 
 returns : tie.Need-returns
-returns c = let a = c .before .before .before .before .before .before .before .before .before .before .args in
-    let S = c .before .before .before .before .before .before .before .before .before .before .pre in
-    let A = c .before .before .before .add-all .ensures (S .listing .few-urns) (refl, clear 64, clear 64, clear 64, clear 64) in
-    let h = over (a .t .now) (a .name-at .now) (a .name-len .now) (a .signal .now) (a .category .now) (a .path-at .now) (a .path-len .now) (a .l) S A (c .before .before .if1 .taken) in
-    let e = c .before .by-texts .ensures (tableOf (a .t .now)) (S .listing) (S .cats) h in
-    means-refused (a .t .now) (c .before .by-texts .result) (c .refused .ensures) (S .refusal ∙ sym e) (λ z. crowded (tableOf (a .t .now)) h (sym e ∙ z))
+returns c = c .crowded .ensures
 
 by-nodes-requires : tie.Need-by-nodes-requires
 by-nodes-requires c κs = search needs
@@ -41,26 +36,25 @@ returns-2 c = let a = c .before .before .before .before .before .before .before 
     let m = c .before .before .before .before .of-nodes in
     means-accepted (a .t .now) (a .name-at .now) (a .name-len .now) (a .signal .now) (a .category .now) (a .path-at .now) (a .path-len .now) (a .l) S A few P (c .before .before .before .before .before .before .before .before .before .if2 .taken) (m .result .shared) (m .ensures .0) (m .result .inner) (m .ensures .1)
 
-refused-requires-2 : tie.Need-refused-requires-2
-refused-requires-2 c κs = search needs
+refused-requires : tie.Need-refused-requires
+refused-requires c κs = search needs
 
 returns-3 : tie.Need-returns-3
 returns-3 c = let a = c .before .before .before .before .before .before .before .before .before .before .before .before .before .args in
     let S = c .before .before .before .before .before .before .before .before .before .before .before .before .before .pre in
     let A = c .before .before .before .before .before .before .add-all .ensures (S .listing .few-urns) (refl, clear 64, clear 64, clear 64, clear 64) in
     let P = c .before .before .by-nodes .ensures (tableOf (a .t .now)) (λ i. fields 58 (stretch (a .t .now) (a .path-at .now) (a .path-len .now) i)) (S .listing) (numbering (a .t .now) (a .name-at .now) (a .name-len .now) (a .signal .now) (a .category .now) (a .path-at .now) (a .path-len .now) (a .l) S A (c .before .before .before .before .before .if1 .left)) (clear 32) in
-    means-refused (a .t .now) (c .before .before .by-nodes .result) (c .refused2 .ensures) (placed-refused (a .t .now) (a .name-at .now) (a .name-len .now) (a .signal .now) (a .category .now) (a .path-at .now) (a .path-len .now) (a .l) S A (c .before .before .before .before .before .if1 .left) P) (c .before .if2 .left)
+    means-refused (a .t .now) (c .before .before .by-nodes .result) (c .refused .ensures) (placed-refused (a .t .now) (a .name-at .now) (a .name-len .now) (a .signal .now) (a .category .now) (a .path-at .now) (a .path-len .now) (a .l) S A (c .before .before .before .before .before .if1 .left) P) (c .before .if2 .left)
 
 pub placed-spec : {M : Type 1} → statement M
 placed-spec =
     tie.close
     (tie.spec
     add-all-requires
-    by-texts-requires
-    refused-requires
+    crowded-requires
     returns
     by-nodes-requires
     of-nodes-requires
     returns-2
-    refused-requires-2
+    refused-requires
     returns-3)

@@ -1,0 +1,22 @@
+use mathlib.Core.Path.{sym, _∙_}
+use Rattle.stored_table.specs.Tables.{tableOf}
+use Rattle.stored_table.proofs.Judging.{means-refused}
+use Rattle.stored_table.proofs.Decoding.{many-nodes}
+use borrow.Author.Needs.{needs}
+use Rattle.stored_table.proofs.crowded.Statement.{statement}
+use Rattle.stored_table.proofs.crowded.Tie as tie
+
+by-texts-requires : tie.Need-by-texts-requires
+by-texts-requires c κs = search needs
+
+refused-requires : tie.Need-refused-requires
+refused-requires c κs = search needs
+
+returns : tie.Need-returns
+returns c = let a = c .before .before .before .args in
+    let C = c .before .before .before .pre in
+    let e = c .before .by-texts .ensures (tableOf (a .t .now)) (C .listing) (C .cats) (C .many) in
+    means-refused (a .t .now) (c .before .by-texts .result) (c .refused .ensures) (C .refusal ∙ sym e) (λ z. many-nodes (tableOf (a .t .now)) (C .many) (sym e ∙ z))
+
+pub crowded-spec : {M : Type 1} → statement M
+crowded-spec = tie.close (tie.spec by-texts-requires refused-requires returns)
