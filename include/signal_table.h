@@ -43,6 +43,14 @@ typedef struct machine_built {
     size_t len;
 } machine_built;
 
+/* What a URI is to a table. `refusal` is 0 or 4 to 12. `used` is 1 if the URI is an alert URN of one of the table's categories;
+ * then `category` is that one's number, `node` the number of the deepest node that is the URN or above it (0 for the root),
+ * `whole` 1 if it is the URN, and `compared` the number of bytes compared to find it. Else all of these are 0. */
+typedef struct {
+    uint8_t refusal, used, category, node, whole;
+    uint32_t compared;
+} alert_match;
+
 /* The table's refusal number: 0 if it is well-formed, else 4 to 12. */
 uint8_t signal_table_refusal(const uint8_t *table, size_t len);
 
@@ -52,6 +60,9 @@ machine_built machine_build(const uint8_t *table, size_t len, uint8_t *buf, size
 
 /* Whether the image, whoever made it, is right for the table: 0 if it is, else 4 to 12 or 15 to 17. */
 uint8_t machine_check(const uint8_t *table, size_t len, const uint8_t *image, size_t image_len);
+
+/* What the URI is to the table. */
+alert_match signal_table_match(const uint8_t *table, size_t len, const uint8_t *uri, size_t uri_len);
 
 #ifdef __cplusplus
 }

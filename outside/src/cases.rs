@@ -10,12 +10,13 @@
 //! | `build T ROOM` | refusal, length, image (the rest of the buffer of ROOM bytes is 0) |
 //! | `check T M` | refusal |
 //! | `walk T M V` | refusal, signal, used, skipped of the machine resolver |
-use crate::{Reader, Resolution, Resolvers, Tables};
+//! | `match T URI` | refusal, category (-1 if the URI is skipped), node, whole, bytes compared |
+use crate::{Match, Reader, Resolution, Resolvers, Tables};
 use std::fmt::Write;
 use std::path::{Path, PathBuf};
 
 /// One file for each command, the draft's worked examples, and values with folded lines.
-pub const FILES: [&str; 9] = [
+pub const FILES: [&str; 10] = [
     "value.txt",
     "entry.txt",
     "table.txt",
@@ -23,6 +24,7 @@ pub const FILES: [&str; 9] = [
     "check.txt",
     "plain.txt",
     "walk.txt",
+    "match.txt",
     "draft.txt",
     "folded.txt",
 ];
@@ -51,7 +53,7 @@ impl Case {
     pub fn layer(&self) -> Layer {
         match self.words[0].as_str() {
             "value" | "entry" => Layer::Reader,
-            "table" | "build" | "check" => Layer::Tables,
+            "table" | "match" | "build" | "check" => Layer::Tables,
             "plain" | "walk" => Layer::Resolvers,
             other => panic!("{}: unknown command {other}", self.place),
         }
@@ -135,6 +137,11 @@ pub fn ask_tables<I: Tables>(case: &Case) -> String {
     let table = case.bytes(1);
     match case.words[0].as_str() {
         "table" => I::table_refusal(&table).to_string(),
+        "match" => {
+            let Match { refusal, used, category, node, whole, compared } = I::matched(&table, &case.bytes(2));
+            let category = if used == 1 { category.to_string() } else { "-1".to_string() };
+            format!("{refusal} {category} {node} {whole} {compared}")
+        }
         "build" => {
             // Filled with a byte that no image leaves behind, since every byte of the buffer is to be written.
             let mut buffer = vec![0xA5; case.number(2)];

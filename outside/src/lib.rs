@@ -20,6 +20,25 @@ pub struct Built {
     pub len: usize,
 }
 
+/// What a URI is to a table: the table's refusal number, whether the URI is used, its category, the deepest node that is
+/// the URN or above it, whether it is the URN, and how many bytes were compared to find it. All 0 for a skipped URI.
+#[repr(C)]
+#[derive(Clone, Copy, Debug, PartialEq, Eq)]
+pub struct Match {
+    pub refusal: u8,
+    pub used: u8,
+    pub category: u8,
+    pub node: u8,
+    pub whole: u8,
+    pub compared: u32,
+}
+
+impl Match {
+    pub fn refused(refusal: u8) -> Match {
+        Match { refusal, used: 0, category: 0, node: 0, whole: 0, compared: 0 }
+    }
+}
+
 /// What a resolver answers: its refusal number, the signal, and how many entries were used and skipped.
 #[repr(C)]
 #[derive(Clone, Copy, Debug, PartialEq, Eq)]
@@ -48,6 +67,7 @@ pub trait Reader {
 /// Signal tables and machines: what the library signal_table answers.
 pub trait Tables {
     fn table_refusal(table: &[u8]) -> u8;
+    fn matched(table: &[u8], uri: &[u8]) -> Match;
     fn build(table: &[u8], buffer: &mut [u8]) -> Built;
     fn check(table: &[u8], image: &[u8]) -> u8;
 }

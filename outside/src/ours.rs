@@ -2,7 +2,7 @@
 #[cfg(feature = "alert_info")]
 use crate::Reader;
 #[cfg(feature = "signal_table")]
-use crate::{Built, Tables};
+use crate::{Built, Match, Tables};
 #[cfg(feature = "resolver")]
 use crate::{Resolution, Resolvers};
 
@@ -28,6 +28,7 @@ extern "C" {
 #[cfg(feature = "signal_table")]
 extern "C" {
     fn signal_table_refusal(table: *const u8, len: usize) -> u8;
+    fn signal_table_match(table: *const u8, len: usize, uri: *const u8, uri_len: usize) -> Match;
     fn machine_build(table: *const u8, len: usize, buf: *mut u8, room: usize) -> Built;
     fn machine_check(table: *const u8, len: usize, image: *const u8, image_len: usize) -> u8;
 }
@@ -72,6 +73,10 @@ impl Reader for Ours {
 impl Tables for Ours {
     fn table_refusal(table: &[u8]) -> u8 {
         unsafe { signal_table_refusal(table.as_ptr(), table.len()) }
+    }
+
+    fn matched(table: &[u8], uri: &[u8]) -> Match {
+        unsafe { signal_table_match(table.as_ptr(), table.len(), uri.as_ptr(), uri.len()) }
     }
 
     fn build(table: &[u8], buffer: &mut [u8]) -> Built {

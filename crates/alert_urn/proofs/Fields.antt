@@ -1,6 +1,6 @@
 -- Laws of the texts between colons: comparing bytes is comparing lists of names.
 use Prim.Native.Nat.{ℕ, suc, _+_, _-_, _≤_, _<_}
-use mathlib.Core.Path.{_≡_, refl, ap, sym, _∙_}
+use mathlib.Core.Path.{_≡_, refl, ap, ap₂, sym, _∙_}
 use mathlib.Core.Bool.{Bool, true, false, _&&_, and-assoc}
 use mathlib.Core.List.{List, [], _∷_, _++_}
 use native.Mathlib.Omega.{arith}
@@ -9,7 +9,7 @@ use lib.Seq.{drop-cons, drop-drop, take-all}
 use lib.Dec.{eqb, ltb}
 use borrow.Author.Tests.{eq-eqb, ne-eqb, eqb-true, eqb-false, ltb-true, ltb-false}
 use Rattle.resolution.specs.Names.{sameName, sameParts}
-use Rattle.alert_urn.specs.Text.{upTo, past, fields, onFirst, covers}
+use Rattle.alert_urn.specs.Text.{upTo, past, fields, onFirst, afterColons, textOf, covers}
 
 -- by the two values of a test
 pub byTest : {P : Type 0} (b : Bool) → (b ≡ true → P) → (b ≡ false → P) → P
@@ -159,3 +159,14 @@ fields-tail c s =
     (λ e.
     let h = ltb-false (length (upTo c s)) (length s) e in
     rw (drop-of-length-le s {i = length (upTo c s)} h, fields-last c s h))
+
+-- a path's text is the text that says it
+pub text-fields : (s : List ℕ) → textOf (fields 58 s) ≡ s
+unfolding textOf afterColons fields onFirst
+text-fields [] = refl
+text-fields (x ∷ xs) =
+    let f = fields-first 58 xs in
+    let ih = text-fields xs in
+    byTest (eqb x 58)
+    (λ e. simp (e, f .1) (ap₂ _∷_ (sym (eqb-true x 58 e)) (simp (f .1) at ih)))
+    (λ e. simp (e, f .1) (ap (λ (l : List ℕ). x ∷ l) (simp (f .1) at ih)))

@@ -1,10 +1,10 @@
 -- Labels, names and the texts between colons, as bytes.
-use Prim.Native.Nat.{ℕ, zero, suc, _+_, _*_, _-_}
+use Prim.Native.Nat.{ℕ, zero, suc, _+_, _*_, _-_, min}
 use mathlib.Core.Bool.{Bool, true, false, cond, not, _&&_, _||_}
 use mathlib.Core.Option.{Option, none, some}
-use mathlib.Core.List.{List, [], _∷_}
-use lib.ListN.{length, getD}
-use lib.Dec.{leb, eqb}
+use mathlib.Core.List.{List, [], _∷_, _++_}
+use lib.ListN.{length, getD, drop}
+use lib.Dec.{leb, ltb, eqb}
 use Rattle.resolution.specs.Names.{Parts, below}
 
 -- lo ≤ x ≤ hi
@@ -68,6 +68,34 @@ someBelow (some r) = true
 -- the path that p says is the path that w says, or an ancestor of it
 unfoldable pub covers : List ℕ → List ℕ → Bool
 covers p w = someBelow (below (fields 58 p) (fields 58 w))
+
+-- parts as a text, each after a colon
+unfoldable pub afterColons : Parts → List ℕ
+afterColons [] = []
+afterColons (x ∷ p) = 58 ∷ (x ++ afterColons p)
+
+-- a path as a text: its parts, with colons between
+unfoldable pub textOf : Parts → List ℕ
+textOf [] = []
+textOf (x ∷ p) = x ++ afterColons p
+
+-- how many bytes two texts have in common at their beginnings
+unfoldable pub common : List ℕ → List ℕ → ℕ
+common [] w = 0
+common (x ∷ p) [] = 0
+common (x ∷ p) (y ∷ w) = cond (eqb x y) (suc (common p w)) 0
+
+-- how many bytes p and w have in common, where another text has k in common with w and l with p
+unfoldable pub commonNext : List ℕ → List ℕ → ℕ → ℕ → ℕ
+commonNext p w k l = cond (eqb k l) (k + common (drop k p) (drop k w)) (min k l)
+
+-- how many bytes of p are compared with w, from the first: those that w has at the same places, and the first that it lacks there
+unfoldable pub comparedBytes : List ℕ → List ℕ → ℕ
+comparedBytes p w = min (length p) (common p w + 1)
+
+-- a part of the text ends before the byte at n: with the text, or at a colon
+unfoldable pub endsAt : List ℕ → ℕ → Bool
+endsAt w n = cond (ltb n (length w)) (eqb (getD w n 0) 58) true
 
 -- n bytes from i on as one number, the first lowest
 abbrev pub wordOf : List ℕ → ℕ → ℕ → ℕ

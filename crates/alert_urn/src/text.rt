@@ -1,8 +1,8 @@
 ghost use mathlib.Core.Path.{_≡_};
-ghost use Prim.Native.Nat.{_≤_, _<_, _+_};
+ghost use Prim.Native.Nat.{_≤_, _<_, _+_, min};
 ghost use lib.ListN.{length, take, drop, getD};
 ghost use Rattle.resolution.specs.Names.{sameName};
-ghost use Rattle.alert_urn.specs.Text.{within, labelByte, labelRun, labelOk, upTo, past, nameOk, nameLength, covers, wordOf};
+ghost use Rattle.alert_urn.specs.Text.{within, labelByte, labelRun, labelOk, upTo, nameOk, nameLength, common, commonNext, endsAt, wordOf};
 
 // lo ≤ x ≤ hi
 pub(crate) fn in_range(x: u8, lo: u8, hi: u8) -> bool
@@ -215,43 +215,67 @@ pub fn same(a: &[u8], b: &[u8]) -> bool
     false
 }
 
-// The text p is w or stands at its beginning, before a colon.
-pub fn covers(p: &[u8], w: &[u8]) -> bool
-    ensures { λ r. ⌜ r ≡ covers (now (p .entry)) (now (w .entry)) ⌝ }
+// The lesser of two numbers.
+fn lesser(a: usize, b: usize) -> usize
+    ensures { λ r. ⌜ r ≡ min a b ⌝ }
 {
-    let n = p.len();
-    let m = w.len();
-    if n == m {
-        return same(p, w);
+    if a <= b {
+        return a;
     }
-    if m < n {
-        return false;
-    }
-    if w[n] == 58 {
-        let a = 0;
-        return same(p, &w[a..n]);
-    }
-    false
+    b
 }
 
-// The bytes before the first colon.
-pub fn before_colon(s: &[u8]) -> &[u8]
-    ensures { λ r. ⌜ now r ≡ upTo 58 (now (s .entry)) ⌝ }
+// From a byte on, up to which two texts agree: the first at which they do not, or that one of them lacks. One by one.
+fn common_bytes(p: &[u8], w: &[u8], from: usize) -> usize
+    ensures { λ r. ⌜ r ≡ from + common (drop from (now (p .entry))) (drop from (now (w .entry))) ⌝ }
 {
-    let a = 0;
-    let end = find(s, 58);
-    &s[a..end]
+    let n = lesser(p.len(), w.len());
+    let mut i = from;
+    while i < n {
+        if p[i] == w[i] {
+            i += 1;
+        } else {
+            return i;
+        }
+    }
+    i
 }
 
-// The bytes after the first colon.
-pub fn after_colon(s: &[u8]) -> &[u8]
-    ensures { λ r. ⌜ now r ≡ past 58 (now (s .entry)) ⌝ }
+// The same, eight bytes at once.
+pub fn common_from(p: &[u8], w: &[u8], from: usize) -> usize
+    ensures { λ r. ⌜ r ≡ from + common (drop from (now (p .entry))) (drop from (now (w .entry))) ⌝ }
 {
-    let n = s.len();
-    let k = find(s, 58);
-    if k < n {
-        let a = k + 1;
-        return &s[a..n];
+    let n = lesser(p.len(), w.len());
+    let mut i = from;
+    while i < n {
+        if n - i < 8 {
+            return common_bytes(p, w, i);
+        }
+        if word_at(p, i) == word_at(w, i) {
+            i += 8;
+        } else {
+            return common_bytes(p, w, i);
+        }
     }
-    &s[n..n]
+    i
+}
+
+// How many bytes p and w have in common, where another text has k in common with w and l with p.
+pub fn common_next(p: &[u8], w: &[u8], k: usize, l: usize) -> usize
+    ensures { λ r. ⌜ r ≡ commonNext (now (p .entry)) (now (w .entry)) k l ⌝ }
+{
+    if k == l {
+        return common_from(p, w, k);
+    }
+    lesser(k, l)
+}
+
+// A part of the text ends before the byte at n: with the text, or at a colon.
+pub fn ends_at(w: &[u8], n: usize) -> bool
+    ensures { λ r. ⌜ r ≡ endsAt (now (w .entry)) n ⌝ }
+{
+    if n < w.len() {
+        return w[n] == 58;
+    }
+    true
 }

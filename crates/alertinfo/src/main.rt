@@ -12,6 +12,7 @@ fn usage(to: i32) {
     io::write_all(to, b"       alertinfo build TABLE MACHINE\n");
     io::write_all(to, b"       alertinfo check TABLE MACHINE\n");
     io::write_all(to, b"       alertinfo resolve TABLE VALUE [MACHINE]\n");
+    io::write_all(to, b"       alertinfo match TABLE URI\n");
     io::write_all(to, b"       alertinfo feed TABLE VALUE [VALUE ..]\n");
     io::write_all(
         to,
@@ -135,6 +136,37 @@ fn resolve(by_machine: bool) {
     }
 }
 
+fn found(m: signal_table::Match) {
+    if m.refusal != 0 {
+        words::refused(m.refusal);
+        return;
+    }
+    if m.used == 0 {
+        io::write_all(STDOUT_FILENO, b"skipped\n");
+        return;
+    }
+    io::write_all(STDOUT_FILENO, b"category ");
+    words::count(m.category as u64, b", node ");
+    if m.whole == 1 {
+        words::count(m.node as u64, b", whole, ");
+    } else {
+        words::count(m.node as u64, b", not whole, ");
+    }
+    words::counted(m.compared as u64, b" byte compared\n", b" bytes compared\n");
+}
+
+fn match_uri() {
+    let mut table = io::large_buffer();
+    let t = files::file(2, &mut table);
+    if !t.ok {
+        return;
+    }
+    let n = t.n;
+    let mut uri = io::large_buffer();
+    let k = os::arg(3, &mut uri);
+    found(signal_table::match_urn(&table[..n], &uri[..k]));
+}
+
 // The values of one message: the signal at the end and the counts of all, or the last refusal if no value is accepted.
 fn feed(arguments: usize) {
     let mut table = io::large_buffer();
@@ -182,6 +214,12 @@ fn main() {
         }
         if n == 5 {
             resolve(true);
+            return;
+        }
+    }
+    if files::is(1, b"match") {
+        if n == 4 {
+            match_uri();
             return;
         }
     }

@@ -6,11 +6,13 @@
 //   build T ROOM     refusal number, length, image; the bytes after it are told only if one is not 0
 //   check T M        refusal number
 //   walk T M V       refusal number, signal, used, skipped of the machine resolver
+//   match T URI      refusal number, category (-1 if the URI is skipped), node, whole, bytes compared
 use crate::print;
 use alert_info::Cursor;
 use alert_info::Found;
 use alert_info::Span;
 use resolver::Resolution;
+use signal_table::Match;
 
 fn span(p: Span) {
     print::next(p.start);
@@ -62,6 +64,26 @@ pub fn table(line: &[u8]) {
     let mut t = [0u8; 16384];
     let n = cases::decode(cases::word(line, 1), &mut t);
     print::number(signal_table::refusal(&t[..n]) as usize);
+}
+
+fn matched(m: Match) {
+    print::number(m.refusal as usize);
+    if m.used == 0 {
+        print::text(b" -1");
+    } else {
+        print::next(m.category as usize);
+    }
+    print::next(m.node as usize);
+    print::next(m.whole as usize);
+    print::next(m.compared as usize);
+}
+
+pub fn match_urn(line: &[u8]) {
+    let mut t = [0u8; 16384];
+    let n = cases::decode(cases::word(line, 1), &mut t);
+    let mut uri = [0u8; 8192];
+    let k = cases::decode(cases::word(line, 2), &mut uri);
+    matched(signal_table::match_urn(&t[..n], &uri[..k]));
 }
 
 pub fn resolution(r: Resolution) {

@@ -15,6 +15,7 @@ fn answer(line: &[u8]) {
         b'b' => commands::build(line),
         b'c' => commands::check(line),
         b'w' => commands::walk(line),
+        b'm' => commands::match_urn(line),
         b'f' => fields::feed(line),
         _ => return,
     }
@@ -52,6 +53,7 @@ fn main() {
     answer_file(b"check.txt");
     answer_file(b"plain.txt");
     answer_file(b"walk.txt");
+    answer_file(b"match.txt");
     answer_file(b"draft.txt");
     answer_file(b"folded.txt");
     answer_file(b"fields.txt");

@@ -1,13 +1,15 @@
 -- What lent arrays must hold to stand for a table: the categories' names, the nodes, and the places of the signals as node numbers.
 -- Node k of the table stands at k - 1 in each array of nodes; 0 is the root.
-use Prim.Native.Nat.{ℕ, suc, _+_, _*_, _≤_, _<_}
+use Prim.Native.Nat.{ℕ, zero, suc, _+_, _*_, _≤_, _<_}
 use mathlib.Core.Path.{_≡_}
+use mathlib.Core.Bool.{Bool, true, false, cond, not, _&&_}
 use mathlib.Core.List.{List, [], _∷_, _++_}
+use lib.Dec.{eqb}
 use lib.ListN.{getD, length, take, drop}
 use Rattle.resolution.specs.Names.{Name, Parts}
 use Rattle.resolution.specs.Table.{Urn, Table, Row, rowOf}
-use Rattle.resolution.specs.Nodes.{nodes, number, nodeAt}
-use Rattle.alert_urn.specs.Text.{fields}
+use Rattle.resolution.specs.Nodes.{nodes, number, nodeAt, hasUnder}
+use Rattle.alert_urn.specs.Text.{fields, common}
 
 -- the bytes of t at the i-th of the places in `at`, as many as `len` says
 abbrev pub stretch : List ℕ → List ℕ → List ℕ → ℕ → List ℕ
@@ -25,6 +27,24 @@ pub record NodesIn (t category at len : List ℕ) (n : ℕ) (T : Table) : Type 0
   pub few-nodes : n ≤ 64
   pub cat-at : (i : ℕ) → i < n → getD category i 0 ≡ nodeAt (nodes T) i .cat
   pub path-at : (i : ℕ) → i < n → fields 58 (stretch t at len i) ≡ nodeAt (nodes T) i .path
+
+-- the path of the last of the first i nodes that is of category c, as bytes; none if there is no such node
+unfoldable pub lastPath : List ℕ → List ℕ → List ℕ → List ℕ → ℕ → ℕ → List ℕ
+lastPath t category at len c zero = []
+lastPath t category at len c (suc i) = cond (eqb (getD category i 0) c) (stretch t at len i) (lastPath t category at len c i)
+
+-- how many bytes the path of each node has in common with the one before it in its category
+abbrev pub SharedIn : List ℕ → List ℕ → List ℕ → List ℕ → List ℕ → ℕ → Type 0
+SharedIn t category at len shared n = (i : ℕ) → i < n → getD shared i 0 ≡ common (lastPath t category at len (getD category i 0) i) (stretch t at len i)
+
+-- none of the first n nodes has the parent d
+unfoldable pub childless : List ℕ → ℕ → ℕ → Bool
+childless ps d zero = true
+childless ps d (suc n) = childless ps d n && not (eqb (getD ps n 0) d)
+
+-- which nodes have nodes under them; the others are the leaves
+abbrev pub InnerIn : List Bool → Table → Type 0
+InnerIn inner T = (i : ℕ) → i < length (nodes T) → getD inner i false ≡ hasUnder (nodes T) (nodeAt (nodes T) i .cat) (nodeAt (nodes T) i .path)
 
 -- digits to the base 256, the first lowest
 abbrev pub pack : List ℕ → ℕ

@@ -1,3 +1,4 @@
+pub mod marks;
 pub mod uses;
 
 ghost use mathlib.Core.Path.{_≡_};

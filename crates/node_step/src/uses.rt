@@ -1,17 +1,37 @@
 ghost use mathlib.Core.Path.{_≡_};
-ghost use Prim.Native.Nat.{_≤_, _<_};
+ghost use mathlib.Core.Bool.{cond, _&&_};
+ghost use Prim.Native.Nat.{_+_, _*_, _≤_, _<_, min};
+ghost use lib.Dec.{leb};
+ghost use lib.ListN.{length};
+ghost use Rattle.alert_urn.specs.Text.{endsAt};
 ghost use Rattle.node_step.specs.Arrays.{stretch};
-ghost use Rattle.node_step.specs.Uses.{findName, nodeCovers, lastNode, wholeAt, fewer, usesOf};
+ghost use Rattle.node_step.specs.Uses.{findName, nothing, metWith, lookBy, searchFrom, fewer, usesOf};
 
-// What a URI is to the table: skipped, or used, with the deepest node or root above it, and whether it is that node.
+// What a URI is to the table: skipped, or used, with the deepest node or root above it, whether it is that node, and the
+// bytes compared to find it.
 pub enum Use {
     Skipped,
-    Used { category: u8, node: u8, whole: bool },
+    Used {
+        category: u8,
+        node: u8,
+        whole: bool,
+        compared: u32,
+    },
+}
+
+// A search for a path: the deepest node met that is the path or above it, whether it is the path, and the bytes compared;
+// how many bytes the last node met has in common with the path; and whether the search ends there, at a leaf.
+struct Search {
+    ends: bool,
+    node: u8,
+    whole: bool,
+    same: usize,
+    compared: u32,
 }
 
 // A number as an index.
-fn wide8(x: u8) -> usize
-    ensures { λ r. ⌜ r ≡ x ⌝ }
+pub(crate) fn wide8(x: u8) -> usize
+    ensures { λ r. ⌜ (r ≡ x) × (r ≤ 255) ⌝ }
 {
     x as usize
 }
@@ -46,72 +66,147 @@ fn find_name<'a>(
 }
 
 // The path of the node at i, in the table's bytes.
-fn path_at<'a, 'b>(t: &'a [u8], at: &'b [u16; 64], len: &'b [u8; 64], i: usize) -> &'a [u8]
+pub(crate) fn path_at<'a, 'b>(
+    t: &'a [u8],
+    at: &'b [u16; 64],
+    len: &'b [u8; 64],
+    i: usize,
+) -> &'a [u8]
     requires { ⌜ i < 64 ⌝ }
     ensures { λ r. ⌜ now r ≡ stretch (now (t .entry)) (now (at .entry)) (now (len .entry)) i ⌝ }
+    ensures short { λ r. ⌜ length (now r) ≤ 255 ⌝ }
 {
     let from = wide16(at[i]);
     let size = wide8(len[i]);
     alert_urn::text::part(t, from, size)
 }
 
-// The node at i is of category c, and is w or above it.
-fn node_covers<'a>(
-    t: &[u8],
-    category: &'a [u8; 64],
-    at: &'a [u16; 64],
-    len: &'a [u8; 64],
-    c: u8,
-    w: &[u8],
-    i: usize,
-) -> bool
-    requires { ⌜ i < 64 ⌝ }
-    ensures { λ r. ⌜ r ≡ nodeCovers (now (t .entry)) (now (category .entry)) (now (at .entry)) (now (len .entry)) c (now (w .entry)) i ⌝ }
+// A path of so many bytes, n of them in common with w, is w or above it.
+fn covers_by(all: usize, w: &[u8], n: usize) -> bool
+    ensures { λ r. ⌜ r ≡ (leb all n && endsAt (now (w .entry)) all) ⌝ }
 {
-    if category[i] == c {
-        let p = path_at(t, at, len, i);
-        return alert_urn::text::covers(p, w);
+    if n < all {
+        return false;
     }
-    false
+    alert_urn::text::ends_at(w, all)
 }
 
-// The number of the last of the n nodes of category c that is w or above it, or 0.
-fn last_node<'a>(
+// How many bytes are compared of a path of so many bytes, n of them in common with another.
+fn looked(all: usize, n: usize) -> u32
+    requires { ⌜ all ≤ 255 ⌝ }
+    ensures { λ r. ⌜ (r ≡ min all (n + 1)) × (r ≤ 255) ⌝ }
+{
+    if all <= n {
+        return all as u32;
+    }
+    n as u32 + 1
+}
+
+// x if so, else y.
+fn pick(b: bool, x: u8, y: u8) -> u8
+    ensures { λ r. ⌜ r ≡ cond b x y ⌝ }
+{
+    if b {
+        return x;
+    }
+    y
+}
+
+fn pick_bool(b: bool, x: bool, y: bool) -> bool
+    ensures { λ r. ⌜ r ≡ cond b x y ⌝ }
+{
+    if b {
+        return x;
+    }
+    y
+}
+
+// The search for w at node k with the path p, which has n bytes in common with w, and has nodes under it or none.
+fn met(p: &[u8], w: &[u8], inner: bool, k: u8, n: usize, s: Search) -> Search
+    requires { ⌜ (length (now p) ≤ 255) × (s .compared ≤ 65535) ⌝ }
+    ensures { λ r. ⌜ r ≡ metWith (now (p .entry)) (now (w .entry)) inner k n s ⌝ }
+    ensures { λ r. ⌜ r .compared ≤ s .compared + 255 ⌝ }
+{
+    let all = p.len();
+    let above = covers_by(all, w, n);
+    let whole = all == w.len();
+    let leaf = !inner;
+    Search {
+        ends: pick_bool(above, leaf, false),
+        node: pick(above, k, s.node),
+        whole: pick_bool(above, whole, s.whole),
+        same: n,
+        compared: s.compared + looked(all, n),
+    }
+}
+
+// The search for w at the node at i, whose path shares l bytes with the one before it.
+fn look<'a>(
+    t: &[u8],
+    at: &'a [u16; 64],
+    len: &'a [u8; 64],
+    inner: &'a [bool; 64],
+    w: &[u8],
+    i: usize,
+    l: usize,
+    s: Search,
+) -> Search
+    requires { ⌜ (i < 64) × (l ≤ 255) × (s .compared ≤ 255 * i) ⌝ }
+    ensures { λ r. ⌜ r ≡ lookBy (now (t .entry)) (now (at .entry)) (now (len .entry)) (now (inner .entry)) (now (w .entry)) i l s ⌝ }
+    ensures { λ r. ⌜ r .compared ≤ 255 * (i + 1) ⌝ }
+{
+    if s.same < l {
+        let more = s.same as u32 + 1;
+        return Search {
+            ends: false,
+            node: s.node,
+            whole: s.whole,
+            same: s.same,
+            compared: s.compared + more,
+        };
+    }
+    let p = path_at(t, at, len, i);
+    let n = alert_urn::text::common_next(p, w, s.same, l);
+    let k = i as u8 + 1;
+    met(p, w, inner[i], k, n, s)
+}
+
+// The search for w in category c, over the n nodes in their order.
+fn search_nodes<'a>(
     t: &[u8],
     category: &'a [u8; 64],
     at: &'a [u16; 64],
     len: &'a [u8; 64],
+    shared: &'a [u8; 64],
+    inner: &'a [bool; 64],
     c: u8,
     w: &[u8],
     n: usize,
-) -> u8
+) -> Search
     requires { ⌜ n ≤ 64 ⌝ }
     ensures { λ r. ⌜
-        (r ≡ lastNode (now (t .entry)) (now (category .entry)) (now (at .entry)) (now (len .entry)) c (now (w .entry)) n) × (r ≤ 64)
+        r ≡ searchFrom (now (t .entry)) (now (category .entry)) (now (at .entry)) (now (len .entry)) (now (shared .entry)) (now (inner .entry))
+        c (now (w .entry)) 0 n nothing
         ⌝ }
 {
-    let mut i = n;
-    while 0 < i {
-        let k = i - 1;
-        if node_covers(t, category, at, len, c, w, k) {
-            return i as u8;
+    let mut s = Search {
+        ends: false,
+        node: 0,
+        whole: false,
+        same: 0,
+        compared: 0,
+    };
+    let mut i = 0;
+    while i < n {
+        if category[i] == c {
+            s = look(t, at, len, inner, w, i, wide8(shared[i]), s);
+            if s.ends {
+                return s;
+            }
         }
-        i = k;
+        i += 1;
     }
-    0
-}
-
-// The node with number k is w.
-fn whole_node<'a>(t: &[u8], at: &'a [u16; 64], len: &'a [u8; 64], w: &[u8], k: u8) -> bool
-    requires { ⌜ k ≤ 64 ⌝ }
-    ensures { λ r. ⌜ r ≡ wholeAt (now (t .entry)) (now (at .entry)) (now (len .entry)) (now (w .entry)) k ⌝ }
-{
-    if k == 0 {
-        return false;
-    }
-    let i = k as usize - 1;
-    let p = path_at(t, at, len, i);
-    alert_urn::text::same(p, w)
+    s
 }
 
 // n, or m if that is less.
@@ -133,28 +228,33 @@ pub fn uses<'a>(
     category: &'a [u8; 64],
     at: &'a [u16; 64],
     len: &'a [u8; 64],
+    shared: &'a [u8; 64],
+    inner: &'a [bool; 64],
     nodes: usize,
     uri: &[u8],
 ) -> Use
     ensures { λ r. ⌜
         r ≡ usesOf (now (t .entry)) (now («name_at» .entry)) (now («name_len» .entry)) categories
-        (now (category .entry)) (now (at .entry)) (now (len .entry)) nodes (now (uri .entry))
+        (now (category .entry)) (now (at .entry)) (now (len .entry)) (now (shared .entry)) (now (inner .entry)) nodes (now (uri .entry))
         ⌝ }
 {
     if alert_urn::urn::is_alert_urn(uri) {
         let n = uri.len();
         let s = alert_urn::text::part(uri, 10, n);
-        let name = alert_urn::text::before_colon(s);
+        let colon = alert_urn::text::find(s, 58);
+        let name = alert_urn::text::part(s, 0, colon);
         let c = find_name(t, name_at, name_len, name, at_most(categories, 8));
         if c < 8 {
             let found = c as u8;
-            let w = alert_urn::text::after_colon(s);
-            let k = last_node(t, category, at, len, found, w, at_most(nodes, 64));
-            let whole = whole_node(t, at, len, w, k);
+            let path = colon + 1;
+            let w = alert_urn::text::part(s, path, n);
+            let most = at_most(nodes, 64);
+            let e = search_nodes(t, category, at, len, shared, inner, found, w, most);
             return Use::Used {
                 category: found,
-                node: k,
-                whole,
+                node: e.node,
+                whole: e.whole,
+                compared: e.compared,
             };
         }
     }

@@ -73,7 +73,7 @@ module _ (t : List ℕ) (T : Table) (d : Decoded) (h : Holds t T d) (m : Machine
     run-fold [] s a b v = let p : a ≡ a + 0 = omega arith in let q : b ≡ b + 0 = omega arith in ap₂ (at s) p q
     run-fold (uri ∷ uris) s a b v =
         ap (λ u. foldl (after t d m) (afterUse (d .rows) (d .parent) (d .signals) (d .nodes) m (at s a b) u) uris)
-        (uses-right t T (d .«name_at») (d .«name_len») (d .categories) (categoryNames t) (d .category) (d .at) (d .len) (d .nodes) (h .names) (h .nodes) uri)
+        (uses-right t T (d .«name_at») (d .«name_len») (d .categories) (categoryNames t) (d .category) (d .at) (d .len) (d .nodes) (h .names) (h .nodes) (d .shared) (h .shared) (d .inner) (h .inner) uri)
         ∙ go (usedUrn (categoryNames t) uri) refl (run-fold uris)
       where
         go : (o : Option Urn) → usedUrn (categoryNames t) uri ≡ o

@@ -36,7 +36,7 @@ module _ (rows parent : List ℕ) (signals nodes : ℕ) (m : Machine) (p : Progr
   pub after-skipped : u ≡ Skipped → record { current = p .current; used = p .used; skipped = p .skipped + 1 } ≡ afterUse rows parent signals nodes m p u
   after-skipped s = rw s
 
-  pub after-used : {c k : ℕ} {w : Bool} {r : Current} → u ≡ Used c k w → r ≡ moved rows parent signals nodes m (p .current) c k w
+  pub after-used : {c k n : ℕ} {w : Bool} {r : Current} → u ≡ Used c k w n → r ≡ moved rows parent signals nodes m (p .current) c k w
       → record { current = r; used = p .used + 1; skipped = p .skipped } ≡ afterUse rows parent signals nodes m p u
   after-used s q = rw s (ap (λ (x : Current). record { current = x; used = p .used + 1; skipped = p .skipped }) q)
 
@@ -57,7 +57,7 @@ after-counted t d m p uri e = ap (λ (x : Progress). x .used + x .skipped) e ∙
 
     counted : (u : Use) → by u .used + by u .skipped ≡ p .used + p .skipped + 1
     counted Skipped = omega arith
-    counted (Used c k w) = omega arith
+    counted (Used c k w n) = omega arith
 
 -- what the reader's cursor finds at a place, as the run takes it
 module _ (v : List ℕ) (at : ℕ) (f : Found) (is : f ≡ entryAt v at) where

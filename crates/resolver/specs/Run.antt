@@ -25,7 +25,7 @@ use Rattle.signal_table.specs.Listed.{symbolNumber}
 
 -- what a URI is to the decoded table
 abbrev pub useIn : List ℕ → Decoded → List ℕ → Use
-useIn t d uri = usesOf t (d .«name_at») (d .«name_len») (d .categories) (d .category) (d .at) (d .len) (d .nodes) uri
+useIn t d uri = usesOf t (d .«name_at») (d .«name_len») (d .categories) (d .category) (d .at) (d .len) (d .shared) (d .inner) (d .nodes) uri
 
 -- what a resolver goes by besides the decoded table: the stored symbols, their index and number, and an image
 pub record Machine : Type 0 where
@@ -42,7 +42,7 @@ moved rows parent signals nodes m (Walk j) c k w = Walk (targetIn (m .image) j (
 -- one URI more
 abbrev pub afterUse : List ℕ → List ℕ → ℕ → ℕ → Machine → Progress → Use → Progress
 afterUse rows parent signals nodes m p Skipped = record { current = p .current; used = p .used; skipped = p .skipped + 1 }
-afterUse rows parent signals nodes m p (Used c k w) =
+afterUse rows parent signals nodes m p (Used c k w n) =
     record { current = moved rows parent signals nodes m (p .current) c k w; used = p .used + 1; skipped = p .skipped }
 
 unfoldable pub after : List ℕ → Decoded → Machine → Progress → List ℕ → Progress

@@ -98,6 +98,7 @@ fn taken<'a>(
             category: c,
             node: k,
             whole: w,
+            compared: _,
         } => {
             let next = moved_by(
                 rows,
@@ -190,6 +191,8 @@ pub(crate) fn run(
             &d.category,
             &d.at,
             &d.len,
+            &d.shared,
+            &d.inner,
             d.nodes,
             &v[start..end],
         );

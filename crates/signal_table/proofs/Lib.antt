@@ -13,4 +13,5 @@ pub mod CheckRight
 pub mod NumberRight
 pub mod TableRight
 pub mod FormRight
+pub mod MatchLaws
 pub mod Claims

@@ -20,12 +20,12 @@ use Rattle.resolution.proofs.Lists.{same-test, mem-at}
 use Rattle.resolution.proofs.Numbers.{number-node, number-same, root-number}
 use Rattle.resolution.proofs.Deepest.{deepest-node}
 use Rattle.resolution.proofs.Symbols.{symbol-exact, symbol-known}
-use Rattle.node_step.specs.Arrays.{NodesIn, Numbers}
+use Rattle.node_step.specs.Arrays.{childless, NodesIn, Numbers}
 use Rattle.machine_image.specs.Image.{kindOf}
 use Rattle.node_step.specs.Uses.{fewer}
-use Rattle.signal_table.specs.Listed.{childless, SymbolsIn, isTriple, tripleIndex, kindFor, indexFrom, symbolNumber}
+use Rattle.signal_table.specs.Listed.{SymbolsIn, isTriple, tripleIndex, kindFor, indexFrom, symbolNumber}
 use Rattle.signal_table.proofs.SymbolLaws.{by-index}
-use Rattle.signal_table.proofs.SymbolsRight.{leaf-is}
+use Rattle.node_step.proofs.Leaves.{leaf-is}
 use Rattle.signal_table.proofs.PairsRight.{category-at, node-at, kind-at}
 
 kind-same : (a b : Bool) → kindOf a ≡ kindOf b → a ≡ b

@@ -1,7 +1,7 @@
 -- Laws of listing the symbols, and of finding one's number, at a turn of a loop.
 use Prim.Native.Nat.{ℕ, zero, suc, _+_, _-_, _*_, _/_, _%_, _≤_, _<_, min}
 use mathlib.Core.Path.{_≡_, refl, sym, ap, ap₂, subst, _∙_}
-use mathlib.Core.Bool.{Bool, true, false, cond, not, _&&_, and-false, true≢false, and-eq-true-iff}
+use mathlib.Core.Bool.{Bool, true, false, cond, _&&_, true≢false, and-eq-true-iff}
 use mathlib.Core.List.{List, [], _∷_, _++_, append-assoc, append-nil}
 use lib.Dec.{eqb, ltb}
 use borrow.Author.Tests.{eqb-true, eq-eqb, ne-eqb, ltb-true, lt-ltb, le-ltb}
@@ -11,21 +11,13 @@ use native.Mathlib.Omega.{arith}
 use native.Mathlib.Nat.{sub-zero}
 use native.Mathlib.Numerals.{add-one}
 use native.Mathlib.Decide.{decLt, ℕ-discrete}
+use Rattle.node_step.specs.Arrays.{childless}
 use Rattle.node_step.specs.Uses.{fewer}
 use Rattle.node_step.proofs.UseLaws.{fewer-le, fewer-gt}
 use Rattle.signal_table.specs.declared.symbols.Symbols.{Symbols}
-use Rattle.signal_table.specs.Listed.{childless, triple, nodeTriples, nodesTriples, categoryTriples, tripleLists, symbolsOf, Listed, isTriple, tripleIndex, kindFor, slot, slotAt, indexFrom, entryAt, numberFrom, symbolNumber}
+use Rattle.signal_table.specs.Listed.{triple, nodeTriples, nodesTriples, categoryTriples, tripleLists, symbolsOf, Listed, isTriple, tripleIndex, kindFor, slot, slotAt, indexFrom, entryAt, numberFrom, symbolNumber}
 
--- a node with a child
-pub child-found : (ps : List ℕ) (d n i : ℕ) → i < n → getD ps i 0 ≡ d → false ≡ childless ps d n
-unfolding childless
-child-found ps d zero i h e = absurd (omega arith)
-child-found ps d (suc n) i h e = by (ℕ-discrete i n) (λ j. child-found ps d n i j e)
-  where
-    by : Dec (i ≡ n) → (i < n → false ≡ childless ps d n) → false ≡ (childless ps d n && not (eqb (getD ps n 0) d))
-    by (yes j) ih = sym (rw (← j, eq-eqb (getD ps i 0) d e) (and-false (childless ps d i)))
-    by (no j) ih = let z : childless ps d n ≡ false = sym (ih (omega arith)) in sym (rw z)
-
+-- a node without children
 pub child-more : (ps : List ℕ) (d i : ℕ) → childless ps d i ≡ true → (getD ps i 0 ≡ d → ⊥) → childless ps d (i + 1) ≡ true
 unfolding childless
 child-more ps d i v e = rw (add-one, v, ne-eqb (getD ps i 0) d e)

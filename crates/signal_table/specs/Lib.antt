@@ -3,3 +3,4 @@ pub mod Listed
 pub mod States
 pub mod Checks
 pub mod Claims
+pub mod Matching

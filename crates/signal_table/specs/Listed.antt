@@ -1,20 +1,16 @@
 -- The symbols as the code lists them, from the nodes' categories and parents (node k at k - 1), three bytes for each.
 use Prim.Native.Nat.{ℕ, zero, suc, _+_, _-_, _*_, _/_, _≤_, min}
 use mathlib.Core.Path.{_≡_}
-use mathlib.Core.Bool.{Bool, true, cond, not, _&&_}
+use mathlib.Core.Bool.{Bool, cond, _&&_}
 use mathlib.Core.List.{List, [], _∷_, _++_}
 use lib.Dec.{eqb, ltb}
 use lib.ListN.{length, getD, set, take, drop, replicate}
 use Rattle.resolution.specs.Table.{Table}
 use Rattle.resolution.specs.Symbols.{symbols}
+use Rattle.node_step.specs.Arrays.{childless}
 use Rattle.node_step.specs.Uses.{fewer}
 use Rattle.machine_image.specs.Image.{storedSymbols}
 use Rattle.signal_table.specs.declared.symbols.Symbols.{Symbols}
-
--- none of the first n nodes has the parent d
-unfoldable pub childless : List ℕ → ℕ → ℕ → Bool
-childless ps d zero = true
-childless ps d (suc n) = childless ps d n && not (eqb (getD ps n 0) d)
 
 abbrev pub triple : ℕ → ℕ → ℕ → List ℕ
 triple c k kind = c ∷ k ∷ kind ∷ []

@@ -1,9 +1,11 @@
 // The same for C: a table, an image and a buffer are each a pointer and a length.
+use crate::matching::Match;
 use crate::write::Built;
 ghost use mathlib.Core.Path.{_≡_};
 ghost use lib.ListN.{length};
 ghost use Rattle.stored_table.specs.Tables.{tableRefusal};
 ghost use Rattle.signal_table.specs.Built.{builtFrom, bufferFrom, checkFrom};
+ghost use Rattle.signal_table.specs.Matching.{matchOf};
 
 // uint8_t signal_table_refusal(const uint8_t *table, size_t len);
 #[no_mangle]
@@ -29,4 +31,13 @@ pub extern "C" fn machine_check(table: &[u8], image: &[u8]) -> u8
     ensures { λ r. ⌜ r ≡ checkFrom (now (table .entry)) (now (image .entry)) ⌝ }
 {
     crate::check(table, image)
+}
+
+// typedef struct { uint8_t refusal, used, category, node, whole; uint32_t compared; } alert_match;
+// alert_match signal_table_match(const uint8_t *table, size_t len, const uint8_t *uri, size_t uri_len);
+#[no_mangle]
+pub extern "C" fn signal_table_match(table: &[u8], uri: &[u8]) -> Match
+    ensures { λ r. ⌜ r ≡ matchOf (now (table .entry)) (now (uri .entry)) ⌝ }
+{
+    crate::match_urn(table, uri)
 }

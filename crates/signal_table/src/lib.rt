@@ -1,15 +1,18 @@
-// Signal tables and their machines: the builder and the checker.
+// Signal tables and their machines: the builder and the checker, and the search for a URN's deepest node.
 pub mod c;
 pub mod image;
+mod matching;
 mod states;
 pub mod symbols;
 mod write;
 
+pub use crate::matching::Match;
 pub use crate::write::Built;
 ghost use mathlib.Core.Path.{_≡_};
 ghost use lib.ListN.{length};
 ghost use Rattle.stored_table.specs.Tables.{tableRefusal};
 ghost use Rattle.signal_table.specs.Built.{builtFrom, bufferFrom, checkFrom};
+ghost use Rattle.signal_table.specs.Matching.{matchOf};
 
 // 0 if the table is well-formed, else the number that refuses it.
 pub fn refusal(t: &[u8]) -> u8
@@ -51,4 +54,30 @@ pub fn check(t: &[u8], image: &[u8]) -> u8
         s.count,
         image,
     )
+}
+
+// What a URI is to the table: its category, the deepest node that it is or lies under, whether it is that node, and the bytes
+// compared to find it.
+pub fn match_urn(t: &[u8], uri: &[u8]) -> Match
+    ensures { λ r. ⌜ r ≡ matchOf (now (t .entry)) (now (uri .entry)) ⌝ }
+{
+    let d = stored_table::decode(t);
+    let refused = d.refusal;
+    if refused != 0 {
+        return matching::refused(refused);
+    }
+    let u = node_step::uses::uses(
+        t,
+        &d.name_at,
+        &d.name_len,
+        d.categories,
+        &d.category,
+        &d.at,
+        &d.len,
+        &d.shared,
+        &d.inner,
+        d.nodes,
+        uri,
+    );
+    matching::answer(u)
 }

@@ -3,8 +3,9 @@ ghost use mathlib.Core.Path.{_≡_};
 ghost use mathlib.Core.List.{List, [], _∷_, _++_};
 ghost use Prim.Native.Nat.{ℕ, _+_, _*_, _≤_, _<_};
 ghost use lib.ListN.{replicate};
+ghost use Rattle.node_step.specs.Arrays.{childless};
 ghost use Rattle.node_step.specs.Uses.{fewer};
-ghost use Rattle.signal_table.specs.Listed.{childless, nodeTriples, categoryTriples, tripleLists, symbolsOf, Listed, isTriple, tripleIndex, kindFor, slot, slotAt, indexFrom, entryAt, numberFrom, symbolNumber};
+ghost use Rattle.signal_table.specs.Listed.{nodeTriples, categoryTriples, tripleLists, symbolsOf, Listed, isTriple, tripleIndex, kindFor, slot, slotAt, indexFrom, entryAt, numberFrom, symbolNumber};
 
 // How many symbols there are, and three bytes for each.
 pub struct Symbols {

@@ -1,8 +1,8 @@
 -- From the nodes and the places to the answer: 9 to 12, and what the arrays of an accepted table hold.
-use Prim.Native.Nat.{ℕ, suc, _≤_, _<_}
+use Prim.Native.Nat.{ℕ, suc, _+_, _≤_, _<_}
 use mathlib.Core.Path.{_≡_, refl, ap, ap₂, sym, _∙_, subst}
 use mathlib.Core.Logic.{inl, inr, _≢_}
-use mathlib.Core.Bool.{Bool, true, false, cond}
+use mathlib.Core.Bool.{Bool, true, false, cond, not}
 use mathlib.Core.List.{List, [], _∷_, _++_, map, foldl}
 use native.Mathlib.Omega.{arith}
 use borrow.Author.Tests.{lt-leb}
@@ -14,7 +14,11 @@ use Rattle.resolution.specs.Table.{Urn, urn, Table}
 use Rattle.resolution.specs.Nodes.{nodes, number, nodeAt, addUrn}
 use Rattle.resolution.proofs.Lists.{tabulate-length, tabulate-at}
 use Rattle.resolution.proofs.Numbers.{number-at, root-number}
-use Rattle.node_step.specs.Arrays.{stretch, NamesIn, NodesIn, Numbers}
+use Rattle.node_step.specs.Arrays.{stretch, NamesIn, NodesIn, SharedIn, childless, Numbers}
+use Rattle.node_step.specs.Uses.{fewer}
+use Rattle.node_step.proofs.Leaves.{inner-is}
+use Rattle.node_step.proofs.MarkLaws.{shared-of}
+use Rattle.node_step.proofs.UseLaws.{fewer-le}
 use Rattle.table_sections.specs.declared.Counts.{Counts}
 use Rattle.table_nodes.specs.Nodes.{nodeUrn, pathUrn, Numbered, Nodes, AllAdded}
 use Rattle.signal_places.specs.Slots.{urnOf, Listing, Numbering, Placed}
@@ -115,9 +119,11 @@ module _ (t nameAt nameLen signal category pathAt pathLen : List ℕ) (l : Count
       placed-refused = S .refusal ∙ sym (P .refusal)
 
       -- the answer to an accepted table
-      pub means-accepted : r ≡ 0
-          → Means t (record { refusal = 0; categories = l .categories; signals = l .signals; nodes = n; «name_at» = nameAt; «name_len» = nameLen; category = cats; parent = parents; at = at; len = len; rows = rows })
-      means-accepted z =
+      pub means-accepted : r ≡ 0 → (shared : List ℕ) → SharedIn t cats at len shared (fewer n 64)
+          → (inner : List Bool) → ((k : ℕ) → k < 64 → getD inner k false ≡ not (childless parents (k + 1) (fewer n 64)))
+          → Means t (record { refusal = 0; categories = l .categories; signals = l .signals; nodes = n; «name_at» = nameAt; «name_len» = nameLen; category = cats; parent = parents; at = at; len = len; shared = shared; inner = inner; rows = rows })
+      means-accepted z shared si inner marked =
+          let few : n ≡ fewer n 64 = fewer-le n 64 h in
           let zero-is : tableRefusal t ≡ 0 = placed-refused ∙ z in
           let acc = accepted t zero-is in
           record {
@@ -127,6 +133,10 @@ module _ (t nameAt nameLen signal category pathAt pathLen : List ℕ) (l : Count
               categories = sym (S .cats);
               names = names-in;
               nodes = nodes-in;
+              shared = shared-of t cats at len shared (sym few) si;
+              inner = λ i k.
+                  marked i (omega (arith, count, h)) ∙ ap (λ m. not (childless parents (i + 1) m)) (sym few)
+                  ∙ sym (inner-is t cats at len n T nodes-in rows parents (l .signals) (numbers-hold z (node-parts T acc)) i (omega (arith, count)));
               numbers = numbers-hold z (node-parts T acc);
               well-formed = acc .well;
             };

@@ -1,10 +1,11 @@
 -- What decoding answers: the arrays stand for the table that the bytes say.
 use Prim.Native.Nat.{ℕ}
 use mathlib.Core.Path.{_≡_}
+use mathlib.Core.Bool.{false}
 use mathlib.Core.List.{List}
 use lib.ListN.{replicate}
 use Rattle.resolution.specs.Table.{Table, WellFormed}
-use Rattle.node_step.specs.Arrays.{NamesIn, NodesIn, Numbers}
+use Rattle.node_step.specs.Arrays.{NamesIn, NodesIn, SharedIn, InnerIn, Numbers}
 use Rattle.table_sections.specs.Held.{Padded}
 use Rattle.stored_table.specs.Tables.{categoryNames, tableOf, tableRefusal}
 use Rattle.stored_table.specs.declared.Decoded.{Decoded}
@@ -23,6 +24,8 @@ refusedTable k =
       parent = replicate 64 0;
       at = replicate 64 0;
       len = replicate 64 0;
+      shared = replicate 64 0;
+      inner = replicate 64 false;
       rows = replicate 32 0;
     }
 
@@ -31,6 +34,8 @@ pub record Holds (t : List ℕ) (T : Table) (r : Decoded) : Type 0 where
   pub categories : r .categories ≡ T .cats
   pub names : NamesIn t (r .«name_at») (r .«name_len») (r .categories) (categoryNames t)
   pub nodes : NodesIn t (r .category) (r .at) (r .len) (r .nodes) T
+  pub shared : SharedIn t (r .category) (r .at) (r .len) (r .shared) (r .nodes)
+  pub inner : InnerIn (r .inner) T
   pub numbers : Numbers (r .rows) (r .parent) (r .signals) T
   pub well-formed : WellFormed T
 

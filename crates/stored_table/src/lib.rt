@@ -9,7 +9,8 @@ ghost use Rattle.stored_table.specs.Tables.{tableRefusal};
 ghost use Rattle.stored_table.specs.Stages.{FormedAs, ListedAs, CrowdedAs};
 ghost use Rattle.stored_table.specs.Decoded.{refusedTable, Means};
 
-// A decoded table: its refusal number, its categories' names, its nodes and the places of its signals. Node k stands at k - 1.
+// A decoded table: its refusal number, its categories' names, its nodes and the places of its signals. Node k stands at k - 1; its path
+// shares some bytes with the one before it in its category, and an inner node has nodes under it.
 pub struct Decoded {
     pub refusal: u8,
     pub categories: usize,
@@ -21,6 +22,8 @@ pub struct Decoded {
     pub parent: [u8; 64],
     pub at: [u16; 64],
     pub len: [u8; 64],
+    pub shared: [u8; 64],
+    pub inner: [bool; 64],
     pub rows: [u64; 32],
 }
 
@@ -39,6 +42,8 @@ fn refused(k: u8) -> Decoded
         parent: [0u8; 64],
         at: [0u16; 64],
         len: [0u8; 64],
+        shared: [0u8; 64],
+        inner: [false; 64],
         rows: [0u64; 32],
     }
 }
@@ -104,6 +109,9 @@ fn placed(
     let mut rows = [0u64; 32];
     let k = signal_places::by_nodes(l.signals, l.urns, signal, category, &node, &mut rows);
     if k == 0 {
+        let m = node_step::marks::of_nodes(t, &cats, &parent, &at, &len, n);
+        let shared = m.shared;
+        let inner = m.inner;
         return Decoded {
             refusal: 0,
             categories: l.categories,
@@ -115,6 +123,8 @@ fn placed(
             parent,
             at,
             len,
+            shared,
+            inner,
             rows,
         };
     }

@@ -5,7 +5,7 @@ mod table;
 mod urn;
 mod value;
 
-use crate::{Built, Reader, Resolution, Resolvers, Tables};
+use crate::{Built, Match, Reader, Resolution, Resolvers, Tables};
 
 pub struct Baseline;
 
@@ -30,6 +30,13 @@ impl Reader for Baseline {
 impl Tables for Baseline {
     fn table_refusal(table: &[u8]) -> u8 {
         table::Decoded::read(table).err().unwrap_or(0)
+    }
+
+    fn matched(table: &[u8], uri: &[u8]) -> Match {
+        match table::Decoded::read(table) {
+            Ok(table) => table.matched(uri),
+            Err(refusal) => Match::refused(refusal),
+        }
     }
 
     fn build(table: &[u8], buffer: &mut [u8]) -> Built {

@@ -1,7 +1,8 @@
 //! A stored table decoded to node numbers, and the step on them.
 use super::urn;
+use crate::Match;
 
-/// A node: its category, its parent (0 for the root), and where its last name stands in the table.
+/// A node: its category, its parent (0 for the root), and where its path and its last name stand in the table.
 #[derive(Clone, Copy)]
 pub struct Node {
     pub category: u8,
@@ -9,9 +10,10 @@ pub struct Node {
     pub leaf: bool,
     name_length: u8,
     name_start: u16,
+    path_start: u16,
 }
 
-const NO_NODE: Node = Node { category: 0, parent: 0, leaf: true, name_length: 0, name_start: 0 };
+const NO_NODE: Node = Node { category: 0, parent: 0, leaf: true, name_length: 0, name_start: 0, path_start: 0 };
 
 pub struct Decoded<'a> {
     bytes: &'a [u8],
@@ -190,6 +192,7 @@ impl<'a> Decoded<'a> {
                 i += 1;
                 let mut node = 0;
                 let mut at = start as usize + category_length as usize + 1;
+                let path_start = at as u16;
                 let end = start as usize + length as usize;
                 while at < end {
                     let (name, _) = urn::split_part(&bytes[at..end]);
@@ -205,6 +208,7 @@ impl<'a> Decoded<'a> {
                                 leaf: true,
                                 name_length: name.len() as u8,
                                 name_start: at as u16,
+                                path_start,
                             };
                             node = self.node_count as u8;
                         }
@@ -251,6 +255,36 @@ impl<'a> Decoded<'a> {
             rest = after;
         }
         Some((category, node, true))
+    }
+
+    fn path(&self, node: &Node) -> &[u8] {
+        &self.bytes[node.path_start as usize..node.name_start as usize + node.name_length as usize]
+    }
+
+    /// The search that counts: the category's nodes by number, up to a leaf that is the URN or above it.
+    pub fn matched(&self, uri: &[u8]) -> Match {
+        let urn = urn::after_prefix(uri).and_then(|urn| urn::form(urn).map(|(length, _)| urn.split_at(length)));
+        let found = urn.and_then(|(name, path)| self.category(name).map(|category| (category, &path[1..])));
+        let mut answer = Match { refusal: 0, used: 0, category: 0, node: 0, whole: 0, compared: 0 };
+        let Some((category, text)) = found else { return answer };
+        answer.used = 1;
+        answer.category = category as u8;
+        for (i, node) in self.nodes[..=self.node_count].iter().enumerate().skip(1) {
+            if node.category as usize != category {
+                continue;
+            }
+            let path = self.path(node);
+            let common = path.iter().zip(text).take_while(|(a, b)| a == b).count();
+            answer.compared += path.len().min(common + 1) as u32;
+            if common == path.len() && text.get(common).is_none_or(|&b| b == b':') {
+                answer.node = i as u8;
+                answer.whole = (common == text.len()) as u8;
+                if node.leaf {
+                    break;
+                }
+            }
+        }
+        answer
     }
 
     fn signal_with(&self, row: u64) -> Option<usize> {

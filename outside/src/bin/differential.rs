@@ -8,7 +8,7 @@ use outside::cases::to_hex;
 use outside::random::tables::{self, Limit};
 use outside::random::{images, values, Random};
 use outside::reference::Reference;
-use outside::{Built, Reader, Resolution, Resolvers, Tables};
+use outside::{Built, Match, Reader, Resolution, Resolvers, Tables};
 use std::collections::BTreeMap;
 use std::fmt::Debug;
 use std::process::exit;
@@ -21,12 +21,13 @@ use outside::ours::Ours;
 const LONGEST: usize = 33_667;
 
 /// Every function with the refusal numbers that it may give.
-const FUNCTIONS: [(&str, &[u8]); 9] = [
+const FUNCTIONS: [(&str, &[u8]); 10] = [
     ("alert_info_refusal", &[0, 1, 2, 3]),
     ("alert_info_entries", &[0, 1, 2, 3]),
     ("alert_info_entry", &[0, 1, 2, 3, 18]),
     ("alert_info_entry_refusal", &[0, 1, 2, 3, 18]),
     ("signal_table_refusal", &[0, 4, 5, 6, 7, 8, 9, 10, 11, 12]),
+    ("signal_table_match", &[0, 4, 5, 6, 7, 8, 9, 10, 11, 12]),
     ("machine_build", &[0, 4, 5, 6, 7, 8, 9, 10, 11, 12, 13, 14]),
     ("machine_check", &[0, 4, 5, 6, 7, 8, 9, 10, 11, 12, 15, 16, 17]),
     ("resolve_plain", &[0, 1, 2, 3, 4, 5, 6, 7, 8, 9, 10, 11, 12]),
@@ -125,6 +126,10 @@ fn table_refusal<I: Tables>(table: &[u8]) -> u8 {
     I::table_refusal(table)
 }
 
+fn matched<I: Tables>(table: &[u8], uri: &[u8]) -> Match {
+    I::matched(table, uri)
+}
+
 /// The answer with the whole buffer, which held other bytes before.
 fn build<I: Tables>(table: &[u8], room: usize) -> (Built, Vec<u8>) {
     let mut buffer = vec![0xA5; room];
@@ -183,6 +188,16 @@ fn hold_table(tally: &mut Tally, random: &mut Random, table: &[u8], built: &[u8]
     hold_build(tally, table, room);
 }
 
+/// The URIs of a value, and bytes that are none.
+fn hold_matches(tally: &mut Tally, table: &[u8], value: &[u8]) {
+    let count = Reference::entries(value).min(4);
+    for uri in (0..count).map(|k| Reference::entry(value, k)).chain([value]) {
+        let answers = answers!("signal_table", matched, table, uri);
+        let line = || format!("match {} {}", to_hex(table), to_hex(uri));
+        tally.hold("signal_table_match", answers[0].1.refusal, &answers, line);
+    }
+}
+
 fn hold_check(tally: &mut Tally, table: &[u8], image: &[u8]) {
     let answers = answers!("signal_table", check, table, image);
     let line = || format!("check {} {}", to_hex(table), to_hex(image));
@@ -230,6 +245,7 @@ fn round(tally: &mut Tally, random: &mut Random, other: &mut Vec<u8>) {
         let value = values::value(random, &draft);
         let image = images::image(random, &table, image);
         hold_value(tally, random, &value);
+        hold_matches(tally, &table, &value);
         hold_resolvers(tally, &table, &image, &value);
         hold_agreement(tally, &table, &image, &value);
     }
@@ -249,7 +265,9 @@ fn limits(tally: &mut Tally, random: &mut Random) {
         hold_check(tally, &table, &machine);
         for _ in 0..5 {
             hold_check(tally, &table, &images::image(random, &table, &machine));
-            hold_resolvers(tally, &table, &machine, b"<urn:alert:c0:p0>, <urn:alert:c:l1>, <urn:alert:c1:a>");
+            let value = b"<urn:alert:c0:p0>, <urn:alert:c:l1>, <urn:alert:c1:a>";
+            hold_matches(tally, &table, value);
+            hold_resolvers(tally, &table, &machine, value);
         }
     }
 }
@@ -294,12 +312,14 @@ fn every_byte(tally: &mut Tally, random: &mut Random) {
         for hole in HOLES {
             let value: Vec<u8> = hole.iter().map(|&b| if b == b'#' { byte } else { b }).collect();
             hold_value(tally, random, &value);
+            hold_matches(tally, table, &value);
             hold_resolvers(tally, table, &image, &value);
         }
         for at in 0..table.len() {
             let mut changed = table.to_vec();
             changed[at] = byte;
             hold_table(tally, random, &changed, &image);
+            hold_matches(tally, &changed, value);
             hold_resolvers(tally, &changed, &image, value);
         }
         for at in 0..image.len() {

@@ -6,7 +6,7 @@ pub mod table;
 pub mod urn;
 pub mod value;
 
-use crate::{Built, Reader, Resolution, Resolvers, Tables};
+use crate::{Built, Match, Reader, Resolution, Resolvers, Tables};
 use table::Table;
 
 pub struct Reference;
@@ -32,6 +32,13 @@ impl Reader for Reference {
 impl Tables for Reference {
     fn table_refusal(table: &[u8]) -> u8 {
         Table::read(table).err().unwrap_or(0)
+    }
+
+    fn matched(table: &[u8], uri: &[u8]) -> Match {
+        match Table::read(table) {
+            Ok(table) => table.matched(uri),
+            Err(refusal) => Match::refused(refusal),
+        }
     }
 
     /// A refused build leaves the buffer all zero; after a successful one, the bytes past the image are 0.

@@ -1,5 +1,6 @@
 //! The signal table as stored, its nodes and its symbols.
 use super::urn::{alert_urn, category_and_path, is_name, Name, Path};
+use crate::Match;
 use std::collections::HashSet;
 
 /// A path with at least one part that is an ancestor of, or equal to, some signal's place.
@@ -119,6 +120,14 @@ impl Table {
     /// The URN's node if it is one; the deepest node above it if that is a leaf; otherwise Other under the deepest
     /// node or root above it.
     pub fn symbol(&self, urn: &Node) -> usize {
+        let (deepest, whole) = self.deepest(urn);
+        let to_node = whole || (deepest > 0 && is_leaf(&self.nodes, deepest));
+        let symbol = Symbol { category: urn.category, node: deepest, other: !to_node };
+        self.symbols.iter().position(|s| *s == symbol).expect("every URN has a symbol")
+    }
+
+    /// The number of the deepest node that is the URN or above it, 0 for the root, and whether it is the URN.
+    fn deepest(&self, urn: &Node) -> (usize, bool) {
         let mut deepest = 0;
         let mut whole = false;
         for length in 1..=urn.path.len() {
@@ -128,9 +137,35 @@ impl Table {
                 whole = length == urn.path.len();
             }
         }
-        let to_node = whole || (deepest > 0 && is_leaf(&self.nodes, deepest));
-        let symbol = Symbol { category: urn.category, node: deepest, other: !to_node };
-        self.symbols.iter().position(|s| *s == symbol).expect("every URN has a symbol")
+        (deepest, whole)
+    }
+
+    /// The bytes compared in the search for the URN's deepest node, which goes through its category's nodes by number,
+    /// up to and with the first leaf that is the URN or above it: of each path's text those that the URN's has at the
+    /// same places, and the first that it lacks there.
+    fn compared(&self, urn: &Node) -> usize {
+        let text = urn.path.join(&b':');
+        let mut compared = 0;
+        for number in (1..=self.nodes.len()).filter(|&n| self.nodes[n - 1].category == urn.category) {
+            let path = &self.nodes[number - 1].path;
+            let path_text = path.join(&b':');
+            let common = path_text.iter().zip(&text).take_while(|(a, b)| a == b).count();
+            compared += path_text.len().min(common + 1);
+            if is_leaf(&self.nodes, number) && urn.path.starts_with(path) {
+                break;
+            }
+        }
+        compared
+    }
+
+    /// What a URI is to the table.
+    pub fn matched(&self, uri: &[u8]) -> Match {
+        let Some(urn) = self.used(uri) else {
+            return Match { refusal: 0, used: 0, category: 0, node: 0, whole: 0, compared: 0 };
+        };
+        let (node, whole) = self.deepest(&urn);
+        let compared = self.compared(&urn) as u32;
+        Match { refusal: 0, used: 1, category: urn.category as u8, node: node as u8, whole: whole as u8, compared }
     }
 
     /// The URN as which a symbol steps: an Other symbol as its path with one more part that no node has.

@@ -24,12 +24,17 @@ returns c = c .crowded .ensures
 by-nodes-requires : tie.Need-by-nodes-requires
 by-nodes-requires c κs = search needs
 
+of-nodes-requires : tie.Need-of-nodes-requires
+of-nodes-requires c κs = search needs
+
 returns-2 : tie.Need-returns-2
-returns-2 c = let a = c .before .before .before .before .before .before .before .before .before .before .before .before .before .before .args in
-    let S = c .before .before .before .before .before .before .before .before .before .before .before .before .before .before .pre in
-    let A = c .before .before .before .before .before .before .before .add-all .ensures (S .listing .few-urns) (refl, clear 64, clear 64, clear 64, clear 64) in
-    let P = c .before .before .before .by-nodes .ensures (tableOf (a .t .now)) (λ i. fields 58 (stretch (a .t .now) (a .path-at .now) (a .path-len .now) i)) (S .listing) (numbering (a .t .now) (a .name-at .now) (a .name-len .now) (a .signal .now) (a .category .now) (a .path-at .now) (a .path-len .now) (a .l) S A (c .before .before .before .before .before .before .if1 .left)) (clear 32) in
-    means-accepted (a .t .now) (a .name-at .now) (a .name-len .now) (a .signal .now) (a .category .now) (a .path-at .now) (a .path-len .now) (a .l) S A (c .before .before .before .before .before .before .if1 .left) P (c .before .before .if2 .taken)
+returns-2 c = let a = c .before .before .before .before .before .before .before .before .before .before .before .before .before .before .before .before .before .before .before .before .before .args in
+    let S = c .before .before .before .before .before .before .before .before .before .before .before .before .before .before .before .before .before .before .before .before .before .pre in
+    let A = c .before .before .before .before .before .before .before .before .before .before .before .before .before .before .add-all .ensures (S .listing .few-urns) (refl, clear 64, clear 64, clear 64, clear 64) in
+    let few = c .before .before .before .before .before .before .before .before .before .before .before .before .before .if1 .left in
+    let P = c .before .before .before .before .before .before .before .before .before .before .by-nodes .ensures (tableOf (a .t .now)) (λ i. fields 58 (stretch (a .t .now) (a .path-at .now) (a .path-len .now) i)) (S .listing) (numbering (a .t .now) (a .name-at .now) (a .name-len .now) (a .signal .now) (a .category .now) (a .path-at .now) (a .path-len .now) (a .l) S A few) (clear 32) in
+    let m = c .before .before .before .before .of-nodes in
+    means-accepted (a .t .now) (a .name-at .now) (a .name-len .now) (a .signal .now) (a .category .now) (a .path-at .now) (a .path-len .now) (a .l) S A few P (c .before .before .before .before .before .before .before .before .before .if2 .taken) (m .result .shared) (m .ensures .0) (m .result .inner) (m .ensures .1)
 
 refused-requires : tie.Need-refused-requires
 refused-requires c κs = search needs
@@ -49,6 +54,7 @@ placed-spec =
     crowded-requires
     returns
     by-nodes-requires
+    of-nodes-requires
     returns-2
     refused-requires
     returns-3)

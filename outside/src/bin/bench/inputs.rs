@@ -46,6 +46,22 @@ fn deep() -> Bytes {
     Draft { categories: (b'a'..=b'h').map(name).collect(), signals }.bytes()
 }
 
+/// The path of a long URN: four parts of 55 bytes, then one of 27 that ends in the letter, then one more.
+fn long_path(letter: u8) -> String {
+    let name = [b"a".repeat(27), b"b".repeat(27)].join(&b'@');
+    let last = [b"x".repeat(26), vec![letter]].concat();
+    let parts = [vec![name; 4], vec![last, b"z".to_vec()]].concat();
+    String::from_utf8(parts.join(&b':')).expect("letters")
+}
+
+/// 30 signals whose URNs of 255 bytes are alike up to the last letter of their last part but one: 64 nodes, and no
+/// others that we know of make the search compare more bytes.
+fn alike_paths() -> Bytes {
+    let letters = (b'a'..=b'z').chain(b'0'..=b'3');
+    let signals = letters.map(|letter| vec![format!("c:{}", long_path(letter)).into_bytes()]);
+    Draft { categories: vec![b"c".to_vec()], signals: std::iter::once(Vec::new()).chain(signals).collect() }.bytes()
+}
+
 fn example(name: &str) -> Bytes {
     let file = Path::new(env!("CARGO_MANIFEST_DIR")).join("../examples/tables").join(name);
     std::fs::read(&file).unwrap_or_else(|e| panic!("{}: {e}", file.display()))
@@ -95,6 +111,7 @@ impl Inputs {
             table("32 signals, 33 states", limit("32 signals")),
             table("8,192 bytes, 256 states", limit("8,192 bytes")),
             table("64 nodes, 256 states, 128 symbols", limit("64 nodes, 256 states, 128 symbols")),
+            table("64 nodes with long common beginnings", alike_paths()),
         ];
         let used = vec![
             urns(&["source:internal"], 1),
@@ -102,6 +119,7 @@ impl Inputs {
             urns(&["c:l31", "c:l7"], 32),
             urns(&["category-0:0", "category-7:7"], 32),
             urns(&["c0:p0:p1:p2:p3", "c7:p0:p1:p2:p3:p4:p5:p6:p7"], 32),
+            urns(&[&format!("c:{}", long_path(b'3'))], 15),
         ];
         let mut refused = [0, 10, 19]
             .map(|letter| (format!("7,397 bytes, refused with 12, letter {letter} differs"), alike(letter)))

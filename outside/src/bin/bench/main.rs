@@ -8,6 +8,7 @@ mod time;
 
 use inputs::Inputs;
 use outside::baseline::Baseline;
+use outside::reference::Reference;
 use outside::{Reader, Resolvers, Tables};
 use std::hint::black_box;
 
@@ -61,6 +62,14 @@ fn table_rows<'a>(inputs: &'a Inputs, rows: &mut Vec<Row<'a>>) {
     for (name, table) in well_formed.chain(inputs.refused.iter().map(|(name, table)| (name, table))) {
         rows.push(row!("signal_table", "signal_table_refusal", name.clone(), |I, _| {
             I::table_refusal(black_box(table))
+        }));
+    }
+    for (name, table, _, value) in inputs.calls() {
+        let uri = Reference::entry(value, 0);
+        let compared = Reference::matched(table, uri).compared;
+        let name = format!("{name}, the first: {compared} bytes compared");
+        rows.push(row!("signal_table", "signal_table_match", name, |I, _| {
+            I::matched(black_box(table), black_box(uri))
         }));
     }
     for (name, table, image) in &inputs.tables {

@@ -39,7 +39,7 @@ part-uses-start : tie.Need-part-uses-start Inv-loop μ-loop
 part-uses-start c = search needs
 
 part-uses-end : tie.Need-part-uses-end Inv-loop μ-loop
-part-uses-end c = omega (arith, c .before .before .before .before .before .before .before .before .before .entry-at .ensures .inside)
+part-uses-end c = omega (arith, c .before .before .before .before .before .before .before .before .before .before .before .entry-at .ensures .inside)
 
 uses-requires : tie.Need-uses-requires Inv-loop μ-loop
 uses-requires c κs = search needs
@@ -52,15 +52,15 @@ ended-requires-2 c κs = search needs
 
 returns-2 : tie.Need-returns-2 Inv-loop μ-loop
 returns-2 c = let a = after-uri _ _ _ _ _ (c .before .before .before .before .before .before .uses .ensures) (c .before .before .taken .ensures) in
-    (c .ended2 .ensures ∙ run-last _ _ _ _ _ _ (c .before .before .before .before .before .before .before .before .before .before .before .before .before .before .before .before .before .before .loop .inv .0) _ (c .before .before .before .before .before .before .before .before .before .before .before .before .before .before .before .before .before .entry-at .ensures .last (not-false _ (c .before .before .before .before .before .before .before .before .before .before .before .before .before .before .before .if1 .left)) (c .before .if2 .taken)) a, ended-few (c .ended2 .ensures) (omega (arith, after-counted _ _ _ _ _ a, c .before .before .before .before .before .before .before .before .before .before .before .before .before .before .before .before .before .before .before .before .before .before .pre .0, c .before .before .before .before .before .before .before .before .before .before .before .before .before .before .before .before .before .before .loop .inv)))
+    (c .ended2 .ensures ∙ run-last _ _ _ _ _ _ (c .before .before .before .before .before .before .before .before .before .before .before .before .before .before .before .before .before .before .before .before .loop .inv .0) _ (c .before .before .before .before .before .before .before .before .before .before .before .before .before .before .before .before .before .before .before .entry-at .ensures .last (not-false _ (c .before .before .before .before .before .before .before .before .before .before .before .before .before .before .before .before .before .if1 .left)) (c .before .if2 .taken)) a, ended-few (c .ended2 .ensures) (omega (arith, after-counted _ _ _ _ _ a, c .before .before .before .before .before .before .before .before .before .before .before .before .before .before .before .before .before .before .before .before .before .before .before .before .pre .0, c .before .before .before .before .before .before .before .before .before .before .before .before .before .before .before .before .before .before .before .before .loop .inv)))
 
 loop-less : tie.Need-loop-less Inv-loop μ-loop
-loop-less c = omega (arith, c .before .before .before .before .before .before .before .before .before .before .before .before .before .before .before .before .entry-at .ensures .more (not-false _ (c .before .before .before .before .before .before .before .before .before .before .before .before .before .before .if1 .left)) (c .if2 .left))
+loop-less c = omega (arith, c .before .before .before .before .before .before .before .before .before .before .before .before .before .before .before .before .before .before .entry-at .ensures .more (not-false _ (c .before .before .before .before .before .before .before .before .before .before .before .before .before .before .before .before .if1 .left)) (c .if2 .left))
 
 loop-again : tie.Need-loop-again Inv-loop μ-loop
 loop-again c = let a = after-uri _ _ _ _ _ (c .before .before .before .before .before .uses .ensures) (c .before .taken .ensures) in
-    let m = c .before .before .before .before .before .before .before .before .before .before .before .before .before .before .before .before .entry-at .ensures .more (not-false _ (c .before .before .before .before .before .before .before .before .before .before .before .before .before .before .if1 .left)) (c .if2 .left) in
-    (run-more _ _ _ _ _ _ (c .before .before .before .before .before .before .before .before .before .before .before .before .before .before .before .before .before .loop .inv .0) _ _ (m .0) a, omega (arith, m .1, after-counted _ _ _ _ _ a), m .2)
+    let m = c .before .before .before .before .before .before .before .before .before .before .before .before .before .before .before .before .before .before .entry-at .ensures .more (not-false _ (c .before .before .before .before .before .before .before .before .before .before .before .before .before .before .before .before .if1 .left)) (c .if2 .left) in
+    (run-more _ _ _ _ _ _ (c .before .before .before .before .before .before .before .before .before .before .before .before .before .before .before .before .before .before .before .loop .inv .0) _ _ (m .0) a, omega (arith, m .1, after-counted _ _ _ _ _ a, c .before .before .before .before .before .before .before .before .before .before .before .before .before .before .before .before .before .before .before .loop .inv), m .2)
 
 pub run-spec : {M : Type 1} → statement M
 run-spec =

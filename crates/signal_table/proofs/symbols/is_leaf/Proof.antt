@@ -2,8 +2,9 @@ use native.Mathlib.Omega.{arith}
 use Prim.Native.Nat.{_≤_, _-_}
 use mathlib.Core.Path.{_≡_, refl}
 use mathlib.Core.Bool.{true}
-use Rattle.signal_table.specs.Listed.{childless}
-use Rattle.signal_table.proofs.SymbolLaws.{child-found, child-more, child-end}
+use Rattle.node_step.specs.Arrays.{childless}
+use Rattle.node_step.proofs.Leaves.{child-found}
+use Rattle.signal_table.proofs.SymbolLaws.{child-more, child-end}
 use borrow.Author.Needs.{needs}
 use Rattle.signal_table.proofs.symbols.is_leaf.Statement.{statement}
 use Rattle.signal_table.proofs.symbols.is_leaf.Tie as tie
