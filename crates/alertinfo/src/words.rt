@@ -55,7 +55,7 @@ fn of_table(to: i32, k: u8) {
         6 => io::write_all(to, b"a count or a length in the table is out of range"),
         7 => io::write_all(
             to,
-            b"a name or a URN in the table is of wrong form, or has more than 8 parts",
+            b"a name or a URN in the table is of wrong form, has a capital letter, or has more than 8 parts",
         ),
         8 => io::write_all(
             to,
