@@ -1,4 +1,4 @@
-/* The two resolvers: libresolver.a, which needs no other library. What the pointers must hold is said in
+/* The resolvers: libresolver.a, which needs no other library. What the pointers must hold is said in
  * alert_info.h; the refusal numbers are those of alert_info.h and signal_table.h. */
 #ifndef RESOLVER_H
 #define RESOLVER_H
@@ -8,6 +8,9 @@
 
 #include "alert_info.h"
 #include "signal_table.h"
+
+/* Most values of one message. */
+#define ALERT_VALUES 16
 
 #ifdef __cplusplus
 extern "C" {
@@ -29,6 +32,21 @@ alert_resolution resolve_plain(const uint8_t *table, size_t len, const uint8_t *
  * resolve_plain. */
 alert_resolution resolve_machine(const uint8_t *table, size_t len, const uint8_t *image, size_t image_len,
                                  const uint8_t *value, size_t value_len);
+
+/* What is carried between the values of one message. All zero before the first. */
+typedef struct alert_record {
+    uint8_t signal;    /* the signal so far */
+    uint8_t status[8]; /* of each category in the table's order: 0 open, 1 shut; 0 for those that the table lacks */
+    uint8_t values;    /* how many values were fed, at most ALERT_VALUES */
+} alert_record;
+
+/* The signal after one more value of a message that has several Alert-Info fields: resolution goes on from the record,
+ * and the record is changed for the next value. Used and skipped are this value's own. Refused, in this order, with 4
+ * to 12; 28: the record is none of this table, its signal, a status or its number of values is out of range; 19: 16
+ * values were fed before; 1 to 3. A refusal leaves the record as it is, except that a value refused with 1 to 3 is
+ * counted in `values`. The record must overlap neither table nor value. */
+alert_resolution resolve_feed(const uint8_t *table, size_t len, alert_record *record, const uint8_t *value,
+                              size_t value_len);
 
 #ifdef __cplusplus
 }

@@ -10,13 +10,14 @@
 //! | `build T ROOM` | refusal, length, image (the rest of the buffer of ROOM bytes is 0) |
 //! | `check T M` | refusal |
 //! | `walk T M V` | refusal, signal, used, skipped of the machine resolver |
+//! | `feed T RECORD V` | refusal, signal, used, skipped, the record after it; a record is `signal/status,../values` |
 //! | `match T URI` | refusal, category (-1 if the URI is skipped), node, whole, bytes compared |
-use crate::{Match, Reader, Resolution, Resolvers, Tables};
+use crate::{Match, Reader, Record, Resolution, Resolvers, Tables};
 use std::fmt::Write;
 use std::path::{Path, PathBuf};
 
-/// One file for each command, the draft's worked examples, and values with folded lines.
-pub const FILES: [&str; 10] = [
+/// One file for each command, the draft's worked examples, values with folded lines, and messages of several fields.
+pub const FILES: [&str; 11] = [
     "value.txt",
     "entry.txt",
     "table.txt",
@@ -27,6 +28,7 @@ pub const FILES: [&str; 10] = [
     "match.txt",
     "draft.txt",
     "folded.txt",
+    "fields.txt",
 ];
 
 /// Where the cases are.
@@ -54,7 +56,7 @@ impl Case {
         match self.words[0].as_str() {
             "value" | "entry" => Layer::Reader,
             "table" | "match" | "build" | "check" => Layer::Tables,
-            "plain" | "walk" => Layer::Resolvers,
+            "plain" | "walk" | "feed" => Layer::Resolvers,
             other => panic!("{}: unknown command {other}", self.place),
         }
     }
@@ -62,6 +64,16 @@ impl Case {
     /// The bytes that word i gives in hex.
     pub fn bytes(&self, i: usize) -> Vec<u8> {
         from_hex(&self.words[i]).unwrap_or_else(|| panic!("{}: word {i} is no hex", self.place))
+    }
+
+    /// The record that word i says.
+    fn record(&self, i: usize) -> Record {
+        let numbers: Vec<u8> = self.words[i]
+            .split(['/', ','])
+            .map(|word| word.parse().unwrap_or_else(|_| panic!("{}: word {i} is no record", self.place)))
+            .collect();
+        let status = numbers[1..9].try_into().expect("8 statuses");
+        Record { signal: numbers[0], status, values: numbers[9] }
     }
 
     fn number(&self, i: usize) -> usize {
@@ -157,13 +169,28 @@ pub fn ask_tables<I: Tables>(case: &Case) -> String {
     }
 }
 
+/// A record as a case has it.
+pub fn show_record(record: &Record) -> String {
+    let status: Vec<String> = record.status.iter().map(u8::to_string).collect();
+    format!("{}/{}/{}", record.signal, status.join(","), record.values)
+}
+
+fn show(answer: Resolution) -> String {
+    let Resolution { refusal, signal, used, skipped } = answer;
+    format!("{refusal} {signal} {used} {skipped}")
+}
+
 /// What an implementation answers to a case of the resolvers.
 pub fn ask_resolvers<I: Resolvers>(case: &Case) -> String {
     let table = case.bytes(1);
-    let Resolution { refusal, signal, used, skipped } = match case.words[0].as_str() {
-        "plain" => I::plain(&table, &case.bytes(2)),
-        "walk" => I::machine(&table, &case.bytes(2), &case.bytes(3)),
+    match case.words[0].as_str() {
+        "plain" => show(I::plain(&table, &case.bytes(2))),
+        "walk" => show(I::machine(&table, &case.bytes(2), &case.bytes(3))),
+        "feed" => {
+            let mut record = case.record(2);
+            let answer = I::feed(&table, &mut record, &case.bytes(3));
+            format!("{} {}", show(answer), show_record(&record))
+        }
         other => panic!("{}: {other} is not the resolvers'", case.place),
-    };
-    format!("{refusal} {signal} {used} {skipped}")
+    }
 }

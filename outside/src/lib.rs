@@ -72,8 +72,23 @@ pub trait Tables {
     fn check(table: &[u8], image: &[u8]) -> u8;
 }
 
-/// The two resolvers: what the library resolver answers.
+/// What is carried between the values of one message: the signal, a status for each of 8 categories, and how many values
+/// there were. All zero before the first.
+#[repr(C)]
+#[derive(Clone, Copy, Debug, Default, PartialEq, Eq)]
+pub struct Record {
+    pub signal: u8,
+    pub status: [u8; 8],
+    pub values: u8,
+}
+
+/// Most values of one message.
+pub const VALUES: u8 = 16;
+
+/// The resolvers: what the library resolver answers.
 pub trait Resolvers {
     fn plain(table: &[u8], value: &[u8]) -> Resolution;
     fn machine(table: &[u8], image: &[u8], value: &[u8]) -> Resolution;
+    /// One value of a message that has several.
+    fn feed(table: &[u8], record: &mut Record, value: &[u8]) -> Resolution;
 }

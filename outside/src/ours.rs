@@ -4,7 +4,7 @@ use crate::Reader;
 #[cfg(feature = "signal_table")]
 use crate::{Built, Match, Tables};
 #[cfg(feature = "resolver")]
-use crate::{Resolution, Resolvers};
+use crate::{Record, Resolution, Resolvers};
 
 pub struct Ours;
 
@@ -41,6 +41,13 @@ extern "C" {
         len: usize,
         image: *const u8,
         image_len: usize,
+        value: *const u8,
+        value_len: usize,
+    ) -> Resolution;
+    fn resolve_feed(
+        table: *const u8,
+        len: usize,
+        record: *mut Record,
         value: *const u8,
         value_len: usize,
     ) -> Resolution;
@@ -98,5 +105,9 @@ impl Resolvers for Ours {
         unsafe {
             resolve_machine(table.as_ptr(), table.len(), image.as_ptr(), image.len(), value.as_ptr(), value.len())
         }
+    }
+
+    fn feed(table: &[u8], record: &mut Record, value: &[u8]) -> Resolution {
+        unsafe { resolve_feed(table.as_ptr(), table.len(), record, value.as_ptr(), value.len()) }
     }
 }

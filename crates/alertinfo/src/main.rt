@@ -1,5 +1,6 @@
 // Picks a ring from the command line: the libraries' answers, in plain words. Files are read up to 65,536 bytes, more
 // than the libraries take, so that a longer one is refused by its number.
+mod fields;
 mod files;
 mod words;
 
@@ -12,6 +13,7 @@ fn usage(to: i32) {
     io::write_all(to, b"       alertinfo check TABLE MACHINE\n");
     io::write_all(to, b"       alertinfo resolve TABLE VALUE [MACHINE]\n");
     io::write_all(to, b"       alertinfo match TABLE URI\n");
+    io::write_all(to, b"       alertinfo feed TABLE VALUE [VALUE ..]\n");
     io::write_all(
         to,
         b"TABLE and MACHINE are files. VALUE is a file, or the value itself if it begins with '<'.\n",
@@ -89,15 +91,19 @@ fn check() {
     io::write_all(STDOUT_FILENO, b"accepted\n");
 }
 
+fn accepted(signal: u8, used: usize, skipped: usize) {
+    io::write_all(STDOUT_FILENO, b"signal ");
+    words::count(signal as u64, b", ");
+    words::count(used as u64, b" used, ");
+    words::count(skipped as u64, b" skipped\n");
+}
+
 fn answer(r: resolver::Resolution) {
     if r.refusal != 0 {
         words::refused(r.refusal);
         return;
     }
-    io::write_all(STDOUT_FILENO, b"signal ");
-    words::count(r.signal as u64, b", ");
-    words::count(r.used as u64, b" used, ");
-    words::count(r.skipped as u64, b" skipped\n");
+    accepted(r.signal, r.used as usize, r.skipped as usize);
 }
 
 fn follow(t: &[u8], v: &[u8]) {
@@ -161,6 +167,26 @@ fn match_uri() {
     found(signal_table::match_urn(&table[..n], &uri[..k]));
 }
 
+// The values of one message: the signal at the end and the counts of all, or the last refusal if no value is accepted.
+fn feed(arguments: usize) {
+    let mut table = io::large_buffer();
+    let t = files::file(2, &mut table);
+    if !t.ok {
+        return;
+    }
+    let n = t.n;
+    let m = fields::all_of(&table[..n], arguments);
+    if !m.ok {
+        return;
+    }
+    if !m.accepted {
+        words::refused(m.refusal);
+        return;
+    }
+    let end = m.carried;
+    accepted(end.signal, m.used, m.skipped);
+}
+
 fn main() {
     let n = os::arg_count();
     if files::is(1, b"entries") {
@@ -194,6 +220,12 @@ fn main() {
     if files::is(1, b"match") {
         if n == 4 {
             match_uri();
+            return;
+        }
+    }
+    if files::is(1, b"feed") {
+        if 3 < n {
+            feed(n);
             return;
         }
     }

@@ -86,7 +86,7 @@ pub fn match_urn(line: &[u8]) {
     matched(signal_table::match_urn(&t[..n], &uri[..k]));
 }
 
-fn resolution(r: Resolution) {
+pub fn resolution(r: Resolution) {
     print::number(r.refusal as usize);
     print::next(r.signal as usize);
     print::next(r.used as usize);

@@ -1,6 +1,7 @@
 // Answers the cases of data/, one line each. A case is a line `COMMAND = ANSWER`, bytes in hex, `-` for none; what stands
 // after the equals sign is not read here. Lines that begin with `#`, and empty ones, are no cases.
 mod commands;
+mod fields;
 mod print;
 
 // The answer to one line.
@@ -15,6 +16,7 @@ fn answer(line: &[u8]) {
         b'c' => commands::check(line),
         b'w' => commands::walk(line),
         b'm' => commands::match_urn(line),
+        b'f' => fields::feed(line),
         _ => return,
     }
     print::text(b"\n");
@@ -54,4 +56,5 @@ fn main() {
     answer_file(b"match.txt");
     answer_file(b"draft.txt");
     answer_file(b"folded.txt");
+    answer_file(b"fields.txt");
 }

@@ -1,6 +1,6 @@
 -- The answer at the end of a value is the one over the value's list.
 use Prim.Native.Nat.{ℕ, _+_, _≤_, _<_}
-use mathlib.Core.Path.{_≡_, refl, sym, ap, ap₂, _∙_}
+use mathlib.Core.Path.{_≡_, refl, sym, ap, ap₂, _∙_, subst}
 use mathlib.Core.Bool.{true, false, cond}
 use mathlib.Core.Option.{Option, none, some}
 use mathlib.Core.List.{List, [], _∷_, map, foldl}
@@ -60,6 +60,9 @@ module _ (o : Outcome) (s : ℕ) where
     unfolding answerOf
     answer-given h = simp (fits, le-ltb 64 (o .progress .used + o .progress .skipped) h)
 
+pos-of-ne : {n : ℕ} → (n ≡ 0 → ⊥) → 0 < n
+pos-of-ne {n} h = omega arith
+
 -- a refused table's answer: the value's number comes first
 pub refused-first : (t v : List ℕ) (r : Resolution) {k : ℕ} → k ≡ tableRefusal t → (k ≡ 0 → ⊥)
     → refused (cond (eqb (refusalOf v) 0) k (refusalOf v)) ≡ unlessRefused t v r
@@ -67,27 +70,29 @@ refused-first t v r {k} e n =
     byTest (eqb (refusalOf v) 0)
     (λ q. ap (λ b. refused (cond b k (refusalOf v))) q ∙ ap refused e ∙ table-refused t v r (eqb-true (refusalOf v) 0 q) (λ z. n (e ∙ z)))
     (λ q. ap (λ b. refused (cond b k (refusalOf v))) q ∙ value-refused t v r refl (pos-of-ne (eqb-false (refusalOf v) 0 q)))
-  where
-    pos-of-ne : {n : ℕ} → (n ≡ 0 → ⊥) → 0 < n
-    pos-of-ne {n} h = omega arith
 
-module _ (t : List ℕ) (T : Table) (d : Decoded) (h : Holds t T d) (m : Machine) (v : List ℕ) (short : length v ≤ 4096) (formed : tableRefusal t ≡ 0)
-    {S : Type 0} (valid : S → Type 0) (f : S → Urn → S) (shown : S → Current) (steps : Steps t T d h m valid f shown) (s : S) (ok : valid s)
-    (signalOf : S → ℕ) (tells : (s : S) → signalNow (m .image) (shown s) ≡ signalOf s) where
+-- how a run over a value can end: the value is refused and so is every answer, or it is accepted, the run is at x, and an answer has its counts
+pub data Ended (t v : List ℕ) (x : Current) (o : Outcome) : Type 0 where
+  not-taken : (refusalOf v ≡ 0 → ⊥) → ((s : ℕ) → answerOf o s ≡ refused (refusalOf v)) → Ended t v x o
+  taken : refusalOf v ≡ 0 → o .progress .current ≡ x → ((s : ℕ) → answerOf o s ≡ answered t (urisOf v) s) → Ended t v x o
+
+module _ (t : List ℕ) (T : Table) (d : Decoded) (h : Holds t T d) (m : Machine) (v : List ℕ) (short : length v ≤ 4096)
+    {S : Type 0} (valid : S → Type 0) (f : S → Urn → S) (shown : S → Current) (steps : Steps t T d h m valid f shown) (s : S) (ok : valid s) where
   abbrev given : List (List ℕ) → List Urn
   given uris = usedOf (takenAs t uris)
 
-  abbrev wanted : Resolution
-  wanted = answered t (urisOf v) (signalOf (foldl f s (given (urisOf v))))
+  abbrev end : Current
+  end = shown (foldl f s (given (urisOf v)))
 
-  abbrev ended : Outcome → Resolution
-  ended o = answerOf o (signalNow (m .image) (o .progress .current))
-
-  -- the answer over a reading of the value
-  by-reading : (r : Reading) → readingOf v ≡ r → ended (runOf (begin (shown s)) (over v (after t d m) (begin (shown s)) r)) ≡ unlessRefused t v wanted
+  -- the run over a reading of the value
+  by-reading : (r : Reading) → readingOf v ≡ r → Ended t v end (runOf (begin (shown s)) (over v (after t d m) (begin (shown s)) r))
   unfolding over answerOf
-  by-reading unfit e = value-refused t v wanted (refusal-unfit v short unfit e refl) (omega arith)
-  by-reading (spans ps) e = ap (λ p. ended (record { fits = true; progress = p })) (run-fold t T d h m valid f shown steps uris s 0 0 ok ∙ from-zero) ∙ counted
+  by-reading unfit e =
+      let z = refusal-unfit v short unfit e refl in
+      not-taken (λ q. omega arith) (λ n. ap refused (sym z))
+  by-reading (spans ps) e =
+      subst (λ (p : Progress). Ended t v end (record { fits = true; progress = p }))
+      (sym (run-fold t T d h m valid f shown steps uris s 0 0 ok ∙ from-zero)) counted
     where
       uris : List (List ℕ)
       uris = map (partOf v) ps
@@ -110,29 +115,44 @@ module _ (t : List ℕ) (T : Table) (d : Decoded) (h : Holds t T d) (m : Machine
           let b : 0 + skipped ≡ skipped = omega arith in
           ap₂ (λ (x y : ℕ). record { current = last .current; used = x; skipped = y }) a b
 
-      many : 64 < length ps → ended (record { fits = true; progress = last }) ≡ unlessRefused t v wanted
+      many : 64 < length ps → Ended t v end (record { fits = true; progress = last })
       many k =
-          ap (λ b. cond b (refused 3) (record { refusal = 0; signal = signalNow (m .image) (last .current); used = used; skipped = skipped }))
-          (lt-ltb 64 (used + skipped) (omega (arith, all)))
-          ∙ value-refused t v wanted (refusal-many v short (spans ps) e ps refl k) (omega arith)
+          let z = refusal-many v short (spans ps) e ps refl k in
+          not-taken (λ q. omega arith)
+          (λ n. ap (λ b. cond b (refused 3) (record { refusal = 0; signal = n; used = used; skipped = skipped }))
+          (lt-ltb 64 (used + skipped) (omega (arith, all))) ∙ ap refused (sym z))
 
-      same : urisOf v ≡ uris → length ps ≤ 64 → ended (record { fits = true; progress = last }) ≡ unlessRefused t v wanted
+      same : urisOf v ≡ uris → length ps ≤ 64 → Ended t v end (record { fits = true; progress = last })
       same u k =
-          ap (λ b. cond b (refused 3) (record { refusal = 0; signal = signalNow (m .image) (last .current); used = used; skipped = skipped }))
-          (le-ltb 64 (used + skipped) (omega (arith, all)))
-          ∙ ap (λ n. record { refusal = 0; signal = n; used = used; skipped = skipped }) (tells (foldl f s (given uris)))
-          ∙ ap (λ l. answered t l (signalOf (foldl f s (given l)))) (sym u)
-          ∙ none-refused t v wanted (refusal-none v short (spans ps) e ps refl k) formed
+          taken (refusal-none v short (spans ps) e ps refl k) (ap (λ l. shown (foldl f s (given l))) (sym u))
+          (λ n. ap (λ b. cond b (refused 3) (record { refusal = 0; signal = n; used = used; skipped = skipped }))
+          (le-ltb 64 (used + skipped) (omega (arith, all))) ∙ ap (λ l. answered t l n) (sym u))
 
-      counted : ended (record { fits = true; progress = last }) ≡ unlessRefused t v wanted
+      counted : Ended t v end (record { fits = true; progress = last })
       counted =
           byTest (ltb 64 (length ps)) (λ q. many (ltb-true 64 (length ps) q))
           (λ q. let k : length ps ≤ 64 = ltb-false 64 (length ps) q in same (accepted-uris v short (spans ps) e ps refl k) k)
 
   -- the whole value
-  pub resolved-right : resolvedFrom t d m (shown s) v ≡ unlessRefused t v wanted
-  unfolding resolvedFrom runFrom
-  resolved-right = by-reading (readingFrom v 0) (reading-start v)
+  pub run-ends : Ended t v end (runFrom t d m v (begin (shown s)) 0)
+  unfolding runFrom
+  run-ends = by-reading (readingFrom v 0) (reading-start v)
+
+  module _ (formed : tableRefusal t ≡ 0) (signalOf : S → ℕ) (tells : (s : S) → signalNow (m .image) (shown s) ≡ signalOf s) where
+    abbrev wanted : Resolution
+    wanted = answered t (urisOf v) (signalOf (foldl f s (given (urisOf v))))
+
+    by-end : (o : Outcome) → Ended t v end o → answerOf o (signalNow (m .image) (o .progress .current)) ≡ unlessRefused t v wanted
+    by-end o (not-taken n e) = e (signalNow (m .image) (o .progress .current)) ∙ value-refused t v wanted refl (pos-of-ne n)
+    by-end o (taken z x e) =
+        e (signalNow (m .image) (o .progress .current))
+        ∙ ap (λ y. answered t (urisOf v) (signalNow (m .image) y)) x
+        ∙ ap (answered t (urisOf v)) (tells (foldl f s (given (urisOf v)))) ∙ none-refused t v wanted z formed
+
+    -- the answer
+    pub resolved-right : resolvedFrom t d m (shown s) v ≡ unlessRefused t v wanted
+    unfolding resolvedFrom
+    resolved-right = by-end (runFrom t d m v (begin (shown s)) 0) run-ends
 
 -- the answer of a run, its signal and its numbers put together
 pub resolved-steps : (t : List ℕ) (d : Decoded) (m : Machine) (x : Current) (v : List ℕ) {o : Outcome} {s : ℕ} {r : Resolution}

@@ -30,9 +30,11 @@ use Rattle.signal_table.proofs.Claims.{builds as every-build, refused-build, ch
 use Rattle.resolver.specs.declared.Resolution.{Resolution}
 use Rattle.resolver.specs.Resolve.{takenAs, directSignal, walkedSignal, refused, answered, unlessRefused, plainOf, machineOf}
 use Rattle.resolver.specs.Demands.{WalkClaim, DemandOne, DemandTwo, DemandThree}
-use Rattle.resolver.proofs.TableLaws.{names-count}
+use Rattle.resolver.proofs.TableLaws.{names-count, taken-append}
 use Rattle.resolver.proofs.FoldLaws.{used-urn}
 use Rattle.resolver.proofs.RefusalLaws.{value-number, entry-number, plain-number, machine-number, build-number, check-number}
+use Rattle.resolver.proofs.OneValueLaws.{feed-number, one-value}
+use Rattle.resolver.proofs.FeedingLaws.{ends-direct, never-refused, joined-alike}
 use Rattle.alert_info.proofs.EntryLaws.{refused-entry}
 use Rattle.stored_table.proofs.RefusalNumbers.{refusal-numbers}
 
@@ -73,11 +75,14 @@ demand-one t =
       table-number = refusal-numbers t;
       plain-number = plain-number t;
       machine-number = machine-number t;
+      feed-number = feed-number t;
       build-number = build-number t;
       check-number = check-number t;
       entry-refused = refused-entry;
       plain-refused = plain-refused t;
       machine-refused = machine-refused t;
+      one-value = one-value t;
+      never-refused = never-refused t;
       build-refused = build-refused t;
     }
 
@@ -102,14 +107,11 @@ demand-two t =
     record {
       values = refused-exactly;
       plain-signal = plain-signal t;
+      ends-direct = ends-direct t;
+      joined-alike = joined-alike t;
       image-written = image-written t;
       checked = λ im. (check-to-right t im, right-to-check t im);
     }
-
--- a list of URIs cut in two
-taken-append : (t : List ℕ) (a b : List (List ℕ)) → takenAs t (a ++ b) ≡ takenAs t a ++ takenAs t b
-taken-append t [] b = refl
-taken-append t (x ∷ a) b = ap (λ l. usedUrn (categoryNames t) x ∷ l) (taken-append t a b)
 
 -- the used ones of every list are of the table
 taken-used : (t : List ℕ) → length (categoryNames t) ≡ tableOf t .cats → (l : List (List ℕ)) → AllUsed (tableOf t) (takenAs t l)

@@ -5,6 +5,10 @@ pub mod AnswerLaws
 pub mod PlainLaws
 pub mod MachineLaws
 pub mod RefusalLaws
+pub mod ReadLaws
+pub mod OneValueLaws
+pub mod Join
+pub mod FeedingLaws
 pub mod DemandLaws
 pub mod Examples
 pub mod DemandExample

@@ -45,7 +45,7 @@ module _ (t : List ℕ) (d : Decoded) (h : Holds t (tableOf t) d) (m : Machine) 
       → resolvedFrom t d m (Walk 0) v ≡ machineOf t (m .image) v
   unfolding machineOf
   machine-right v short formed right =
-      resolved-right t (tableOf t) d h m v short formed (λ j. Unit) (stepIn (tableOf t) (m .image)) Walk walk-steps 0 tt (signalIn (m .image)) (λ j. refl)
+      resolved-right t (tableOf t) d h m v short (λ j. Unit) (stepIn (tableOf t) (m .image)) Walk walk-steps 0 tt formed (signalIn (m .image)) (λ j. refl)
       ∙ ap (λ j. unlessRefused t v (answered t (urisOf v) (signalIn (m .image) j))) (sym (run-used (stepIn (tableOf t) (m .image)) 0 (takenAs t (urisOf v))))
       ∙ ap (λ b. unlessRefused t v (cond b (answered t (urisOf v) (walkedSignal t (m .image) (urisOf v))) (refused 15))) (sym right)
 

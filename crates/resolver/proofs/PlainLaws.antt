@@ -21,11 +21,11 @@ use Rattle.resolver.specs.Run.{Machine, resolvedFrom}
 use Rattle.resolver.proofs.FoldLaws.{Steps}
 use Rattle.resolver.proofs.AnswerLaws.{resolved-right}
 
-abbrev shown : direct.State → Current
+abbrev pub shown : direct.State → Current
 shown st = Direct (coded st)
 
 module _ (t : List ℕ) (d : Decoded) (h : Holds t (tableOf t) d) (m : Machine) where
-  direct-steps : Steps t (tableOf t) d h m (Valid (envOf (tableOf t)) (tableOf t .cats) (nodes (tableOf t))) (step (envOf (tableOf t))) shown
+  pub direct-steps : Steps t (tableOf t) d h m (Valid (envOf (tableOf t)) (tableOf t .cats) (nodes (tableOf t))) (step (envOf (tableOf t))) shown
   direct-steps =
       record {
         moves = λ st u v w. ap Direct (step-direct (d .rows) (d .parent) (d .signals) (tableOf t) (h .well-formed) (h .numbers) st v u (w .known));
@@ -38,5 +38,5 @@ module _ (t : List ℕ) (d : Decoded) (h : Holds t (tableOf t) d) (m : Machine) 
   unfolding plainOf
   plain-right v short formed =
       ap (λ (x : State). resolvedFrom t d m (Direct x) v) (sym (coded-start (tableOf t .cats)))
-      ∙ resolved-right t (tableOf t) d h m v short formed (Valid (envOf (tableOf t)) (tableOf t .cats) (nodes (tableOf t))) (step (envOf (tableOf t))) shown
-      direct-steps (start (tableOf t .cats)) (valid-start (tableOf t) (h .well-formed)) (λ st. st .signal) (λ st. refl)
+      ∙ resolved-right t (tableOf t) d h m v short (Valid (envOf (tableOf t)) (tableOf t .cats) (nodes (tableOf t))) (step (envOf (tableOf t))) shown
+      direct-steps (start (tableOf t .cats)) (valid-start (tableOf t) (h .well-formed)) formed (λ st. st .signal) (λ st. refl)

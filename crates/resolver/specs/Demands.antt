@@ -15,16 +15,19 @@ use Rattle.node_step.specs.Uses.{usedUrn}
 use Rattle.machine_image.specs.Image.{signalIn, machineImage}
 use Rattle.machine_image.specs.Walk.{stepIn}
 use Rattle.stored_table.specs.Tables.{tableRefusal, tableOf, categoryNames}
+use Rattle.carried_record.specs.declared.Carried.{Carried}
 use Rattle.signal_table.specs.Built.{builtFrom, bufferFrom, checkFrom}
 use Rattle.signal_table.specs.Claims.{RightImage}
 use Rattle.resolver.specs.Resolve.{takenAs, directSignal, walkedSignal, refused, plainOf, machineOf}
+use Rattle.resolver.specs.Feed.{feedOf}
+use Rattle.resolver.specs.Feeding.{OneValue, EndsDirect, NeverRefused, JoinedAlike}
 
 -- a number from lo to hi
 abbrev pub Among : ℕ → ℕ → ℕ → Type 0
 Among lo hi n = (lo ≤ n) × (n ≤ hi)
 
 -- the numbers that may be given, 0 for accepted: by the question about a value, by that about an entry, by that about a table,
--- by the plain resolver, by the machine resolver, by the builder and by the checker
+-- by the plain resolver, by the machine resolver, for one of several values, by the builder and by the checker
 abbrev pub ValueNumber : ℕ → Type 0
 ValueNumber n = (n ≡ 0) ⊎ Among 1 3 n
 
@@ -39,6 +42,9 @@ PlainNumber n = (n ≡ 0) ⊎ Among 1 12 n
 
 abbrev pub MachineNumber : ℕ → Type 0
 MachineNumber n = (n ≡ 0) ⊎ (Among 1 12 n ⊎ (n ≡ 15))
+
+abbrev pub FeedNumber : ℕ → Type 0
+FeedNumber n = (n ≡ 0) ⊎ (Among 1 12 n ⊎ ((n ≡ 19) ⊎ (n ≡ 28)))
 
 abbrev pub BuildNumber : ℕ → Type 0
 BuildNumber n = (n ≡ 0) ⊎ Among 4 14 n
@@ -55,6 +61,7 @@ pub record Demand1 (t : List ℕ) : Type 0 where
   pub table-number : TableNumber (tableRefusal t)
   pub plain-number : (v : List ℕ) → PlainNumber (plainOf t v .refusal)
   pub machine-number : (im v : List ℕ) → MachineNumber (machineOf t im v .refusal)
+  pub feed-number : (r : Carried) (v : List ℕ) → FeedNumber (feedOf t r v .answer .refusal)
   pub build-number : (room : ℕ) → BuildNumber (builtFrom t room .refusal)
   pub check-number : (im : List ℕ) → CheckNumber (checkFrom t im)
   -- an entry is refused exactly if its part is empty
@@ -62,6 +69,9 @@ pub record Demand1 (t : List ℕ) : Type 0 where
   -- a refused resolution is signal 0 with both counts 0
   pub plain-refused : (v : List ℕ) → (plainOf t v .refusal ≡ 0 → ⊥) → plainOf t v ≡ refused (plainOf t v .refusal)
   pub machine-refused : (im v : List ℕ) → (machineOf t im v .refusal ≡ 0 → ⊥) → machineOf t im v ≡ refused (machineOf t im v .refusal)
+  -- of several values, what each does by its number, whatever record it is fed with; no record that feeding gave is refused with 28
+  pub one-value : (r : Carried) (v : List ℕ) → OneValue t r v
+  pub never-refused : NeverRefused t
   -- a refused build leaves the whole buffer zero, whatever its length
   pub build-refused : (room : ℕ) → (builtFrom t room .refusal ≡ 0 → ⊥) → (builtFrom t room .len ≡ 0) × (bufferFrom t room ≡ replicate room 0)
 
@@ -71,6 +81,10 @@ pub record Demand2 (t : List ℕ) : Type 0 where
   pub values : RefusedExactly
   -- the plain resolver gives direct resolution's signal
   pub plain-signal : (v : List ℕ) → refusalOf v ≡ 0 → tableRefusal t ≡ 0 → plainOf t v .signal ≡ directSignal t (urisOf v)
+  -- so does feeding several values one after another, over the URNs of the accepted ones in order
+  pub ends-direct : EndsDirect t
+  -- and it gives what the values joined by commas give
+  pub joined-alike : JoinedAlike t
   -- wherever the build succeeds, it has written the machine of the table
   pub image-written : (room : ℕ) → builtFrom t room .refusal ≡ 0 → take (builtFrom t room .len) (bufferFrom t room) ≡ machineImage (tableOf t)
   -- the checker accepts exactly the right machines

@@ -9,6 +9,7 @@ use lib.Dec.{ltb}
 use Rattle.alert_info.specs.Value.{Reading, unfit, spans, add, partOf, readingFrom}
 use Rattle.node_step.specs.Step.{stepNumbers}
 use Rattle.node_step.specs.Uses.{usesOf}
+use Rattle.node_step.specs.declared.State.{State}
 use Rattle.node_step.specs.declared.uses.Use.{Use}
 use Rattle.node_step.specs.declared.uses.Use.the-variants.{Skipped, Used}
 use Rattle.stored_table.specs.declared.Decoded.{Decoded}
@@ -70,6 +71,11 @@ runFrom t d m v p at = runOf p (over v (after t d m) p (readingFrom v at))
 abbrev pub signalNow : List ℕ → Current → ℕ
 signalNow im (Direct st) = st .signal
 signalNow im (Walk j) = signalIn im j
+
+-- the state of direct resolution where a resolver is; a walk has none, and its number stands for a signal there
+abbrev pub directIn : Current → State
+directIn (Direct st) = st
+directIn (Walk j) = record { signal = j; shut = 0 }
 
 -- the answer at the end of a value: 2 if it does not fit, 3 if it has over 64 entries
 unfoldable pub answerOf : Outcome → ℕ → Resolution

@@ -47,7 +47,7 @@ fn signal_in(image: &[u8], current: Current) -> u8
 }
 
 // The answer at the end of a value.
-fn answer(o: Outcome, signal: u8) -> Resolution
+pub(crate) fn answer(o: Outcome, signal: u8) -> Resolution
     requires { ⌜ o .progress .used + o .progress .skipped ≤ 4097 ⌝ }
     ensures { λ r. ⌜ r ≡ answerOf o signal ⌝ }
 {

@@ -1,7 +1,9 @@
-// Both resolvers for C: a table, an image and a value are each a pointer and a length.
+// The resolvers for C: a table, an image and a value are each a pointer and a length, a carried record is 10 bytes.
 use crate::Resolution;
 ghost use mathlib.Core.Path.{_≡_};
 ghost use Rattle.resolver.specs.Resolve.{plainOf, machineOf};
+ghost use Rattle.carried_record.specs.Record.{carriedIn, carriedBytes};
+ghost use Rattle.resolver.specs.Feed.{feedOf};
 
 // typedef struct { uint8_t refusal, signal, used, skipped; } alert_resolution;
 // alert_resolution resolve_plain(const uint8_t *table, size_t len, const uint8_t *value, size_t value_len);
@@ -19,4 +21,17 @@ pub extern "C" fn resolve_machine(t: &[u8], image: &[u8], v: &[u8]) -> Resolutio
     ensures { λ r. ⌜ r ≡ machineOf (now (t .entry)) (now (image .entry)) (now (v .entry)) ⌝ }
 {
     crate::machine(t, image, v)
+}
+
+// typedef struct { uint8_t signal, status[8], values; } alert_record;
+// alert_resolution resolve_feed(const uint8_t *table, size_t len, alert_record *record, const uint8_t *value, size_t value_len);
+// One value of a message that has several; the record is all zero before the first.
+#[no_mangle]
+pub extern "C" fn resolve_feed(t: &[u8], b: &mut [u8; 10], v: &[u8]) -> Resolution
+    ensures { λ r. ⌜ r ≡ feedOf (now (t .entry)) (carriedIn (now (b .entry))) (now (v .entry)) .answer ⌝ }
+    ensures { λ _. ⌜ now (b .exit) ≡ carriedBytes (feedOf (now (t .entry)) (carriedIn (now (b .entry))) (now (v .entry)) .carried) ⌝ }
+{
+    let f = crate::feed(t, carried_record::load(b), v);
+    carried_record::store(b, f.carried);
+    f.answer
 }

@@ -1,20 +1,24 @@
-// Both resolvers: which signal of a table an Alert-Info value asks for.
+// The resolvers: which signal of a table an Alert-Info value asks for, or several values of one message.
 //
 // In: a value, a table and an image, each any bytes. Out: a refusal number, or the signal with the numbers of used and
 // skipped entries.
 //
 //   run.rt      going through a value from entry to entry
 //   answer.rt   the answer at its end
-//   c.rt        both resolvers for C
+//   fields.rt   one value of a message that has several Alert-Info fields
+//   c.rt        all of it for C
 mod answer;
 mod c;
+mod fields;
 mod run;
 
 use crate::answer::refused;
 use crate::run::Current;
+use carried_record::Carried;
 use node_step::State;
 ghost use mathlib.Core.Path.{_≡_};
 ghost use Rattle.resolver.specs.Resolve.{plainOf, machineOf};
+ghost use Rattle.resolver.specs.Feed.{feedOf};
 
 // A refusal number, 0 if neither value nor table is refused; the signal; and how many entries were used and skipped.
 #[repr(C)]
@@ -23,6 +27,12 @@ pub struct Resolution {
     pub signal: u8,
     pub used: u8,
     pub skipped: u8,
+}
+
+// The answer to one value of several, and what is carried to the next.
+pub struct Fed {
+    pub answer: Resolution,
+    pub carried: Carried,
 }
 
 // The plain resolver: direct resolution of the value v with the table t.
@@ -72,4 +82,21 @@ pub fn machine(t: &[u8], image: &[u8], v: &[u8]) -> Resolution
     }
     let index = signal_table::symbols::index(&s.bytes, count);
     answer::resolved(t, d, &index, &s.bytes, count, image, Current::Walk(0), v)
+}
+
+// One value of a message that has several: direct resolution goes on from what is carried.
+pub fn feed(t: &[u8], carried: Carried, v: &[u8]) -> Fed
+    ensures { λ r. ⌜ r ≡ feedOf (now (t .entry)) carried (now (v .entry)) ⌝ }
+{
+    let d = stored_table::decode(t);
+    if d.refusal != 0 {
+        return fields::unchanged(d.refusal, carried);
+    }
+    if !carried_record::fits(d.signals, d.categories, carried) {
+        return fields::unchanged(28, carried);
+    }
+    if carried.values == 16 {
+        return fields::unchanged(19, carried);
+    }
+    fields::read_from(t, d, carried, v)
 }

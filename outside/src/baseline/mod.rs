@@ -5,7 +5,7 @@ mod table;
 mod urn;
 mod value;
 
-use crate::{Built, Match, Reader, Resolution, Resolvers, Tables};
+use crate::{Built, Match, Reader, Record, Resolution, Resolvers, Tables};
 
 pub struct Baseline;
 
@@ -64,5 +64,9 @@ impl Resolvers for Baseline {
 
     fn machine(table: &[u8], image: &[u8], value: &[u8]) -> Resolution {
         resolve::machine(table, image, value).unwrap_or_else(Resolution::refused)
+    }
+
+    fn feed(table: &[u8], record: &mut Record, value: &[u8]) -> Resolution {
+        resolve::feed(table, record, value).unwrap_or_else(Resolution::refused)
     }
 }

@@ -1,8 +1,8 @@
-//! The two resolvers.
+//! The resolvers.
 use super::machine::{rows, Symbols};
-use super::table::{Decoded, START};
+use super::table::{Decoded, State, START};
 use super::value::Uris;
-use crate::Resolution;
+use crate::{Record, Resolution, VALUES};
 
 pub fn plain(table: &[u8], value: &[u8]) -> Result<Resolution, u8> {
     let uris = Uris::read(value)?;
@@ -33,4 +33,41 @@ pub fn machine(table: &[u8], image: &[u8], value: &[u8]) -> Result<Resolution, u
         }
     }
     Ok(Resolution { refusal: 0, signal: rows[row], used, skipped: uris.count as u8 - used })
+}
+
+/// The state that a record carries, if it is one of the table.
+fn carried(table: &Decoded, record: &Record) -> Result<State, u8> {
+    if record.signal as usize >= table.signal_count || record.values > VALUES {
+        return Err(28);
+    }
+    let mut shut = 0;
+    for (c, &status) in record.status.iter().enumerate() {
+        if status > 1 || status == 1 && c >= table.category_count {
+            return Err(28);
+        }
+        shut |= status << c;
+    }
+    Ok(State { signal: record.signal, shut })
+}
+
+pub fn feed(table: &[u8], record: &mut Record, value: &[u8]) -> Result<Resolution, u8> {
+    let table = Decoded::read(table)?;
+    let mut state = carried(&table, record)?;
+    if record.values == VALUES {
+        return Err(19);
+    }
+    record.values += 1;
+    let uris = Uris::read(value)?;
+    let mut used = 0;
+    for uri in uris.iter(value) {
+        if let Some((category, node, whole)) = table.find(uri) {
+            state = table.step(state, category, node, whole);
+            used += 1;
+        }
+    }
+    record.signal = state.signal;
+    for (c, status) in record.status.iter_mut().enumerate() {
+        *status = state.shut >> c & 1;
+    }
+    Ok(Resolution { refusal: 0, signal: state.signal, used, skipped: uris.count as u8 - used })
 }

@@ -4,11 +4,11 @@
 //! The reference says what is right. A difference is printed as a line that crates/conformance/data could hold. At the
 //! end stands how often each function gave each refusal number; one that was never given is a failure.
 use outside::baseline::Baseline;
-use outside::cases::to_hex;
+use outside::cases::{show_record, to_hex};
 use outside::random::tables::{self, Limit};
-use outside::random::{images, values, Random};
+use outside::random::{images, records, values, Random};
 use outside::reference::Reference;
-use outside::{Built, Match, Reader, Resolution, Resolvers, Tables};
+use outside::{Built, Match, Reader, Record, Resolution, Resolvers, Tables};
 use std::collections::BTreeMap;
 use std::fmt::Debug;
 use std::process::exit;
@@ -21,7 +21,7 @@ use outside::ours::Ours;
 const LONGEST: usize = 33_667;
 
 /// Every function with the refusal numbers that it may give.
-const FUNCTIONS: [(&str, &[u8]); 10] = [
+const FUNCTIONS: [(&str, &[u8]); 11] = [
     ("alert_info_refusal", &[0, 1, 2, 3]),
     ("alert_info_entries", &[0, 1, 2, 3]),
     ("alert_info_entry", &[0, 1, 2, 3, 18]),
@@ -32,6 +32,7 @@ const FUNCTIONS: [(&str, &[u8]); 10] = [
     ("machine_check", &[0, 4, 5, 6, 7, 8, 9, 10, 11, 12, 15, 16, 17]),
     ("resolve_plain", &[0, 1, 2, 3, 4, 5, 6, 7, 8, 9, 10, 11, 12]),
     ("resolve_machine", &[0, 1, 2, 3, 4, 5, 6, 7, 8, 9, 10, 11, 12, 15]),
+    ("resolve_feed", &[0, 1, 2, 3, 4, 5, 6, 7, 8, 9, 10, 11, 12, 19, 28]),
 ];
 
 #[derive(Default)]
@@ -149,6 +150,13 @@ fn machine<I: Resolvers>(table: &[u8], image: &[u8], value: &[u8]) -> Resolution
     I::machine(table, image, value)
 }
 
+/// The answer with the record after it.
+fn feed<I: Resolvers>(table: &[u8], record: &Record, value: &[u8]) -> (Resolution, Record) {
+    let mut after = *record;
+    let answer = I::feed(table, &mut after, value);
+    (answer, after)
+}
+
 fn hold_value(tally: &mut Tally, random: &mut Random, value: &[u8]) {
     let refusal = Reference::value_refusal(value);
     let line = || format!("value {}", to_hex(value));
@@ -213,6 +221,36 @@ fn hold_resolvers(tally: &mut Tally, table: &[u8], image: &[u8], value: &[u8]) {
     tally.hold("resolve_machine", answers[0].1.refusal, &answers, line);
 }
 
+/// One value more. The reference's answer with the record after it.
+fn hold_feed(tally: &mut Tally, table: &[u8], record: &Record, value: &[u8]) -> (Resolution, Record) {
+    let answers = answers!("resolver", feed, table, record, value);
+    let line = || format!("feed {} {} {}", to_hex(table), show_record(record), to_hex(value));
+    tally.hold("resolve_feed", answers[0].1 .0.refusal, &answers, line);
+    answers[0].1
+}
+
+/// The values of one message, from a fresh record: where all are accepted and joined by commas keep the limits, the
+/// plain resolver gives the same for them joined, and the sums of their counts.
+fn hold_message(tally: &mut Tally, table: &[u8], message: &[Vec<u8>]) {
+    let mut record = Record::default();
+    let mut answers = Vec::new();
+    for value in message {
+        let (answer, after) = hold_feed(tally, table, &record, value);
+        answers.push(answer);
+        record = after;
+    }
+    let joined = message.join(&b',');
+    let end = Reference::plain(table, &joined);
+    if answers.iter().all(|answer| answer.refusal == 0) && ![1, 3].contains(&end.refusal) {
+        let used = answers.iter().map(|answer| answer.used).sum();
+        let skipped = answers.iter().map(|answer| answer.skipped).sum();
+        if end != (Resolution { refusal: 0, signal: record.signal, used, skipped }) {
+            println!("a message differs from its values joined: plain {} {}", to_hex(table), to_hex(&joined));
+            tally.wrong += 1;
+        }
+    }
+}
+
 /// The table's machine, or nothing if a build is refused.
 fn built(table: &[u8]) -> Option<Vec<u8>> {
     let (answer, mut buffer) = build::<Reference>(table, LONGEST);
@@ -241,6 +279,7 @@ fn round(tally: &mut Tally, random: &mut Random, other: &mut Vec<u8>) {
     for _ in 0..3 {
         hold_check(tally, &table, &images::image(random, &table, image));
     }
+    let mut message = Vec::new();
     for _ in 0..4 {
         let value = values::value(random, &draft);
         let image = images::image(random, &table, image);
@@ -248,7 +287,10 @@ fn round(tally: &mut Tally, random: &mut Random, other: &mut Vec<u8>) {
         hold_matches(tally, &table, &value);
         hold_resolvers(tally, &table, &image, &value);
         hold_agreement(tally, &table, &image, &value);
+        hold_feed(tally, &table, &records::record(random, &draft), &value);
+        message.push(value);
     }
+    hold_message(tally, &table, &message);
     if let Some(machine) = machine {
         *other = machine;
     }
@@ -309,6 +351,11 @@ fn every_byte(tally: &mut Tally, random: &mut Random) {
         hold_resolvers(tally, table, &image, value);
     }
     for byte in 0..=255 {
+        for at in 0..10 {
+            let mut bytes = [0; 10];
+            bytes[at] = byte;
+            hold_feed(tally, table, &records::of_bytes(bytes), value);
+        }
         for hole in HOLES {
             let value: Vec<u8> = hole.iter().map(|&b| if b == b'#' { byte } else { b }).collect();
             hold_value(tally, random, &value);

@@ -1,5 +1,6 @@
-//! Random values, tables and images, valid and damaged, short and at every limit.
+//! Random values, tables, images and records, valid and damaged, short and at every limit.
 pub mod images;
+pub mod records;
 pub mod tables;
 pub mod values;
 

@@ -1,12 +1,13 @@
 //! The rules of resolution in plain Rust, one file a section, as simple as possible and with no regard to speed.
 //! A path is a list of names, a signal a list of paths, a state a signal with a set of shut categories.
 pub mod direct;
+pub mod fields;
 pub mod machine;
 pub mod table;
 pub mod urn;
 pub mod value;
 
-use crate::{Built, Match, Reader, Resolution, Resolvers, Tables};
+use crate::{Built, Match, Reader, Record, Resolution, Resolvers, Tables};
 use table::Table;
 
 pub struct Reference;
@@ -65,5 +66,9 @@ impl Resolvers for Reference {
 
     fn machine(table: &[u8], image: &[u8], value: &[u8]) -> Resolution {
         machine::resolve(table, image, value).unwrap_or_else(Resolution::refused)
+    }
+
+    fn feed(table: &[u8], record: &mut Record, value: &[u8]) -> Resolution {
+        fields::feed(table, record, value).unwrap_or_else(Resolution::refused)
     }
 }

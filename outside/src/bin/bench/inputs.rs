@@ -13,6 +13,8 @@ pub struct Inputs {
     pub tables: Vec<(String, Bytes, Bytes)>,
     /// For each table, a value that it uses.
     used: Vec<Bytes>,
+    /// Three fields of one message.
+    fields: [Bytes; 3],
     /// Tables that are refused late, after as much comparing as we could think of.
     pub refused: Vec<(String, Bytes)>,
 }
@@ -126,7 +128,8 @@ impl Inputs {
             .to_vec();
         let deep = deep();
         refused.push((format!("{} bytes, refused with 11, 64 nodes", deep.len()), deep));
-        Inputs { values, tables, used, refused }
+        let fields = ["source:internal", "source:unclassified", "priority:high"].map(|name| urns(&[name], 1));
+        Inputs { values, tables, used, fields, refused }
     }
 
     /// Each table with its machine and a value that it uses.
@@ -138,5 +141,10 @@ impl Inputs {
             };
             (format!("{name}; {entries}"), table, image, value)
         })
+    }
+
+    /// The example tables with a message of three fields.
+    pub fn messages(&self) -> impl Iterator<Item = (String, &Bytes, &[Bytes; 3])> {
+        self.tables[..2].iter().map(|(name, table, _)| (format!("{name}; 3 fields"), table, &self.fields))
     }
 }

@@ -9,7 +9,7 @@ mod time;
 use inputs::Inputs;
 use outside::baseline::Baseline;
 use outside::reference::Reference;
-use outside::{Reader, Resolvers, Tables};
+use outside::{Reader, Record, Resolvers, Tables};
 use std::hint::black_box;
 
 #[cfg(any(feature = "alert_info", feature = "signal_table", feature = "resolver"))]
@@ -95,6 +95,18 @@ fn resolver_rows<'a>(inputs: &'a Inputs, rows: &mut Vec<Row<'a>>) {
     }
 }
 
+fn feed_rows<'a>(inputs: &'a Inputs, rows: &mut Vec<Row<'a>>) {
+    for (name, table, message) in inputs.messages() {
+        rows.push(row!("resolver", "resolve_feed", name, |I, _| {
+            let mut record = Record::default();
+            for value in message {
+                black_box(I::feed(black_box(table), &mut record, black_box(value)));
+            }
+            record
+        }));
+    }
+}
+
 fn print_times(rows: &[Row], runs: usize) {
     println!("| function | input | ours | baseline | ours / baseline |");
     println!("|---|---|---:|---:|---:|");
@@ -130,6 +142,7 @@ fn main() {
     reader_rows(&inputs, &mut rows);
     table_rows(&inputs, &mut rows);
     resolver_rows(&inputs, &mut rows);
+    feed_rows(&inputs, &mut rows);
     time::warm_up(&*rows[0].baseline);
     println!("## Time of one call, best of {runs} runs\n");
     print_times(&rows, runs);

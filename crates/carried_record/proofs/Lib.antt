@@ -1,0 +1,3 @@
+pub mod BitLaws
+pub mod FitLaws
+pub mod RecordLaws

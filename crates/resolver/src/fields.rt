@@ -1,0 +1,86 @@
+// One value of a message that has several: direct resolution goes on from what is carried.
+use crate::Fed;
+use crate::Resolution;
+use crate::answer::answer;
+use crate::answer::refused;
+use crate::run::Current;
+use crate::run::Progress;
+use carried_record::Carried;
+use node_step::State;
+use stored_table::Decoded;
+ghost use mathlib.Core.Path.{_≡_};
+ghost use Prim.Native.Nat.{_<_};
+ghost use lib.ListN.{length};
+ghost use Rattle.stored_table.specs.Tables.{tableRefusal, tableOf};
+ghost use Rattle.stored_table.specs.Decoded.{Means};
+ghost use Rattle.carried_record.specs.Record.{counted as countedOf};
+ghost use Rattle.carried_record.specs.Bits.{Fits};
+ghost use Rattle.resolver.specs.Feed.{unchanged as unchangedWith, readFrom};
+ghost use Rattle.resolver.specs.Run.{directIn};
+
+// The state of direct resolution where a resolver is.
+fn direct_in(current: Current) -> State
+    ensures { λ r. ⌜ r ≡ directIn current ⌝ }
+{
+    match current {
+        Current::Direct(st) => st,
+        Current::Walk(j) => State { signal: j, shut: 0 },
+    }
+}
+
+// A refused value changes nothing.
+pub(crate) fn unchanged(k: u8, carried: Carried) -> Fed
+    ensures { λ r. ⌜ r ≡ unchangedWith k carried ⌝ }
+{
+    let answer = refused(k);
+    Fed { answer, carried }
+}
+
+// A value refused with 1 to 3 is counted.
+fn counted(answer: Resolution, carried: Carried) -> Fed
+    requires { ⌜ carried .values < 16 ⌝ }
+    ensures { λ r. ⌜ r ≡ record { answer = answer; carried = countedOf carried } ⌝ }
+{
+    let values = carried.values + 1;
+    let kept = carried.status;
+    let next = Carried {
+        signal: carried.signal,
+        status: kept,
+        values,
+    };
+    Fed {
+        answer,
+        carried: next,
+    }
+}
+
+// One value more, from a record that fits the table and has room for it.
+pub(crate) fn read_from(t: &[u8], d: Decoded, carried: Carried, v: &[u8]) -> Fed
+    requires { ⌜ Means (now t) d × (tableRefusal (now t) ≡ 0) × Fits (tableOf (now t)) carried × (length (carried .status) ≡ 8) × (carried .values < 16) ⌝ }
+    ensures { λ r. ⌜ r ≡ readFrom (now (t .entry)) carried (now (v .entry)) ⌝ }
+{
+    if 4096 < v.len() {
+        return counted(refused(1), carried);
+    }
+    let start = carried_record::state(carried);
+    let from = Progress {
+        current: Current::Direct(start),
+        used: 0,
+        skipped: 0,
+    };
+    let no_index = [0u8; 136];
+    let no_symbols = [0u8; 384];
+    let o = crate::run::run(t, d, &no_index, &no_symbols, 0, t, from, v);
+    let p = o.progress;
+    let last = p.current;
+    let st = direct_in(last);
+    let a = answer(o, st.signal);
+    if a.refusal != 0 {
+        return counted(a, carried);
+    }
+    let next = carried_record::after(st, carried.values + 1);
+    Fed {
+        answer: a,
+        carried: next,
+    }
+}
