@@ -32,6 +32,7 @@ use Rattle.resolver.specs.Resolve.{takenAs, directSignal, walkedSignal, 
 use Rattle.resolver.specs.Demands.{WalkClaim, DemandOne, DemandTwo, DemandThree}
 use Rattle.resolver.proofs.TableLaws.{names-count}
 use Rattle.resolver.proofs.FoldLaws.{used-urn}
+use Rattle.resolver.proofs.RefusalLaws.{value-number, entry-number, table-number, plain-number, machine-number, build-number, check-number, entry-refused}
 
 -- an answer that is refused is refused as a whole, where the answer within is
 by-number : (t v : List ℕ) (r : Resolution) → ((r .refusal ≡ 0 → ⊥) → r ≡ refused (r .refusal))
@@ -63,7 +64,20 @@ build-refused : (t : List ℕ) (room : ℕ) → (builtFrom t room .refusal ≡ 0
 build-refused t room n = let r = refused-build t room n in (r .no-length, r .cleared)
 
 pub demand-one : DemandOne
-demand-one t = record { plain-refused = plain-refused t; machine-refused = machine-refused t; build-refused = build-refused t }
+demand-one t =
+    record {
+      value-number = value-number;
+      entry-number = entry-number;
+      table-number = table-number t;
+      plain-number = plain-number t;
+      machine-number = machine-number t;
+      build-number = build-number t;
+      check-number = check-number t;
+      entry-refused = entry-refused;
+      plain-refused = plain-refused t;
+      machine-refused = machine-refused t;
+      build-refused = build-refused t;
+    }
 
 plain-signal : (t v : List ℕ) → refusalOf v ≡ 0 → tableRefusal t ≡ 0 → plainOf t v .signal ≡ directSignal t (urisOf v)
 unfolding plainOf

@@ -4,5 +4,6 @@ pub mod FoldLaws
 pub mod AnswerLaws
 pub mod PlainLaws
 pub mod MachineLaws
+pub mod RefusalLaws
 pub mod DemandLaws
 pub mod Examples

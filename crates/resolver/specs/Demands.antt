@@ -1,11 +1,11 @@
 -- The three demands on the whole software, as claims.
 use Prim.Native.Nat.{ℕ, _≤_}
 use mathlib.Core.Path.{_≡_}
-use mathlib.Core.Logic.{_↔_}
-use mathlib.Core.List.{List, _++_}
+use mathlib.Core.Logic.{_↔_, _⊎_}
+use mathlib.Core.List.{List, [], _++_}
 use lib.ListN.{length, take, replicate}
 use Rattle.alert_info.specs.Claims.{RefusedExactly}
-use Rattle.alert_info.specs.Value.{refusalOf, urisOf}
+use Rattle.alert_info.specs.Value.{refusalOf, urisOf, entryOf, entryRefusalOf}
 use Rattle.resolution.specs.Names.{Parts}
 use Rattle.resolution.specs.Table.{mostParts}
 use Rattle.resolution.specs.Direct.{usedOf, usedCount, skippedCount, stepUri, changes}
@@ -19,9 +19,46 @@ use Rattle.signal_table.specs.Built.{builtFrom, bufferFrom, checkFrom}
 use Rattle.signal_table.specs.Claims.{RightImage}
 use Rattle.resolver.specs.Resolve.{takenAs, directSignal, walkedSignal, refused, plainOf, machineOf}
 
+-- a number from lo to hi
+abbrev pub Among : ℕ → ℕ → ℕ → Type 0
+Among lo hi n = (lo ≤ n) × (n ≤ hi)
+
+-- the numbers that may be given, 0 for accepted: by the question about a value, by that about an entry, by that about a table,
+-- by the plain resolver, by the machine resolver, by the builder and by the checker
+abbrev pub ValueNumber : ℕ → Type 0
+ValueNumber n = (n ≡ 0) ⊎ Among 1 3 n
+
+abbrev pub EntryNumber : ℕ → Type 0
+EntryNumber n = (n ≡ 0) ⊎ (Among 1 3 n ⊎ (n ≡ 18))
+
+abbrev pub TableNumber : ℕ → Type 0
+TableNumber n = (n ≡ 0) ⊎ Among 4 12 n
+
+abbrev pub PlainNumber : ℕ → Type 0
+PlainNumber n = (n ≡ 0) ⊎ Among 1 12 n
+
+abbrev pub MachineNumber : ℕ → Type 0
+MachineNumber n = (n ≡ 0) ⊎ (Among 1 12 n ⊎ (n ≡ 15))
+
+abbrev pub BuildNumber : ℕ → Type 0
+BuildNumber n = (n ≡ 0) ⊎ Among 4 14 n
+
+abbrev pub CheckNumber : ℕ → Type 0
+CheckNumber n = (n ≡ 0) ⊎ (Among 4 12 n ⊎ Among 15 17 n)
+
 -- Demand 1: bad input is refused by a number, and nothing else comes of it. That every function answers for all bytes, with no
 -- condition on the caller, is seen from the functions' contracts: none has a `requires`.
 pub record Demand1 (t : List ℕ) : Type 0 where
+  -- each answer is 0 or one of the numbers that are due there
+  pub value-number : (v : List ℕ) → ValueNumber (refusalOf v)
+  pub entry-number : (v : List ℕ) (k : ℕ) → EntryNumber (entryRefusalOf v k)
+  pub table-number : TableNumber (tableRefusal t)
+  pub plain-number : (v : List ℕ) → PlainNumber (plainOf t v .refusal)
+  pub machine-number : (im v : List ℕ) → MachineNumber (machineOf t im v .refusal)
+  pub build-number : (room : ℕ) → BuildNumber (builtFrom t room .refusal)
+  pub check-number : (im : List ℕ) → CheckNumber (checkFrom t im)
+  -- an entry is refused exactly if its part is empty
+  pub entry-refused : (v : List ℕ) (k : ℕ) → (entryRefusalOf v k ≡ 0 → ⊥) ↔ (entryOf v k ≡ [])
   -- a refused resolution is signal 0 with both counts 0
   pub plain-refused : (v : List ℕ) → (plainOf t v .refusal ≡ 0 → ⊥) → plainOf t v ≡ refused (plainOf t v .refusal)
   pub machine-refused : (im v : List ℕ) → (machineOf t im v .refusal ≡ 0 → ⊥) → machineOf t im v ≡ refused (machineOf t im v .refusal)
