@@ -1,6 +1,8 @@
 // Picks a ring from the command line: the libraries' answers, in plain words. Files are read up to 65,536 bytes, more
 // than the libraries take, so that a longer one is refused by its number.
 mod files;
+mod month;
+mod report;
 mod words;
 
 use libc::STDERR_FILENO;
@@ -11,9 +13,14 @@ fn usage(to: i32) {
     io::write_all(to, b"       alertinfo build TABLE MACHINE\n");
     io::write_all(to, b"       alertinfo check TABLE MACHINE\n");
     io::write_all(to, b"       alertinfo resolve TABLE VALUE [MACHINE]\n");
+    io::write_all(to, b"       alertinfo tally TABLE FILE\n");
     io::write_all(
         to,
         b"TABLE and MACHINE are files. VALUE is a file, or the value itself if it begins with '<'.\n",
+    );
+    io::write_all(
+        to,
+        b"FILE has one value a line; empty lines are no values.\n",
     );
     io::write_all(
         to,
@@ -129,6 +136,33 @@ fn resolve(by_machine: bool) {
     }
 }
 
+// The month of the values in a file, one a line.
+fn tally_file() {
+    let mut table = io::large_buffer();
+    let t = files::file(2, &mut table);
+    if !t.ok {
+        return;
+    }
+    let n = t.n;
+    let k = signal_table::refusal(&table[..n]);
+    if k != 0 {
+        words::refused(k);
+        return;
+    }
+    let fd = files::opened(3);
+    if fd < 0 {
+        return;
+    }
+    let r = month::of_file(fd, &table[..n]);
+    libc::close(fd);
+    if r.failed {
+        files::failed(3);
+        return;
+    }
+    let m = r.month;
+    report::month(m, tally::month::needed(&table[..n]));
+}
+
 fn main() {
     let n = os::arg_count();
     if files::is(1, b"entries") {
@@ -156,6 +190,12 @@ fn main() {
         }
         if n == 5 {
             resolve(true);
+            return;
+        }
+    }
+    if files::is(1, b"tally") {
+        if n == 4 {
+            tally_file();
             return;
         }
     }

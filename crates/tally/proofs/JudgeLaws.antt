@@ -8,11 +8,11 @@ use lib.Dec.{ltb, eqb}
 use lib.ListN.{length, getD, set}
 use borrow.Author.Tests.{lt-ltb, le-ltb, eq-eqb, ne-eqb, eqb-true, eqb-false}
 use Rattle.stored_table.specs.Tables.{tableRefusal, tableOf}
-use Rattle.stored_table.specs.Decoded.{Means, refusedTable}
+use Rattle.stored_table.specs.Decoded.{Means}
 use Rattle.stored_table.specs.declared.Decoded.{Decoded}
 use Rattle.resolver.specs.declared.Resolution.{Resolution}
 use Rattle.resolver.specs.Resolve.{refused, plainOf}
-use Rattle.tally.specs.Tally.{most, accepted, countTo, tooFew}
+use Rattle.tally.specs.Tally.{most, accepted, countTo, needed, tooFew}
 use Rattle.tally.specs.Steps.{fullCount, judgedOf, judgedCounts}
 
 -- what `counted` answers and leaves
@@ -44,15 +44,19 @@ pub few-counts : (t : List ℕ) (n m : ℕ) → m < 12 → tooFew t n m ≡ true
 unfolding tooFew
 few-counts t n m h = simp (lt-ltb m 12 h)
 
--- how many signals a decoded table has, none if it is refused
-module _ (t : List ℕ) (d : Decoded) (e : Means t d) (n m : ℕ) (enough : 12 ≤ m) where
-  by-table : (b : Bool) → eqb (tableRefusal t) 0 ≡ b → cond b (ltb n (length (tableOf t .signals))) false ≡ ltb n (d .signals)
-  by-table true q = ap (ltb n) (e .holds (eqb-true (tableRefusal t) 0 q) .numbers .all-signals)
-  by-table false q = sym (ap (λ (x : Decoded). ltb n (x .signals)) (e .refused (eqb-false (tableRefusal t) 0 q)) ∙ le-ltb n 0 (omega arith))
+-- a decoded table has as many signals as it needs records
+pub needed-is : (t : List ℕ) (d : Decoded) → Means t d → d .signals ≡ needed t
+unfolding needed
+needed-is t d e = by-table (eqb (tableRefusal t) 0) refl
+  where
+    by-table : (b : Bool) → eqb (tableRefusal t) 0 ≡ b → d .signals ≡ cond b (length (tableOf t .signals)) 0
+    by-table true q = sym (e .holds (eqb-true (tableRefusal t) 0 q) .numbers .all-signals)
+    by-table false q = ap (λ (x : Decoded). x .signals) (e .refused (eqb-false (tableRefusal t) 0 q))
 
+module _ (t : List ℕ) (d : Decoded) (e : Means t d) (n m : ℕ) (enough : 12 ≤ m) where
   few-is : tooFew t n m ≡ ltb n (d .signals)
   unfolding tooFew
-  few-is = simp (le-ltb m 12 enough) (by-table (eqb (tableRefusal t) 0) refl)
+  few-is = simp (le-ltb m 12 enough) (ap (ltb n) (sym (needed-is t d e)))
 
   pub few-records : n < d .signals → tooFew t n m ≡ true
   few-records h = few-is ∙ lt-ltb n (d .signals) h

@@ -13,7 +13,7 @@ use Rattle.resolver.specs.declared.Resolution.{Resolution}
 use Rattle.resolver.specs.Resolve.{refused, plainOf}
 use Rattle.tally.specs.declared.Tally.{Tally}
 use Rattle.tally.specs.declared.records.Added.{Added}
-use Rattle.tally.specs.Tally.{none, most, accepted, plus, fits, addTo, countTo, tooFew, full, gives20, answerOf, recordsOf, countsOf, Tallied, Stays}
+use Rattle.tally.specs.Tally.{none, most, accepted, plus, fits, addTo, countTo, needed, tooFew, full, gives20, answerOf, recordsOf, countsOf, Tallied, Stays}
 use Rattle.tally.specs.Steps.{fullCount, judgedOf, judgedCounts, placeOf, addedOf, answerAt, recordsAt}
 use Rattle.tally.proofs.ListLaws.{byTest, set-same}
 use Rattle.tally.proofs.PlusLaws.{place-accepted, place-refused, add-past, add-within}
@@ -49,15 +49,14 @@ full-refused l c r h = ap (λ (b : Bool). cond b (not (fits (plus (getD l (r .si
 
 -- with enough records there is one for each signal of a well-formed table, and with enough counts one for each number
 module _ (t : List ℕ) (n m : ℕ) (enough : tooFew t n m ≡ false) where
-  by-counts : (b : Bool) → ltb m 12 ≡ b → cond b true (cond (eqb (tableRefusal t) 0) (ltb n (length (tableOf t .signals))) false) ≡ false
-      → (12 ≤ m) × (cond (eqb (tableRefusal t) 0) (ltb n (length (tableOf t .signals))) false ≡ false)
-  by-counts true q e = let z : true ≡ false = e in absurd (no z)
+  by-counts : (b : Bool) → ltb m 12 ≡ b → cond b true (ltb n (needed t)) ≡ false → (12 ≤ m) × (needed t ≤ n)
+  by-counts true q e = absurd (no e)
     where
       no : true ≡ false → ⊥
       no z = let y : _≡_ {A = ℕ} 0 1 = ap (λ (b : Bool). cond b 0 1) z in omega (arith, y)
-  by-counts false q e = (ltb-false m 12 q, e)
+  by-counts false q e = (ltb-false m 12 q, ltb-false n (needed t) e)
 
-  both : (12 ≤ m) × (cond (eqb (tableRefusal t) 0) (ltb n (length (tableOf t .signals))) false ≡ false)
+  both : (12 ≤ m) × (needed t ≤ n)
   unfolding tooFew
   both = by-counts (ltb m 12) refl enough
 
@@ -65,7 +64,8 @@ module _ (t : List ℕ) (n m : ℕ) (enough : tooFew t n m ≡ false) where
   twelve = both .0
 
   pub for-each : tableRefusal t ≡ 0 → length (tableOf t .signals) ≤ n
-  for-each e = ltb-false n (length (tableOf t .signals)) (sym (ap (λ (b : Bool). cond b (ltb n (length (tableOf t .signals))) false) (eq-eqb (tableRefusal t) 0 e)) ∙ both .1)
+  unfolding needed
+  for-each e = subst (λ (b : Bool). cond b (length (tableOf t .signals)) 0 ≤ n) (eq-eqb (tableRefusal t) 0 e) (both .1)
 
 module _ (t : List ℕ) (l : List Tally) (c v : List ℕ) where
   abbrev p : Resolution

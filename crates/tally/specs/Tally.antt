@@ -38,9 +38,13 @@ addTo l r = cond (accepted r) (set l (r .signal) (plus (getD l (r .signal) none)
 unfoldable pub countTo : List ℕ → Resolution → List ℕ
 countTo c r = cond (accepted r) c (set c (r .refusal - 1) (getD c (r .refusal - 1) 0 + 1))
 
--- 20, whatever the value: fewer than 12 refusal counts, or fewer records than a well-formed table has signals
+-- how many records a table needs: one for each signal of a well-formed one
+unfoldable pub needed : List ℕ → ℕ
+needed t = cond (eqb (tableRefusal t) 0) (length (tableOf t .signals)) 0
+
+-- 20, whatever the value: fewer than 12 refusal counts, or fewer records than the table needs
 unfoldable pub tooFew : List ℕ → ℕ → ℕ → Bool
-tooFew t n m = cond (ltb m 12) true (cond (eqb (tableRefusal t) 0) (ltb n (length (tableOf t .signals))) false)
+tooFew t n m = cond (ltb m 12) true (ltb n (needed t))
 
 -- 20: a count that the resolution raises would pass the highest
 unfoldable pub full : List Tally → List ℕ → Resolution → Bool

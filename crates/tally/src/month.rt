@@ -7,12 +7,20 @@ use resolver::Resolution;
 ghost use mathlib.Core.Path.{_≡_};
 ghost use Prim.Native.Nat.{min};
 ghost use lib.ListN.{take};
-ghost use Rattle.tally.specs.Tally.{Tallied};
+ghost use Rattle.tally.specs.Tally.{needed as neededOf, Tallied};
 
 // The answer to a value, and the records after it. A well-formed table has at most 32 signals.
 pub struct Counted {
     pub answer: Resolution,
     pub records: [Tally; 32],
+}
+
+// How many records the table t needs: one for each signal if it is well-formed, else none.
+pub fn needed(t: &[u8]) -> usize
+    ensures { λ r. ⌜ r ≡ neededOf (now (t .entry)) ⌝ }
+{
+    let d = stored_table::decode(t);
+    d.signals
 }
 
 fn at_most(n: usize, most: usize) -> usize
