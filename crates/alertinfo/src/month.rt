@@ -1,7 +1,6 @@
 // The month of a file with one value a line: it is read piece by piece, and its values are tallied.
 //
 // A line ends with LF or CR LF, and a last line without an end counts. An empty line is no value.
-use libc::STDOUT_FILENO;
 use tally::Tally;
 ghost use Rattle.io.specs.Counts.{Counts};
 
@@ -14,7 +13,7 @@ pub struct Month {
 }
 
 // A read of a piece: the month after it, and whether the file goes on.
-pub struct Read {
+pub struct After {
     pub month: Month,
     pub more: bool,
     pub failed: bool,
@@ -162,18 +161,18 @@ fn piece(t: &[u8], month: Month, line: &mut [u8], bytes: &[u8]) -> Month {
 }
 
 // The next piece is read.
-fn read(fd: i32, t: &[u8], month: Month, line: &mut [u8]) -> Read {
+fn read(fd: i32, t: &[u8], month: Month, line: &mut [u8]) -> After {
     let mut buf = io::large_buffer();
     let got = libc::read(fd, &mut buf);
     if got < 0 {
-        return Read {
+        return After {
             month,
             more: false,
             failed: true,
         };
     }
     if got == 0 {
-        return Read {
+        return After {
             month,
             more: false,
             failed: false,
@@ -181,7 +180,7 @@ fn read(fd: i32, t: &[u8], month: Month, line: &mut [u8]) -> Read {
     }
     let n = io::count(got, &buf);
     let after = piece(t, month, line, &buf[..n]);
-    Read {
+    After {
         month: after,
         more: true,
         failed: false,
@@ -189,8 +188,8 @@ fn read(fd: i32, t: &[u8], month: Month, line: &mut [u8]) -> Read {
 }
 
 // The whole file. The loop counts down from a number of pieces that no file has, since nothing says that a file ends.
-fn read_all(fd: i32, t: &[u8], line: &mut [u8]) -> Read {
-    let mut now = Read {
+fn read_all(fd: i32, t: &[u8], line: &mut [u8]) -> After {
+    let mut now = After {
         month: cleared(),
         more: true,
         failed: false,
@@ -208,12 +207,12 @@ fn read_all(fd: i32, t: &[u8], line: &mut [u8]) -> Read {
 }
 
 // The month of the values in the file, and whether it could be read to its end.
-pub fn of_file(fd: i32, t: &[u8]) -> Read {
+pub fn of_file(fd: i32, t: &[u8]) -> After {
     let mut line = [0u8; 4098];
     let r = read_all(fd, t, &mut line);
     let month = r.month;
     let after = end(t, month, &line);
-    Read {
+    After {
         month: after,
         more: false,
         failed: r.failed,
