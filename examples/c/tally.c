@@ -65,11 +65,11 @@ int main(int count, char **words)
     }
     for (k = 0; k < TALLY_RECORDS; k++)
         if (records[k].chosen != 0)
-            printf("ring %u: %lu times, %lu used, %lu skipped\n", k, (unsigned long)records[k].chosen,
+            printf("ring %u: chosen %lu, used %lu, skipped %lu\n", k, (unsigned long)records[k].chosen,
                    (unsigned long)records[k].used, (unsigned long)records[k].skipped);
     for (k = 0; k < TALLY_REFUSALS; k++)
         if (refusals[k] != 0)
-            printf("refused with %u: %lu times\n", k + 1, (unsigned long)refusals[k]);
-    printf("%lu calls\n", calls);
+            printf("refused with %u: %lu\n", k + 1, (unsigned long)refusals[k]);
+    printf("calls: %lu\n", calls);
     return 0;
 }

@@ -4,7 +4,7 @@ use crate::print;
 use tally::Tally;
 
 // At most 32 records.
-struct Records {
+struct Sheet {
     items: [Tally; 32],
     n: usize,
 }
@@ -47,31 +47,31 @@ fn record(word: &[u8]) -> Tally {
 }
 
 // One record more.
-fn with(r: Records, x: Tally) -> Records {
+fn with(r: Sheet, x: Tally) -> Sheet {
     let n = r.n;
     let items = r.items;
     if 32 <= n {
-        return Records { items, n };
+        return Sheet { items, n };
     }
     let mut after = items;
     after[n] = x;
-    Records {
+    Sheet {
         items: after,
         n: n + 1,
     }
 }
 
-fn none() -> Records {
+fn none() -> Sheet {
     let zero = Tally {
         chosen: 0,
         used: 0,
         skipped: 0,
     };
     let items = [zero; 32];
-    Records { items, n: 0 }
+    Sheet { items, n: 0 }
 }
 
-fn records(text: &[u8]) -> Records {
+fn records(text: &[u8]) -> Sheet {
     let mut r = none();
     if cases::first(text) == b'-' {
         return r;
@@ -155,7 +155,7 @@ fn print_counts(counts: &[u32]) {
     }
 }
 
-fn answer(t: &[u8], r: Records, counts: &mut [u32], v: &[u8]) {
+fn answer(t: &[u8], r: Sheet, counts: &mut [u32], v: &[u8]) {
     let n = r.n;
     let items = r.items;
     let c = tally::month::value(t, items, n, counts, v);

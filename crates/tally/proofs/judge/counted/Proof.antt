@@ -4,55 +4,40 @@ use Rattle.tally.proofs.JudgeLaws.{counts-accepted, counts-full, counts
 use borrow.Author.Needs.{needs}
 use Rattle.tally.proofs.judge.counted.Statement.{statement}
 use Rattle.tally.proofs.judge.counted.Tie as tie
-use Rattle.tally.proofs.judge.counted.Reads as reads
-use Rattle.tally.proofs.judge.counted.Lts as lts
-use Rattle.tally.proofs.judge.uncounted.Reads as uncounted-reads
 
--- src/judge.rt:32:9
 returns : tie.Need-returns
 returns c = counts-accepted _ _ (c .if1 .taken)
 
--- src/judge.rt:34:17
 cast-place : tie.Need-cast-place
 cast-place c = search needs
 
--- src/judge.rt:34:17
 sub-place : tie.Need-sub-place
 sub-place c = search needs
 
--- src/judge.rt:35:18
 mul-before : tie.Need-mul-before
 mul-before c = search needs
 
--- src/judge.rt:35:18
 slice-read-before : tie.Need-slice-read-before
 slice-read-before c = search needs
 
--- src/judge.rt:37:9
 uncounted-requires : tie.Need-uncounted-requires
 uncounted-requires c κs = search needs
 
--- src/judge.rt:37:9
 returns-2 : tie.Need-returns-2
 returns-2 c = counts-full _ _ (c .before .before .before .before .if1 .left) _ (c .uncounted .ensures) (c .before .if2 .taken)
 
--- src/judge.rt:39:23
 add-refusals : tie.Need-add-refusals
 add-refusals c = omega (arith, c .before .slice-known2 .given (c .before .before .before .before .before .before .args .r .refusal - 1))
 
--- src/judge.rt:39:5
 mul-refusals : tie.Need-mul-refusals
 mul-refusals c = search needs
 
--- src/judge.rt:39:5
 slice-write-refusals : tie.Need-slice-write-refusals
 slice-write-refusals c = search needs
 
--- src/judge.rt:24:1
 same-length : tie.Need-same-length
 same-length c = search needs
 
--- src/judge.rt:24:1
 returns-3 : tie.Need-returns-3
 returns-3 c = counts-one _ _ (c .before .before .before .if1 .left) (omega (arith, c .before .slice-known2 .given (c .before .before .before .before .before .before .args .r .refusal - 1), c .if2 .left))
 

@@ -2,15 +2,10 @@ use Rattle.tally.proofs.JudgeLaws.{needed-is}
 use borrow.Author.Needs.{needs}
 use Rattle.tally.proofs.month.needed.Statement.{statement}
 use Rattle.tally.proofs.month.needed.Tie as tie
-use Rattle.tally.proofs.month.needed.Reads as reads
-use Rattle.tally.proofs.month.needed.Lts as lts
-use Rattle.stored_table.proofs.decode.Reads as decode-reads
 
--- src/month.rt:22:9
 decode-requires : tie.Need-decode-requires
 decode-requires c κs = search needs
 
--- src/month.rt:19:1
 returns : tie.Need-returns
 returns c = needed-is _ _ (c .decode .ensures)
 

@@ -2,18 +2,13 @@ use Rattle.tally.proofs.PlusLaws.{place-accepted, place-refused}
 use borrow.Author.Needs.{needs}
 use Rattle.tally.proofs.records.place.Statement.{statement}
 use Rattle.tally.proofs.records.place.Tie as tie
-use Rattle.tally.proofs.records.place.Reads as reads
-use Rattle.tally.proofs.records.place.Lts as lts
 
--- src/records.rt:20:16
 cast-result : tie.Need-cast-result
 cast-result c = search needs
 
--- src/records.rt:20:9
 returns : tie.Need-returns
 returns c = place-accepted _ _ (c .before .if1 .taken)
 
--- src/records.rt:16:1
 returns-2 : tie.Need-returns-2
 returns-2 c = place-refused _ _ (c .if1 .left)
 

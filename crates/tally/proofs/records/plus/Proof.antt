@@ -3,63 +3,46 @@ use Rattle.tally.proofs.PlusLaws.{fits-all, chosen-full, used-full, ski
 use borrow.Author.Needs.{needs}
 use Rattle.tally.proofs.records.plus.Statement.{statement}
 use Rattle.tally.proofs.records.plus.Tie as tie
-use Rattle.tally.proofs.records.plus.Reads as reads
-use Rattle.tally.proofs.records.plus.Lts as lts
-use Rattle.tally.proofs.judge.uncounted.Reads as uncounted-reads
 
--- src/records.rt:29:16
 cast-used : tie.Need-cast-used
 cast-used c = search needs
 
--- src/records.rt:30:19
 cast-skipped : tie.Need-cast-skipped
 cast-skipped c = search needs
 
--- src/records.rt:33:21
 uncounted-requires : tie.Need-uncounted-requires
 uncounted-requires c κs = search needs
 
--- src/records.rt:32:9
 returns : tie.Need-returns
 returns c = added-no _ _ _ (c .uncounted .ensures) (chosen-full (c .before .before .before .before .before .args .x) (c .before .before .before .before .before .args .r) (c .before .if1 .taken))
 
--- src/records.rt:37:8
 sub-if2 : tie.Need-sub-if2
 sub-if2 c = search needs
 
--- src/records.rt:39:21
 uncounted-requires-2 : tie.Need-uncounted-requires-2
 uncounted-requires-2 c κs = search needs
 
--- src/records.rt:38:9
 returns-2 : tie.Need-returns-2
 returns-2 c = added-no _ _ _ (c .uncounted2 .ensures) (used-full (c .before .before .before .before .before .before .before .args .x) (c .before .before .before .before .before .before .before .args .r) (c .before .if2 .taken))
 
--- src/records.rt:43:8
 sub-if3 : tie.Need-sub-if3
 sub-if3 c = search needs
 
--- src/records.rt:45:21
 uncounted-requires-3 : tie.Need-uncounted-requires-3
 uncounted-requires-3 c κs = search needs
 
--- src/records.rt:44:9
 returns-3 : tie.Need-returns-3
 returns-3 c = added-no _ _ _ (c .uncounted3 .ensures) (skipped-full (c .before .before .before .before .before .before .before .before .before .args .x) (c .before .before .before .before .before .before .before .before .before .args .r) (c .before .if3 .taken))
 
--- src/records.rt:50:17
 add-t8 : tie.Need-add-t8
 add-t8 c = search needs
 
--- src/records.rt:51:15
 add-t11 : tie.Need-add-t11
 add-t11 c = search needs
 
--- src/records.rt:52:18
 add-t12 : tie.Need-add-t12
 add-t12 c = search needs
 
--- src/records.rt:26:1
 returns-4 : tie.Need-returns-4
 returns-4 c = added-yes _ _ (fits-all _ (omega (arith, add-t8 (c .before .before) .fits)) (omega (arith, add-t11 (c .before) .fits)) (omega (arith, add-t12 c .fits)))
 
