@@ -163,6 +163,23 @@ fn tally_file() {
     report::month(m, tally::month::needed(&table[..n]));
 }
 
+// The commands on a table and a file that is no value; whether it was one of them.
+fn table_and_file() -> bool {
+    if files::is(1, b"build") {
+        build();
+        return true;
+    }
+    if files::is(1, b"check") {
+        check();
+        return true;
+    }
+    if files::is(1, b"tally") {
+        tally_file();
+        return true;
+    }
+    false
+}
+
 fn main() {
     let n = os::arg_count();
     if files::is(1, b"entries") {
@@ -171,15 +188,8 @@ fn main() {
             return;
         }
     }
-    if files::is(1, b"build") {
-        if n == 4 {
-            build();
-            return;
-        }
-    }
-    if files::is(1, b"check") {
-        if n == 4 {
-            check();
+    if n == 4 {
+        if table_and_file() {
             return;
         }
     }
@@ -190,12 +200,6 @@ fn main() {
         }
         if n == 5 {
             resolve(true);
-            return;
-        }
-    }
-    if files::is(1, b"tally") {
-        if n == 4 {
-            tally_file();
             return;
         }
     }

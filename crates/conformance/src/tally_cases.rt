@@ -143,14 +143,18 @@ fn print_records(items: [Tally; 32], n: usize) {
     }
 }
 
+fn print_count(x: u32, i: usize) {
+    between(i);
+    print::number(x as usize);
+}
+
 fn print_counts(counts: &[u32]) {
     if counts.len() == 0 {
         print::text(b" -");
     }
     let mut i = 0;
     while i < counts.len() {
-        between(i);
-        print::number(counts[i] as usize);
+        print_count(counts[i], i);
         i += 1;
     }
 }

@@ -76,5 +76,7 @@ pub judges-plain : (t : List ℕ) (n : ℕ) (c v : List ℕ) (r a : Resolution) 
 unfolding judgedOf judgedCounts
 judges-plain t n c v r a c′ h e k =
     subst (λ (z : Resolution). Counts c z a c′ → Judges t n c v a c′) (sym e)
-    (λ q. (q .0 ∙ sym (ap (λ (b : Bool). cond b (refused 20) (cond (fullCount c (plainOf t v)) (refused 20) (plainOf t v))) h),
-    q .1 ∙ sym (ap (λ (b : Bool). cond b c (cond (fullCount c (plainOf t v)) c (countTo c (plainOf t v)))) h))) k
+    (λ q. (
+      q .0 ∙ sym (ap (λ (b : Bool). cond b (refused 20) (cond (fullCount c (plainOf t v)) (refused 20) (plainOf t v))) h),
+      q .1 ∙ sym (ap (λ (b : Bool). cond b c (cond (fullCount c (plainOf t v)) c (countTo c (plainOf t v)))) h),
+    )) k

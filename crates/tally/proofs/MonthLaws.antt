@@ -47,13 +47,15 @@ module _ (r : Resolution) where
     chosen-record e = λ i. record {
       chosen = (sum-last (choice (r .signal)) rs r ∙ ap (λ (n : ℕ). sumOf (choice (r .signal)) rs + n) (adds e 1)) i;
       used = (sum-last (usedFor (r .signal)) rs r ∙ ap (λ (n : ℕ). sumOf (usedFor (r .signal)) rs + n) (adds e (r .used))) i;
-      skipped = (sum-last (skippedFor (r .signal)) rs r ∙ ap (λ (n : ℕ). sumOf (skippedFor (r .signal)) rs + n) (adds e (r .skipped))) i }
+      skipped = (sum-last (skippedFor (r .signal)) rs r ∙ ap (λ (n : ℕ). sumOf (skippedFor (r .signal)) rs + n) (adds e (r .skipped))) i;
+    }
 
     same-record : (s : ℕ) → ((n : ℕ) → ifChosen s r n ≡ 0) → recordIn s (rs ++ r ∷ []) ≡ recordIn s rs
     same-record s z = λ i. record {
       chosen = (sum-last (choice s) rs r ∙ nothing (sumOf (choice s) rs) (z 1)) i;
       used = (sum-last (usedFor s) rs r ∙ nothing (sumOf (usedFor s) rs) (z (r .used))) i;
-      skipped = (sum-last (skippedFor s) rs r ∙ nothing (sumOf (skippedFor s) rs) (z (r .skipped))) i }
+      skipped = (sum-last (skippedFor s) rs r ∙ nothing (sumOf (skippedFor s) rs) (z (r .skipped))) i;
+    }
       where
         nothing : (a : ℕ) {b : ℕ} → b ≡ 0 → a + b ≡ a
         nothing a e = omega (arith, e)
@@ -102,7 +104,8 @@ holds-cleared t n m = record {
       (sum-zero (countAt (replicate m 0)) 12 (λ i. getD-all {A = ℕ} m i 0));
   in-range = λ s. ap fits (getD-all n s none);
   counts-in-range = λ i. let z = getD-all {A = ℕ} m i 0 in omega (arith, z);
-  past = λ i h. getD-all {A = ℕ} m i 0 }
+  past = λ i h. getD-all {A = ℕ} m i 0;
+}
 
 -- one value more
 module _ (t : List ℕ) (n m : ℕ) (ks : List (List ℕ)) (x : Lent) (h : Holds t n m ks x) (v : List ℕ) where
@@ -167,6 +170,7 @@ module _ (t : List ℕ) (n m : ℕ) (ks : List (List ℕ)) (x : Lent) (h : Holds
       where
         no : false ≡ true → ⊥
         no z = let y : _≡_ {A = ℕ} 1 0 = ap (λ (b : Bool). cond b 0 1) z in omega (arith, y)
+
         go : (b : Bool) → tooFew t n m ≡ b → not b && within p (alone t (ks ++ v ∷ [])) ≡ true → (tooFew t n m ≡ false) × (within p (rs ++ p ∷ []) ≡ true)
         go true e w = absurd (no w)
         go false e w = (e, ap (within p) (sym (alone-last t ks v)) ∙ w)
@@ -220,7 +224,8 @@ module _ (t : List ℕ) (n m : ℕ) (ks : List (List ℕ)) (x : Lent) (h : Holds
             ∙ omega (arith, more-chosen, h .together, counted-one);
         in-range = range-at;
         counts-in-range = h .counts-in-range;
-        past = h .past }
+        past = h .past;
+      }
 
     -- a refused one
     module _ (z : p .refusal ≡ 0 → ⊥) where
@@ -279,7 +284,8 @@ module _ (t : List ℕ) (n m : ℕ) (ks : List (List ℕ)) (x : Lent) (h : Holds
         together = omega (arith, more-counted, h .together, counted-one);
         in-range = h .in-range;
         counts-in-range = range-count;
-        past = λ i w. apart i (λ y. omega (arith, w, y, plain-few t v, one)) ∙ h .past i w }
+        past = λ i w. apart i (λ y. omega (arith, w, y, plain-few t v, one)) ∙ h .past i w;
+      }
 
     holds-more : Holds t n m (ks ++ v ∷ []) (after t x v)
     holds-more =

@@ -38,13 +38,16 @@ plain-accepted t v = λ e. record { formed = both e .0; listed = both e .1 }
   where
     Claim : Resolution → Type 0
     Claim r = r .refusal ≡ 0 → (tableRefusal t ≡ 0) × (r .signal < length (tableOf t .signals))
+
     table : (b : Bool) → eqb (tableRefusal t) 0 ≡ b → Claim (cond b (answered t (urisOf v) (directSignal t (urisOf v))) (refused (tableRefusal t)))
     table true q e = let z = eqb-true (tableRefusal t) 0 q in (z, signal-below (tableOf t) (stored.accepted t z .well) (usedOf (takenAs t (urisOf v))))
     table false q e = absurd (eqb-false (tableRefusal t) 0 q e)
+
     value : (b : Bool) → eqb (refusalOf v) 0 ≡ b
         → Claim (cond b (cond (eqb (tableRefusal t) 0) (answered t (urisOf v) (directSignal t (urisOf v))) (refused (tableRefusal t))) (refused (refusalOf v)))
     value true q = table (eqb (tableRefusal t) 0) refl
     value false q = λ e. absurd (eqb-false (refusalOf v) 0 q e)
+
     both : Claim (plainOf t v)
     both = value (eqb (refusalOf v) 0) refl
 

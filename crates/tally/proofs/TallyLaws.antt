@@ -222,6 +222,7 @@ module _ (t : List ℕ) (l : List Tally) (c v : List ℕ) where
     where
       other : (k i : ℕ) → (k ≡ 0 → ⊥) → (i + 1 ≡ k → ⊥) → i ≡ k - 1 → ⊥
       other k i h z e = z (omega arith)
+
       past : (k i : ℕ) → (k ≡ 0 → ⊥) → k ≤ 12 → 12 ≤ i → i ≡ k - 1 → ⊥
       past k i h a b e = omega arith
 

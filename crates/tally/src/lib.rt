@@ -28,7 +28,12 @@ pub struct Tally {
 // alert_resolution tally_value(const uint8_t *table, size_t len, alert_tally *records, size_t n,
 //                              uint32_t *refusals, size_t m, const uint8_t *value, size_t value_len);
 #[no_mangle]
-pub extern "C" fn tally_value(t: &[u8], records: &mut [Tally], refusals: &mut [u32], v: &[u8]) -> Resolution
+pub extern "C" fn tally_value(
+    t: &[u8],
+    records: &mut [Tally],
+    refusals: &mut [u32],
+    v: &[u8],
+) -> Resolution
     ensures { λ r. ⌜ Tallied (now (t .entry)) (now (records .entry)) (now (refusals .entry)) (now (v .entry)) r (now (records .exit)) (now (refusals .exit)) ⌝ }
 {
     let r = judge::judge(t, records.len(), refusals, v);
