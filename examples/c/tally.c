@@ -7,6 +7,7 @@
 #include <stdio.h>
 #include <string.h>
 
+#include "read_file.h"
 #include "tally.h"
 
 /* Room for the longest table and one byte more, so that a longer one is seen as such; and for a line that is longer
@@ -15,20 +16,6 @@ static uint8_t table[8192 + 1];
 static char line[4096 + 4];
 static alert_tally records[TALLY_RECORDS];
 static uint32_t refusals[TALLY_REFUSALS];
-
-/* Reads at most `room` bytes of the file. The number of bytes, or -1 if the file cannot be read. */
-static long read_file(const char *name, uint8_t *bytes, size_t room)
-{
-    FILE *file = fopen(name, "rb");
-    size_t length;
-    int failed;
-    if (file == NULL)
-        return -1;
-    length = fread(bytes, 1, room, file);
-    failed = ferror(file);
-    fclose(file);
-    return failed ? -1 : (long)length;
-}
 
 /* The number of bytes without the line's end. */
 static size_t without_end(const char *text)
