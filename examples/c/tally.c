@@ -23,6 +23,19 @@ static size_t without_end(const char *text)
     return strcspn(text, "\r\n");
 }
 
+/* The next line, of which at most the buffer's length is kept: whether there was one. */
+static int next_line(void)
+{
+    int c;
+    if (fgets(line, sizeof line, stdin) == NULL)
+        return 0;
+    if (strchr(line, '\n') == NULL)
+        do
+            c = getchar();
+        while (c != '\n' && c != EOF);
+    return 1;
+}
+
 int main(int count, char **words)
 {
     long length;
@@ -37,7 +50,7 @@ int main(int count, char **words)
         fprintf(stderr, "tally: %s cannot be read\n", words[1]);
         return 2;
     }
-    while (fgets(line, sizeof line, stdin) != NULL) {
+    while (next_line()) {
         size_t value_len = without_end(line);
         alert_resolution answer;
         if (value_len == 0)
