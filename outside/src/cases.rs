@@ -17,7 +17,15 @@ use std::path::{Path, PathBuf};
 
 /// One file for each command, and the draft's worked examples.
 pub const FILES: [&str; 9] = [
-    "value.txt", "entry.txt", "table.txt", "build.txt", "check.txt", "plain.txt", "walk.txt", "draft.txt", "tally.txt",
+    "value.txt",
+    "entry.txt",
+    "table.txt",
+    "build.txt",
+    "check.txt",
+    "plain.txt",
+    "walk.txt",
+    "draft.txt",
+    "tally.txt",
 ];
 
 /// Where the cases are.
@@ -168,7 +176,11 @@ pub fn show_counts(counts: &[u32]) -> String {
 
 fn show(words: impl Iterator<Item = String>) -> String {
     let text = words.collect::<Vec<_>>().join(";");
-    if text.is_empty() { "-".to_string() } else { text }
+    if text.is_empty() {
+        "-".to_string()
+    } else {
+        text
+    }
 }
 
 /// The numbers of a word, with this mark between them; none for `-`.

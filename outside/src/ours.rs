@@ -1,12 +1,12 @@
 //! The proved libraries behind safe functions. The declarations are those of include/*.h.
 #[cfg(feature = "alert_info")]
 use crate::Reader;
-#[cfg(feature = "signal_table")]
-use crate::{Built, Tables};
 #[cfg(any(feature = "resolver", feature = "tally"))]
 use crate::Resolution;
 #[cfg(feature = "resolver")]
 use crate::Resolvers;
+#[cfg(feature = "signal_table")]
+use crate::{Built, Tables};
 #[cfg(feature = "tally")]
 use crate::{Tallies, Tally};
 

@@ -175,9 +175,8 @@ fn hold_tally(tally: &mut Tally, random: &mut Random, table: &[u8], value: &[u8]
         _ => signals + random.below(3),
     };
     let m = if random.below(8) == 0 { random.below(12) } else { 12 + random.below(3) };
-    let records: Vec<Record> = (0..n)
-        .map(|_| Record { chosen: count(random), used: count(random), skipped: count(random) })
-        .collect();
+    let records: Vec<Record> =
+        (0..n).map(|_| Record { chosen: count(random), used: count(random), skipped: count(random) }).collect();
     let refusals: Vec<u32> = (0..m).map(|_| count(random)).collect();
     let answers = answers!("tally", tally_value, table, &records, &refusals, value);
     let line =
