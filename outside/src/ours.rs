@@ -1,10 +1,14 @@
 //! The proved libraries behind safe functions. The declarations are those of include/*.h.
 #[cfg(feature = "alert_info")]
 use crate::Reader;
+#[cfg(any(feature = "resolver", feature = "tally"))]
+use crate::Resolution;
+#[cfg(feature = "resolver")]
+use crate::Resolvers;
 #[cfg(feature = "signal_table")]
 use crate::{Built, Match, Tables};
-#[cfg(feature = "resolver")]
-use crate::{Resolution, Resolvers};
+#[cfg(feature = "tally")]
+use crate::{Tallies, Tally};
 
 pub struct Ours;
 
@@ -41,6 +45,20 @@ extern "C" {
         len: usize,
         image: *const u8,
         image_len: usize,
+        value: *const u8,
+        value_len: usize,
+    ) -> Resolution;
+}
+
+#[cfg(feature = "tally")]
+extern "C" {
+    fn tally_value(
+        table: *const u8,
+        len: usize,
+        records: *mut Tally,
+        n: usize,
+        refusals: *mut u32,
+        m: usize,
         value: *const u8,
         value_len: usize,
     ) -> Resolution;
@@ -97,6 +115,24 @@ impl Resolvers for Ours {
     fn machine(table: &[u8], image: &[u8], value: &[u8]) -> Resolution {
         unsafe {
             resolve_machine(table.as_ptr(), table.len(), image.as_ptr(), image.len(), value.as_ptr(), value.len())
+        }
+    }
+}
+
+#[cfg(feature = "tally")]
+impl Tallies for Ours {
+    fn tally_value(table: &[u8], records: &mut [Tally], refusals: &mut [u32], value: &[u8]) -> Resolution {
+        unsafe {
+            tally_value(
+                table.as_ptr(),
+                table.len(),
+                records.as_mut_ptr(),
+                records.len(),
+                refusals.as_mut_ptr(),
+                refusals.len(),
+                value.as_ptr(),
+                value.len(),
+            )
         }
     }
 }

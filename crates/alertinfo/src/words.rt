@@ -20,6 +20,12 @@ pub fn counted(n: u64, one: &[u8], many: &[u8]) {
 pub fn refused(k: u8) {
     io::write_all(STDOUT_FILENO, b"refused ");
     count(k as u64, b": ");
+    reason(k);
+    io::write_all(STDOUT_FILENO, b"\n");
+}
+
+// What a refusal number says.
+pub fn reason(k: u8) {
     if k <= 3 {
         of_value(k);
     } else if k <= 12 {
@@ -27,7 +33,6 @@ pub fn refused(k: u8) {
     } else {
         of_machine(k);
     }
-    io::write_all(STDOUT_FILENO, b"\n");
 }
 
 fn of_value(k: u8) {

@@ -2,6 +2,17 @@
 // after the equals sign is not read here. Lines that begin with `#`, and empty ones, are no cases.
 mod commands;
 mod print;
+mod tally_cases;
+
+// `table` and `tally` begin alike.
+fn table_or_tally(line: &[u8]) {
+    let third = cases::first(cases::after(line, b'a'));
+    if third == b'l' {
+        tally_cases::tally(line);
+        return;
+    }
+    commands::table(line);
+}
 
 // The answer to one line.
 fn answer(line: &[u8]) {
@@ -9,7 +20,7 @@ fn answer(line: &[u8]) {
     match c {
         b'v' => commands::value(line),
         b'e' => commands::entry(line),
-        b't' => commands::table(line),
+        b't' => table_or_tally(line),
         b'p' => commands::plain(line),
         b'b' => commands::build(line),
         b'c' => commands::check(line),
@@ -54,4 +65,5 @@ fn main() {
     answer_file(b"match.txt");
     answer_file(b"draft.txt");
     answer_file(b"folded.txt");
+    answer_file(b"tally.txt");
 }

@@ -4,17 +4,17 @@
 //! The reference says what is right. A difference is printed as a line that crates/conformance/data could hold. At the
 //! end stands how often each function gave each refusal number; one that was never given is a failure.
 use outside::baseline::Baseline;
-use outside::cases::to_hex;
+use outside::cases::{show_counts, show_records, to_hex};
 use outside::random::tables::{self, Limit};
 use outside::random::{images, values, Random};
 use outside::reference::Reference;
-use outside::{Built, Match, Reader, Resolution, Resolvers, Tables};
+use outside::{Built, Match, Reader, Resolution, Resolvers, Tables, Tallies, Tally as Record};
 use std::collections::BTreeMap;
 use std::fmt::Debug;
 use std::process::exit;
 use std::time::{Instant, SystemTime, UNIX_EPOCH};
 
-#[cfg(any(feature = "alert_info", feature = "signal_table", feature = "resolver"))]
+#[cfg(any(feature = "alert_info", feature = "signal_table", feature = "resolver", feature = "tally"))]
 use outside::ours::Ours;
 
 /// The longest image.
@@ -32,6 +32,7 @@ const FUNCTIONS: [(&str, &[u8]); 10] = [
     ("machine_check", &[0, 4, 5, 6, 7, 8, 9, 10, 11, 12, 15, 16, 17]),
     ("resolve_plain", &[0, 1, 2, 3, 4, 5, 6, 7, 8, 9, 10, 11, 12]),
     ("resolve_machine", &[0, 1, 2, 3, 4, 5, 6, 7, 8, 9, 10, 11, 12, 15]),
+    ("tally_value", &[0, 1, 2, 3, 4, 5, 6, 7, 8, 9, 10, 11, 12, 20]),
 ];
 
 #[derive(Default)]
@@ -149,6 +150,45 @@ fn machine<I: Resolvers>(table: &[u8], image: &[u8], value: &[u8]) -> Resolution
     I::machine(table, image, value)
 }
 
+/// The answer with the records and counts after it.
+fn tally_value<I: Tallies>(
+    table: &[u8],
+    records: &[Record],
+    refusals: &[u32],
+    value: &[u8],
+) -> (Resolution, Vec<Record>, Vec<u32>) {
+    let (mut records, mut refusals) = (records.to_vec(), refusals.to_vec());
+    let answer = I::tally_value(table, &mut records, &mut refusals, value);
+    (answer, records, refusals)
+}
+
+/// A count, often close to the highest.
+fn count(random: &mut Random) -> u32 {
+    match random.below(4) {
+        0 => u32::MAX - random.below(4) as u32,
+        1 => random.number() as u32,
+        _ => random.below(100) as u32,
+    }
+}
+
+/// A tally of about as many records and counts as are needed.
+fn hold_tally(tally: &mut Tally, random: &mut Random, table: &[u8], value: &[u8]) {
+    let signals = outside::reference::table::Table::read(table).map_or(0, |table| table.signals.len());
+    let n = match random.below(6) {
+        0 => random.below(34),
+        1 => signals.saturating_sub(1),
+        _ => signals + random.below(3),
+    };
+    let m = if random.below(8) == 0 { random.below(12) } else { 12 + random.below(3) };
+    let records: Vec<Record> =
+        (0..n).map(|_| Record { chosen: count(random), used: count(random), skipped: count(random) }).collect();
+    let refusals: Vec<u32> = (0..m).map(|_| count(random)).collect();
+    let answers = answers!("tally", tally_value, table, &records, &refusals, value);
+    let line =
+        || format!("tally {} {} {} {}", to_hex(table), show_records(&records), show_counts(&refusals), to_hex(value));
+    tally.hold("tally_value", answers[0].1 .0.refusal, &answers, line);
+}
+
 fn hold_value(tally: &mut Tally, random: &mut Random, value: &[u8]) {
     let refusal = Reference::value_refusal(value);
     let line = || format!("value {}", to_hex(value));
@@ -247,6 +287,7 @@ fn round(tally: &mut Tally, random: &mut Random, other: &mut Vec<u8>) {
         hold_value(tally, random, &value);
         hold_matches(tally, &table, &value);
         hold_resolvers(tally, &table, &image, &value);
+        hold_tally(tally, random, &table, &value);
         hold_agreement(tally, &table, &image, &value);
     }
     if let Some(machine) = machine {
@@ -263,6 +304,9 @@ fn limits(tally: &mut Tally, random: &mut Random) {
         }
         hold_table(tally, random, &table, &machine);
         hold_check(tally, &table, &machine);
+        for value in [&b"<urn:alert:c0:p0>"[..], b"<", b"<a>"] {
+            hold_tally(tally, random, &table, value);
+        }
         for _ in 0..5 {
             hold_check(tally, &table, &images::image(random, &table, &machine));
             let value = b"<urn:alert:c0:p0>, <urn:alert:c:l1>, <urn:alert:c1:a>";

@@ -3,10 +3,11 @@
 pub mod direct;
 pub mod machine;
 pub mod table;
+pub mod tally;
 pub mod urn;
 pub mod value;
 
-use crate::{Built, Match, Reader, Resolution, Resolvers, Tables};
+use crate::{Built, Match, Reader, Resolution, Resolvers, Tables, Tallies, Tally};
 use table::Table;
 
 pub struct Reference;
@@ -65,5 +66,11 @@ impl Resolvers for Reference {
 
     fn machine(table: &[u8], image: &[u8], value: &[u8]) -> Resolution {
         machine::resolve(table, image, value).unwrap_or_else(Resolution::refused)
+    }
+}
+
+impl Tallies for Reference {
+    fn tally_value(table: &[u8], records: &mut [Tally], refusals: &mut [u32], value: &[u8]) -> Resolution {
+        tally::value(table, records, refusals, value).unwrap_or(Resolution::refused(20))
     }
 }
