@@ -21,7 +21,7 @@ enum {
     SIGNAL_TABLE_TOO_LONG = 4,        /* the table is longer than 8,192 bytes */
     SIGNAL_TABLE_WRONG_END = 5,       /* it stops before its counts and lengths are met, or goes on after its last signal */
     SIGNAL_TABLE_OUT_OF_RANGE = 6,    /* one of its counts or lengths is out of range */
-    SIGNAL_TABLE_BAD_FORM = 7,        /* a category's name or a URN is of wrong form; a URN has more than 8 parts */
+    SIGNAL_TABLE_BAD_FORM = 7,        /* a category's name or a URN is of wrong form or has a capital letter; a URN has more than 8 parts */
     SIGNAL_TABLE_BAD_CATEGORY = 8,    /* a category stands twice, or no signal uses it; a URN names one that is not there */
     SIGNAL_TABLE_TWO_OF_CATEGORY = 9, /* one signal has two URNs of the same category */
     SIGNAL_TABLE_BAD_DEFAULT = 10,    /* signal 0 names a URN */

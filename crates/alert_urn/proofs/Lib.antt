@@ -1,3 +1,4 @@
 pub mod Fields
 pub mod Runs
 pub mod Turns
+pub mod Cases

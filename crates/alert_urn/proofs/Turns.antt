@@ -14,7 +14,7 @@ use borrow.Author.Tests.{eq-eqb, ne-eqb, eqb-true, eqb-false, leb-true, lt-ltb, 
 use Rattle.resolution.specs.Names.{sameName}
 use Rattle.resolution.proofs.Names.{name-exact}
 use Rattle.alert_urn.specs.Text.{all, within, upTo, past, fields, nameOk, nameLength, labelOk, covers, wordOf, common, commonNext, comparedBytes, endsAt}
-use Rattle.alert_urn.specs.Urn.{bytes, bytesFrom, lower, begins, namesIn, restOk, alertUrn, urnOk}
+use Rattle.alert_urn.specs.Urn.{bytes, bytesFrom, lower, noCapital, begins, namesIn, restOk, alertUrn, urnOk}
 use Rattle.alert_urn.proofs.Fields.{byTest, upTo-take, upTo-le, past-drop, past-at, part-end, fields-first, fields-more, fields-last, coversBytes, covers-fields}
 use Rattle.alert_urn.proofs.Runs.{length-bad, length-good}
 
@@ -357,9 +357,13 @@ pub rest-names : (s : List ℕ) {n : ℕ} → n ≡ namesIn s → leb 2 n ≡ re
 unfolding namesIn restOk
 rest-names s e = byTest (all nameOk (fields 58 s)) (λ t. simp (e, t, and-true)) (λ t. simp (e, t, and-false))
 
-pub urn-names : (s : List ℕ) {n : ℕ} → n ≡ namesIn s → within 2 9 n ≡ urnOk s
+pub urn-names : (s : List ℕ) {n : ℕ} {a : Bool} → a ≡ noCapital s → a ≡ true → n ≡ namesIn s → within 2 9 n ≡ urnOk s
 unfolding namesIn urnOk
-urn-names s e = byTest (all nameOk (fields 58 s)) (λ t. simp (e, t, and-true)) (λ t. simp (e, t, and-false))
+urn-names s f q e = byTest (all nameOk (fields 58 s)) (λ t. simp (e, t, and-true, sym f ∙ q)) (λ t. simp (e, t, and-false, sym f ∙ q))
+
+pub urn-capital : (s : List ℕ) {a : Bool} → a ≡ noCapital s → a ≡ false → false ≡ urnOk s
+unfolding urnOk
+urn-capital s f q = sym (rw (sym f ∙ q))
 
 -- the form of a URI
 pub alert-other : (uri : List ℕ) {a : Bool} → a ≡ begins (bytes "urn:alert:") uri → a ≡ false → false ≡ alertUrn uri

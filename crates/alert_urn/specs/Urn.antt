@@ -2,7 +2,7 @@
 use Prim.Native.Nat.{ℕ, zero, suc, _+_}
 use Prim.Native.String.{String, len, charAt}
 use Prim.Native.Char.{code}
-use mathlib.Core.Bool.{Bool, true, false, cond, _&&_}
+use mathlib.Core.Bool.{Bool, true, false, cond, not, _&&_}
 use mathlib.Core.List.{List, [], _∷_}
 use lib.ListN.{length, drop}
 use lib.Dec.{eqb, leb}
@@ -21,6 +21,19 @@ bytes s = bytesFrom s 0 (len s)
 abbrev pub lower : ℕ → ℕ
 lower x = cond (within 65 90 x) (x + 32) x
 
+-- a text with all its letters as small ones: names of URIs are compared so, without regard to letter case
+unfoldable pub lowered : List ℕ → List ℕ
+lowered [] = []
+lowered (x ∷ s) = lower x ∷ lowered s
+
+-- no capital letter
+abbrev pub notCapital : ℕ → Bool
+notCapital x = not (within 65 90 x)
+
+-- a text without capital letters
+unfoldable pub noCapital : List ℕ → Bool
+noCapital s = all notCapital s
+
 -- the text begins with these small letters, in any letter case
 unfoldable pub begins : List ℕ → List ℕ → Bool
 begins [] s = true
@@ -35,9 +48,13 @@ restOk s = leb 2 (length (fields 58 s)) && all nameOk (fields 58 s)
 unfoldable pub alertUrn : List ℕ → Bool
 alertUrn uri = begins (bytes "urn:alert:") uri && restOk (drop 10 uri)
 
--- a URN in a stored table, without `urn:alert:` : a category and 1 to 8 parts
+-- a name in a stored table: without capital letters
+unfoldable pub storedName : List ℕ → Bool
+storedName s = noCapital s && nameOk s
+
+-- a URN in a stored table, without `urn:alert:` : a category and 1 to 8 parts, without capital letters
 unfoldable pub urnOk : List ℕ → Bool
-urnOk s = within 2 9 (length (fields 58 s)) && all nameOk (fields 58 s)
+urnOk s = noCapital s && (within 2 9 (length (fields 58 s)) && all nameOk (fields 58 s))
 
 -- what stands before the first colon of a URN without `urn:alert:`
 abbrev pub categoryOf : List ℕ → List ℕ

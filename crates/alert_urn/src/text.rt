@@ -2,7 +2,7 @@ ghost use mathlib.Core.Path.{_≡_};
 ghost use Prim.Native.Nat.{_≤_, _<_, _+_, min};
 ghost use lib.ListN.{length, take, drop, getD};
 ghost use Rattle.resolution.specs.Names.{sameName};
-ghost use Rattle.alert_urn.specs.Text.{within, labelByte, labelRun, labelOk, upTo, nameOk, nameLength, common, commonNext, endsAt, wordOf};
+ghost use Rattle.alert_urn.specs.Text.{within, labelByte, labelRun, labelOk, upTo, nameOk, nameLength, common, endsAt, wordOf};
 
 // lo ≤ x ≤ hi
 pub(crate) fn in_range(x: u8, lo: u8, hi: u8) -> bool
@@ -164,7 +164,7 @@ fn byte_at(s: &[u8], i: usize) -> u64
 }
 
 // Eight bytes from i on as one number: they are compared at once.
-fn word_at(s: &[u8], i: usize) -> u64
+pub(crate) fn word_at(s: &[u8], i: usize) -> u64
     requires { ⌜ i + 8 ≤ length (now s) ⌝ }
     ensures { λ r. ⌜ r ≡ wordOf (now (s .entry)) i 8 ⌝ }
 {
@@ -216,7 +216,7 @@ pub fn same(a: &[u8], b: &[u8]) -> bool
 }
 
 // The lesser of two numbers.
-fn lesser(a: usize, b: usize) -> usize
+pub(crate) fn lesser(a: usize, b: usize) -> usize
     ensures { λ r. ⌜ r ≡ min a b ⌝ }
 {
     if a <= b {
@@ -258,16 +258,6 @@ pub fn common_from(p: &[u8], w: &[u8], from: usize) -> usize
         }
     }
     i
-}
-
-// How many bytes p and w have in common, where another text has k in common with w and l with p.
-pub fn common_next(p: &[u8], w: &[u8], k: usize, l: usize) -> usize
-    ensures { λ r. ⌜ r ≡ commonNext (now (p .entry)) (now (w .entry)) k l ⌝ }
-{
-    if k == l {
-        return common_from(p, w, k);
-    }
-    lesser(k, l)
 }
 
 // A part of the text ends before the byte at n: with the text, or at a colon.

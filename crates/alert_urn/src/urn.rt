@@ -1,7 +1,10 @@
 ghost use mathlib.Core.Path.{_≡_};
-ghost use lib.ListN.{length, drop};
-ghost use Rattle.alert_urn.specs.Text.{fields};
-ghost use Rattle.alert_urn.specs.Urn.{bytes, lower, begins, namesIn, restOk, alertUrn, urnOk};
+ghost use mathlib.Core.Bool.{_||_};
+ghost use Prim.Native.Nat.{_+_, _≤_, _<_};
+ghost use lib.ListN.{length, drop, getD};
+ghost use Rattle.resolution.specs.Names.{sameName};
+ghost use Rattle.alert_urn.specs.Text.{wordOf, common, commonNext};
+ghost use Rattle.alert_urn.specs.Urn.{bytes, lower, lowered, noCapital, begins, namesIn, restOk, alertUrn, storedName, urnOk};
 
 // urn:alert:
 const SCHEME: [u8; 10] = [117, 114, 110, 58, 97, 108, 101, 114, 116, 58];
@@ -14,6 +17,110 @@ fn lower_of(x: u8) -> u8
         return x + 32;
     }
     x
+}
+
+// A byte as a wide number, a letter as a small one.
+fn lower_at(s: &[u8], i: usize) -> u64
+    requires { ⌜ i < length (now s) ⌝ }
+    ensures { λ r. ⌜ (r ≡ getD (lowered (now (s .entry))) i 0) × (r < 256) ⌝ }
+{
+    lower_of(s[i]) as u64
+}
+
+// Eight bytes from i on as one number, letters as small ones.
+fn lower_word_at(s: &[u8], i: usize) -> u64
+    requires { ⌜ i + 8 ≤ length (now s) ⌝ }
+    ensures { λ r. ⌜ r ≡ wordOf (lowered (now (s .entry))) i 8 ⌝ }
+{
+    let a = lower_at(s, i);
+    let b = lower_at(s, i + 1);
+    let c = lower_at(s, i + 2);
+    let d = lower_at(s, i + 3);
+    let e = lower_at(s, i + 4);
+    let f = lower_at(s, i + 5);
+    let g = lower_at(s, i + 6);
+    let h = lower_at(s, i + 7);
+    a + 256 * (b + 256 * (c + 256 * (d + 256 * (e + 256 * (f + 256 * (g + 256 * h))))))
+}
+
+// How many bytes p has in common with w, whose letters are taken as small ones, from a byte on up to which they agree, one by one.
+fn common_lowered_bytes(p: &[u8], w: &[u8], from: usize) -> usize
+    ensures { λ r. ⌜ r ≡ from + common (drop from (now (p .entry))) (drop from (lowered (now (w .entry)))) ⌝ }
+{
+    let n = crate::text::lesser(p.len(), w.len());
+    let mut i = from;
+    while i < n {
+        if p[i] == lower_of(w[i]) {
+            i += 1;
+        } else {
+            return i;
+        }
+    }
+    i
+}
+
+// The same, with a look at eight bytes at once.
+fn common_lowered_from(p: &[u8], w: &[u8], from: usize) -> usize
+    ensures { λ r. ⌜ r ≡ from + common (drop from (now (p .entry))) (drop from (lowered (now (w .entry)))) ⌝ }
+{
+    let n = crate::text::lesser(p.len(), w.len());
+    let mut i = from;
+    while i < n {
+        if n - i < 8 {
+            return common_lowered_bytes(p, w, i);
+        }
+        if crate::text::word_at(p, i) == lower_word_at(w, i) {
+            i += 8;
+        } else {
+            return common_lowered_bytes(p, w, i);
+        }
+    }
+    i
+}
+
+// How many bytes p has in common with w, whose letters are taken as small ones, where another text has k in common with w and
+// l with p.
+pub fn common_lowered_next(p: &[u8], w: &[u8], k: usize, l: usize) -> usize
+    ensures { λ r. ⌜ r ≡ commonNext (now (p .entry)) (lowered (now (w .entry))) k l ⌝ }
+{
+    if k == l {
+        return common_lowered_from(p, w, k);
+    }
+    crate::text::lesser(k, l)
+}
+
+// The text s, its letters taken as small ones, is p.
+pub fn same_lowered(s: &[u8], p: &[u8]) -> bool
+    ensures { λ r. ⌜ r ≡ sameName (lowered (now (s .entry))) (now (p .entry)) ⌝ }
+{
+    let n = p.len();
+    if n == s.len() {
+        return common_lowered_from(p, s, 0) == n;
+    }
+    false
+}
+
+// Either of two.
+fn either(a: bool, b: bool) -> bool
+    ensures { λ r. ⌜ r ≡ (a || b) ⌝ }
+{
+    if a {
+        return true;
+    }
+    b
+}
+
+// The text has no capital letter.
+fn no_capital(s: &[u8]) -> bool
+    ensures { λ r. ⌜ r ≡ noCapital (now (s .entry)) ⌝ }
+{
+    let mut capital = false;
+    let mut i = 0;
+    while i < s.len() {
+        capital = either(crate::text::in_range(s[i], 65, 90), capital);
+        i += 1;
+    }
+    !capital
 }
 
 // The URI begins with `urn:alert:`, in any letter case. Small letters are the usual case: they are compared at once.
@@ -82,10 +189,23 @@ pub fn is_alert_urn(uri: &[u8]) -> bool
     false
 }
 
-// A URN as a table stores it: a category and 1 to 8 parts.
+// A name as a table stores it: without capital letters.
+pub fn stored_name(s: &[u8]) -> bool
+    ensures { λ r. ⌜ r ≡ storedName (now (s .entry)) ⌝ }
+{
+    if no_capital(s) {
+        return crate::text::name(s);
+    }
+    false
+}
+
+// A URN as a table stores it: a category and 1 to 8 parts, without capital letters.
 pub fn urn_formed(s: &[u8]) -> bool
     ensures { λ r. ⌜ r ≡ urnOk (now (s .entry)) ⌝ }
 {
+    if !no_capital(s) {
+        return false;
+    }
     let n = names(s);
     if n < 2 {
         return false;

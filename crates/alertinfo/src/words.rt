@@ -57,7 +57,7 @@ fn of_table(k: u8) {
         ),
         7 => io::write_all(
             STDOUT_FILENO,
-            b"a name or a URN in the table is of wrong form, or has more than 8 parts",
+            b"a name or a URN in the table is of wrong form, has a capital letter, or has more than 8 parts",
         ),
         8 => io::write_all(
             STDOUT_FILENO,

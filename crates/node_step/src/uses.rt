@@ -4,6 +4,7 @@ ghost use Prim.Native.Nat.{_+_, _*_, _≤_, _<_, min};
 ghost use lib.Dec.{leb};
 ghost use lib.ListN.{length};
 ghost use Rattle.alert_urn.specs.Text.{endsAt};
+ghost use Rattle.alert_urn.specs.Urn.{lowered};
 ghost use Rattle.node_step.specs.Arrays.{stretch};
 ghost use Rattle.node_step.specs.Uses.{findName, nothing, metWith, lookBy, searchFrom, fewer, usesOf};
 
@@ -42,7 +43,7 @@ fn wide16(x: u16) -> usize
     x as usize
 }
 
-// The number of the first of the n categories that has the name s, or 8.
+// The number of the first of the n categories that has the name s, whatever its letter case, or 8.
 fn find_name<'a>(
     t: &[u8],
     name_at: &'a [u16; 8],
@@ -51,13 +52,13 @@ fn find_name<'a>(
     n: usize,
 ) -> usize
     requires { ⌜ n ≤ 8 ⌝ }
-    ensures { λ r. ⌜ r ≡ findName (now (t .entry)) (now («name_at» .entry)) (now («name_len» .entry)) (now (s .entry)) 0 n ⌝ }
+    ensures { λ r. ⌜ r ≡ findName (now (t .entry)) (now («name_at» .entry)) (now («name_len» .entry)) (lowered (now (s .entry))) 0 n ⌝ }
 {
     let mut i = 0;
     while i < n {
         let from = wide16(name_at[i]);
         let size = wide8(name_len[i]);
-        if alert_urn::text::same(s, alert_urn::text::part(t, from, size)) {
+        if alert_urn::urn::same_lowered(s, alert_urn::text::part(t, from, size)) {
             return i;
         }
         i += 1;
@@ -124,7 +125,7 @@ fn pick_bool(b: bool, x: bool, y: bool) -> bool
 // The search for w at node k with the path p, which has n bytes in common with w, and has nodes under it or none.
 fn met(p: &[u8], w: &[u8], inner: bool, k: u8, n: usize, s: Search) -> Search
     requires { ⌜ (length (now p) ≤ 255) × (s .compared ≤ 65535) ⌝ }
-    ensures { λ r. ⌜ r ≡ metWith (now (p .entry)) (now (w .entry)) inner k n s ⌝ }
+    ensures { λ r. ⌜ r ≡ metWith (now (p .entry)) (lowered (now (w .entry))) inner k n s ⌝ }
     ensures { λ r. ⌜ r .compared ≤ s .compared + 255 ⌝ }
 {
     let all = p.len();
@@ -140,7 +141,7 @@ fn met(p: &[u8], w: &[u8], inner: bool, k: u8, n: usize, s: Search) -> Search
     }
 }
 
-// The search for w at the node at i, whose path shares l bytes with the one before it.
+// The search for w, whatever its letter case, at the node at i, whose path shares l bytes with the one before it.
 fn look<'a>(
     t: &[u8],
     at: &'a [u16; 64],
@@ -152,7 +153,7 @@ fn look<'a>(
     s: Search,
 ) -> Search
     requires { ⌜ (i < 64) × (l ≤ 255) × (s .compared ≤ 255 * i) ⌝ }
-    ensures { λ r. ⌜ r ≡ lookBy (now (t .entry)) (now (at .entry)) (now (len .entry)) (now (inner .entry)) (now (w .entry)) i l s ⌝ }
+    ensures { λ r. ⌜ r ≡ lookBy (now (t .entry)) (now (at .entry)) (now (len .entry)) (now (inner .entry)) (lowered (now (w .entry))) i l s ⌝ }
     ensures { λ r. ⌜ r .compared ≤ 255 * (i + 1) ⌝ }
 {
     if s.same < l {
@@ -166,7 +167,7 @@ fn look<'a>(
         };
     }
     let p = path_at(t, at, len, i);
-    let n = alert_urn::text::common_next(p, w, s.same, l);
+    let n = alert_urn::urn::common_lowered_next(p, w, s.same, l);
     let k = i as u8 + 1;
     met(p, w, inner[i], k, n, s)
 }
@@ -186,7 +187,7 @@ fn search_nodes<'a>(
     requires { ⌜ n ≤ 64 ⌝ }
     ensures { λ r. ⌜
         r ≡ searchFrom (now (t .entry)) (now (category .entry)) (now (at .entry)) (now (len .entry)) (now (shared .entry)) (now (inner .entry))
-        c (now (w .entry)) 0 n nothing
+        c (lowered (now (w .entry))) 0 n nothing
         ⌝ }
 {
     let mut s = Search {

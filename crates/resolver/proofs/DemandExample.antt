@@ -10,7 +10,7 @@ use Rattle.resolution.specs.Lists.{tabulate}
 use Rattle.resolution.specs.Nodes.{leaf, nodes}
 use Rattle.resolution.proofs.Theorems.{build-law}
 use Rattle.alert_urn.specs.Text.{all, fields, labelByte, labelOk, nameOk, onFirst, past, upTo}
-use Rattle.alert_urn.specs.Urn.{bytes, bytesFrom, urnOk}
+use Rattle.alert_urn.specs.Urn.{bytes, bytesFrom, noCapital, storedName, urnOk}
 use Rattle.stored_table.specs.Stored.{andThen, byteIn, counted, stored, storedFrom, text, times}
 use Rattle.stored_table.specs.Tables.{any, distinct, fewNodes, formed, isListed, judged, judgedRead, listed, noTwo, plain, single, tableOf, tableRead, tableRefusal, uses, verdict}
 use Rattle.resolver.specs.Examples.{T1}
@@ -18,7 +18,7 @@ use Rattle.resolver.specs.DemandExample.{DemandExample}
 use Rattle.resolver.proofs.DemandLaws.{demand-three}
 
 well-formed : tableRefusal T1 ≡ 0
-unfolding all fields labelByte labelOk nameOk onFirst past upTo bytes bytesFrom urnOk andThen byteIn counted stored storedFrom text times any distinct fewNodes formed isListed judged judgedRead listed noTwo plain single tableRefusal uses verdict nodes
+unfolding all fields labelByte labelOk nameOk onFirst past upTo bytes bytesFrom noCapital storedName urnOk andThen byteIn counted stored storedFrom text times any distinct fewNodes formed isListed judged judgedRead listed noTwo plain single tableRefusal uses verdict nodes
 well-formed = refl
 
 four-states : length (discovered (tableOf T1) 256) ≡ 4

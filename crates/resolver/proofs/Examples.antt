@@ -5,7 +5,7 @@ use Rattle.alert_info.specs.Parts.{blankAt, endingAt, endingStep, entryAt, foll
 use Rattle.alert_info.specs.Value.{readingFrom, readingOf, refusalOf, spansOf, urisOf, valueStep}
 use Rattle.alert_info.specs.Walk.{run, runAt, walk, walkAt}
 use Rattle.alert_urn.specs.Text.{all, fields, labelByte, labelOk, nameOk, onFirst, past, upTo}
-use Rattle.alert_urn.specs.Urn.{alertUrn, begins, bytes, bytesFrom, restOk, urnOk}
+use Rattle.alert_urn.specs.Urn.{alertUrn, begins, bytes, bytesFrom, lowered, noCapital, storedName, restOk, urnOk}
 use Rattle.node_step.specs.Uses.{usedUrn}
 use Rattle.resolution.specs.Direct.{step}
 use Rattle.resolution.specs.Discovery.{discover, expand}
@@ -21,5 +21,5 @@ use Rattle.resolver.specs.Resolve.{plainOf}
 use Rattle.resolver.specs.Examples.{Marked}
 
 pub marked : Marked
-unfolding isBlank isEscapable isText isToken isUri blankAt endingAt endingStep entryAt followingAt paramAt quoteAt quotedAt quotedFrom quotedStep settingAt tokenAt whiteAt whiteStep readingFrom readingOf refusalOf spansOf urisOf valueStep run runAt walk walkAt all fields labelByte labelOk nameOk onFirst past upTo alertUrn begins bytes bytesFrom restOk urnOk usedUrn step discover expand tabulate deepest leaf nodes imageOf joined image.bufferOf buildLength buildRefusal andThen byteIn counted stored storedFrom text times any categoryNames distinct fewNodes formed isListed judged judgedRead listed namesRead noTwo plain single tableOf tableRead tableRefusal uses verdict builtFrom bufferFrom plainOf
+unfolding isBlank isEscapable isText isToken isUri blankAt endingAt endingStep entryAt followingAt paramAt quoteAt quotedAt quotedFrom quotedStep settingAt tokenAt whiteAt whiteStep readingFrom readingOf refusalOf spansOf urisOf valueStep run runAt walk walkAt all fields labelByte labelOk nameOk onFirst past upTo alertUrn begins bytes bytesFrom restOk lowered noCapital storedName urnOk usedUrn step discover expand tabulate deepest leaf nodes imageOf joined image.bufferOf buildLength buildRefusal andThen byteIn counted stored storedFrom text times any categoryNames distinct fewNodes formed isListed judged judgedRead listed namesRead noTwo plain single tableOf tableRead tableRefusal uses verdict builtFrom bufferFrom plainOf
 marked = refl

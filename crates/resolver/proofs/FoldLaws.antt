@@ -15,7 +15,7 @@ use Rattle.resolution.specs.Direct.{Used, usedOf, usedCount, skippedCount}
 use Rattle.resolution.proofs.Lists.{index-member}
 use Rattle.resolution.proofs.Names.{name-exact}
 use Rattle.alert_urn.specs.Text.{fields}
-use Rattle.alert_urn.specs.Urn.{alertUrn, categoryOf, pathOf}
+use Rattle.alert_urn.specs.Urn.{lowered, alertUrn, categoryOf, pathOf}
 use Rattle.alert_urn.proofs.Fields.{fields-first}
 use Rattle.node_step.specs.Uses.{usedUrn, useOf}
 use Rattle.node_step.proofs.UseRight.{uses-right}
@@ -34,13 +34,13 @@ some-field s e = let f = fields-first 58 s in let z : _≡_ {A = ℕ} 0 1 = cc (
 -- the URN of a used URI is of a category of the table, and has a part
 pub used-urn : (names : List Name) (uri : List ℕ) (u : Urn) → usedUrn names uri ≡ some u → (u .cat < length names) × (u .path ≢ [])
 unfolding usedUrn
-used-urn names uri u = go (alertUrn uri && memberBy sameName (categoryOf (drop 10 uri)) names) refl
+used-urn names uri u = go (alertUrn uri && memberBy sameName (categoryOf (lowered (drop 10 uri))) names) refl
   where
     name : Name
-    name = categoryOf (drop 10 uri)
+    name = categoryOf (lowered (drop 10 uri))
 
     path : Parts
-    path = fields 58 (pathOf (drop 10 uri))
+    path = fields 58 (pathOf (lowered (drop 10 uri)))
 
     go : (b : Bool) → alertUrn uri && memberBy sameName name names ≡ b
         → cond b (some (record { cat = indexBy sameName name names; path = path })) none ≡ some u → (u .cat < length names) × (u .path ≢ [])
@@ -48,7 +48,7 @@ used-urn names uri u = go (alertUrn uri && memberBy sameName (categoryOf (drop 1
         let c : u .cat ≡ indexBy sameName name names = cc in
         let p : path ≡ u .path = cc in
         let m = and-eq-true-iff (alertUrn uri) (memberBy sameName name names) .0 e .1 in
-        (omega (arith, index-member sameName name-exact [] name names m .0), λ z. some-field (pathOf (drop 10 uri)) (p ∙ z))
+        (omega (arith, index-member sameName name-exact [] name names m .0), λ z. some-field (pathOf (lowered (drop 10 uri))) (p ∙ z))
     go false e q = absurd (let z : _≡_ {A = ℕ} 0 1 = cc in omega arith)
 
 module _ (t : List ℕ) (T : Table) (d : Decoded) (h : Holds t T d) (m : Machine) where

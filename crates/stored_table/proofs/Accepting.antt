@@ -9,7 +9,7 @@ use lib.ListN.{length, getD, length-append}
 use lib.Dec.{leb, ltb}
 use borrow.Author.Tests.{le-leb, leb-true, ltb-true, ltb-false}
 use Rattle.alert_urn.specs.Text.{all, upTo, past, fields, within, nameOk, labelOk}
-use Rattle.alert_urn.specs.Urn.{urnOk, categoryOf}
+use Rattle.alert_urn.specs.Urn.{noCapital, storedName, urnOk, categoryOf}
 use Rattle.alert_urn.proofs.Fields.{byTest, fields-first, fields-more, fields-last}
 use Rattle.resolution.specs.Lists.{memberBy, indexBy}
 use Rattle.resolution.specs.Names.{Name, sameName}
@@ -81,7 +81,8 @@ mem-map {A} {B} f (y ∷ xs) x m = go (List·Memᴰ·cases-cons m) (λ k. mem-ma
 fields-parts : (w : List ℕ) → urnOk w ≡ true → (fields 58 w ≡ upTo 58 w ∷ fields 58 (past 58 w)) × (length (fields 58 w) ≤ 9) × (all nameOk (fields 58 w) ≡ true)
 unfolding urnOk
 fields-parts w e =
-    let b = and-eq-true-iff (within 2 9 (length (fields 58 w))) (all nameOk (fields 58 w)) .0 e in
+    let a = and-eq-true-iff (noCapital w) (within 2 9 (length (fields 58 w)) && all nameOk (fields 58 w)) .0 e in
+    let b = and-eq-true-iff (within 2 9 (length (fields 58 w))) (all nameOk (fields 58 w)) .0 (a .1) in
     let l = and-eq-true-iff (leb 2 (length (fields 58 w))) (leb (length (fields 58 w)) 9) .0 (b .0) in
     let h = leb-true 2 (length (fields 58 w)) (l .0) in (
       byTest (ltb (length (upTo 58 w)) (length w)) (λ x. fields-more 58 w (ltb-true _ _ x))
@@ -150,7 +151,7 @@ module _ (t : List ℕ) (s : Stored) (q : ℕ) (r : stored t ≡ got s q) (g : P
   formed-urn : (w : List (List ℕ)) → List·Memᴰ w (s .signals) → (v : List ℕ) → List·Memᴰ v w → urnOk v ≡ true
   unfolding formed
   formed-urn w m v k =
-      let f = and-eq-true-iff (all nameOk (s .names)) (all (all urnOk) (s .signals)) .0 (g .form) in
+      let f = and-eq-true-iff (all storedName (s .names)) (all (all urnOk) (s .signals)) .0 (g .form) in
       all-mem urnOk w v (all-mem (all urnOk) (s .signals) w (f .1) m) k
 
   known : (sig : List Urn) → List·Memᴰ sig (tableIn s .signals) → (u : Urn) → List·Memᴰ u sig → u .cat < tableIn s .cats

@@ -7,8 +7,8 @@ use native.Mathlib.Omega.{arith}
 use lib.ListN.{length, getD}
 use lib.Dec.{eqb}
 use borrow.Author.Tests.{eq-eqb, eqb-true}
-use Rattle.alert_urn.specs.Text.{all, fields, nameOk}
-use Rattle.alert_urn.specs.Urn.{urnOk, categoryOf}
+use Rattle.alert_urn.specs.Text.{all, fields}
+use Rattle.alert_urn.specs.Urn.{storedName, urnOk, categoryOf}
 use Rattle.alert_urn.proofs.Fields.{byTest}
 use Rattle.resolution.specs.Lists.{tabulate, memberBy, indexBy, Distinct}
 use Rattle.resolution.specs.Names.{Name, sameName}
@@ -75,7 +75,7 @@ module _ (t nameAt nameLen at len signal : List ℕ) (l : Counts) (R : ReadAs t 
   judged-as : tableRefusal t ≡ judged it
   judged-as = refusal-read t it (R .next) (R .whole)
 
-  formed-as : {a b : Bool} → a ≡ all nameOk names → b ≡ all urnOk (tabulate (stretch t at len) (l .urns)) → formed it ≡ (a && b)
+  formed-as : {a b : Bool} → a ≡ all storedName names → b ≡ all urnOk (tabulate (stretch t at len) (l .urns)) → formed it ≡ (a && b)
   unfolding formed
   formed-as e f = ap₂ _&&_ (sym e) (all-joined urnOk (R .signals) ∙ ap (all urnOk) (sym texts) ∙ sym f)
 
@@ -83,14 +83,14 @@ module _ (t nameAt nameLen at len signal : List ℕ) (l : Counts) (R : ReadAs t 
   unfolding judged
   is-seven e = judged-as ∙ rw e
 
-  pub names-unformed : {a : Bool} → a ≡ all nameOk names → a ≡ false → tableRefusal t ≡ 7
+  pub names-unformed : {a : Bool} → a ≡ all storedName names → a ≡ false → tableRefusal t ≡ 7
   unfolding formed
   names-unformed e z = is-seven (rw (sym e ∙ z))
 
-  pub urns-unformed : {a b : Bool} → a ≡ all nameOk names → b ≡ all urnOk (tabulate (stretch t at len) (l .urns)) → b ≡ false → tableRefusal t ≡ 7
+  pub urns-unformed : {a b : Bool} → a ≡ all storedName names → b ≡ all urnOk (tabulate (stretch t at len) (l .urns)) → b ≡ false → tableRefusal t ≡ 7
   urns-unformed {a} {b} e f z = is-seven (formed-as e f ∙ ap (λ x. a && x) z ∙ and-false a)
 
-  pub all-formed : {a b : Bool} → a ≡ all nameOk names → a ≡ true → b ≡ all urnOk (tabulate (stretch t at len) (l .urns)) → b ≡ true → FormedAs t nameAt nameLen at len signal l
+  pub all-formed : {a b : Bool} → a ≡ all storedName names → a ≡ true → b ≡ all urnOk (tabulate (stretch t at len) (l .urns)) → b ≡ true → FormedAs t nameAt nameLen at len signal l
   all-formed e x f y = record { short = sections-read t it (R .next) (R .whole) .0; read = R; form = formed-as e f ∙ ap₂ _&&_ x y }
 
 pub map-length : {A B : Type 0} (f : A → B) (l : List A) → length (map f l) ≡ length l

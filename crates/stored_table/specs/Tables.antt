@@ -8,15 +8,15 @@ use lib.ListN.{length}
 use Rattle.resolution.specs.Lists.{memberBy, indexBy}
 use Rattle.resolution.specs.Names.{Name, sameName}
 use Rattle.resolution.specs.Table.{Urn, urn, Table}
-use Rattle.alert_urn.specs.Text.{all, fields, nameOk}
-use Rattle.alert_urn.specs.Urn.{urnOk, categoryOf, pathOf}
+use Rattle.alert_urn.specs.Text.{all, fields}
+use Rattle.alert_urn.specs.Urn.{storedName, urnOk, categoryOf, pathOf}
 use Rattle.table_sections.specs.Stored.{Read, fault, got, Stored, stored, sections}
 unfoldable pub use Rattle.signal_places.specs.Tests.{any, noTwo}
 unfoldable pub use Rattle.signal_places.specs.Verdict.{single, plain, distinct, fewNodes, verdict}
 
--- 7: every category name and every URN has its form, and a URN 1 to 8 parts
+-- 7: every category name and every URN has its form, without capital letters, and a URN 1 to 8 parts
 unfoldable pub formed : Stored → Bool
-formed s = all nameOk (s .names) && all (all urnOk) (s .signals)
+formed s = all storedName (s .names) && all (all urnOk) (s .signals)
 
 -- a signal has a URN of this category
 unfoldable pub uses : Name → List (List ℕ) → Bool

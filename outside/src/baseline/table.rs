@@ -117,12 +117,17 @@ impl<'a> Decoded<'a> {
     /// Leaves in `paths` the length of each URN's category name.
     fn check_names(&self, urns: &Urns, paths: &mut [(u8, u8); 256]) -> Result<(), u8> {
         for &category in &self.categories[..self.category_count] {
-            if !urn::is_name(text(self.bytes, category)) {
+            let name = text(self.bytes, category);
+            if !urn::is_name(name) || name.iter().any(u8::is_ascii_uppercase) {
                 return Err(7);
             }
         }
         for (path, &place) in paths.iter_mut().zip(&urns.places[..urns.total]) {
-            match urn::form(text(self.bytes, place)) {
+            let urn = text(self.bytes, place);
+            if urn.iter().any(u8::is_ascii_uppercase) {
+                return Err(7);
+            }
+            match urn::form(urn) {
                 Some((length, parts)) if parts <= 8 => path.1 = length as u8,
                 _ => return Err(7),
             }
@@ -131,7 +136,8 @@ impl<'a> Decoded<'a> {
     }
 
     pub fn category(&self, name: &[u8]) -> Option<usize> {
-        self.categories[..self.category_count].iter().position(|&place| text(self.bytes, place) == name)
+        let categories = &self.categories[..self.category_count];
+        categories.iter().position(|&place| text(self.bytes, place).eq_ignore_ascii_case(name))
     }
 
     /// Leaves in `paths` the number of each URN's category too.
@@ -176,7 +182,7 @@ impl<'a> Decoded<'a> {
         let same = |node: &Node| {
             node.parent == parent
                 && node.category as usize == category
-                && text(self.bytes, (node.name_start, node.name_length)) == name
+                && text(self.bytes, (node.name_start, node.name_length)).eq_ignore_ascii_case(name)
         };
         nodes.iter().position(same).map(|i| i as u8 + 1)
     }
@@ -274,7 +280,7 @@ impl<'a> Decoded<'a> {
                 continue;
             }
             let path = self.path(node);
-            let common = path.iter().zip(text).take_while(|(a, b)| a == b).count();
+            let common = path.iter().zip(text).take_while(|(a, b)| **a == b.to_ascii_lowercase()).count();
             answer.compared += path.len().min(common + 1) as u32;
             if common == path.len() && text.get(common).is_none_or(|&b| b == b':') {
                 answer.node = i as u8;

@@ -85,6 +85,13 @@ fn uri(random: &mut Random, draft: &Draft) -> Vec<u8> {
         prefix[i] = b'x';
     }
     prefix.extend(names.join(&b':'));
+    if random.percent(30) {
+        for b in &mut prefix {
+            if random.percent(30) {
+                b.make_ascii_uppercase();
+            }
+        }
+    }
     prefix.retain(|b| (0x21..0x7F).contains(b));
     prefix
 }

@@ -178,9 +178,12 @@ impl Table {
     }
 }
 
-/// Category and path of every signal's URNs, or nothing if a category name or URN is of bad form or has over 8 parts.
+/// Category and path of every signal's URNs, or nothing if a category name or URN is of bad form, has a capital letter,
+/// or has over 8 parts.
 fn urns_of(stored: &Stored) -> Option<Vec<Vec<(Name, Path)>>> {
-    if !stored.categories.iter().all(|name| is_name(name)) {
+    let mut texts = stored.categories.iter().chain(stored.signals.iter().flatten());
+    if !stored.categories.iter().all(|name| is_name(name)) || texts.any(|text| text.iter().any(u8::is_ascii_uppercase))
+    {
         return None;
     }
     let read = |urn: &Vec<u8>| category_and_path(urn).filter(|(_, path)| path.len() <= 8);

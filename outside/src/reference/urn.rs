@@ -1,6 +1,6 @@
-//! Alert URNs: `urn:alert:` in any letter case, then a category, then one or more parts, each after a colon.
+//! Alert URNs: `urn:alert:`, then a category, then one or more parts, each after a colon. Letter case does not matter.
 
-/// A category or part, compared octet for octet.
+/// A category or part. Those of a table have no capital letter, and those of a URI are taken in lower case.
 pub type Name = Vec<u8>;
 
 /// The parts of a URN after its category. The empty path is the root.
@@ -30,11 +30,11 @@ pub fn category_and_path(text: &[u8]) -> Option<(Name, Path)> {
     Some((category, names))
 }
 
-/// Category and path of a URI that is an alert URN.
+/// Category and path of a URI that is an alert URN, in lower case.
 pub fn alert_urn(uri: &[u8]) -> Option<(Name, Path)> {
     let prefix = b"urn:alert:";
     if uri.len() < prefix.len() || !uri[..prefix.len()].eq_ignore_ascii_case(prefix) {
         return None;
     }
-    category_and_path(&uri[prefix.len()..])
+    category_and_path(&uri[prefix.len()..].to_ascii_lowercase())
 }

@@ -24,7 +24,7 @@ fn alike(letter: usize) -> Bytes {
         let mut urn = vec![category, b':'];
         urn.extend([b'x'; 20]);
         if category == b'h' {
-            urn[2 + letter] = b'A' + signal % 26 + signal / 26 * 32;
+            urn[2 + letter] = b"abcdefghijklmnopqrstuvwxyz01234"[signal as usize];
             urn.extend(b":y:z");
         } else {
             urn.extend([b'x'; 7]);

@@ -1,3 +1,4 @@
+use Rattle.alert_urn.specs.Urn.{lowered}
 use native.Mathlib.Omega.{arith}
 use mathlib.Core.Path.{refl}
 use Rattle.node_step.proofs.UseLaws.{look-counted, look-met}
@@ -16,13 +17,13 @@ add-t14 c = search needs
 
 returns : tie.Need-returns
 returns c = let a = c .before .before .before .before .before .before .args in
-    (look-counted (a .t .now) (a .at .now) (a .len .now) (a .inner .now) (a .w .now) (a .i) (a .l) (a .s) (c .before .before .if1 .taken) refl, omega (arith, c .before .before .if1 .taken, c .before .before .before .before .before .before .pre))
+    (look-counted (a .t .now) (a .at .now) (a .len .now) (a .inner .now) (lowered (a .w .now)) (a .i) (a .l) (a .s) (c .before .before .if1 .taken) refl, omega (arith, c .before .before .if1 .taken, c .before .before .before .before .before .before .pre))
 
 path-at-requires : tie.Need-path-at-requires
 path-at-requires c κs = search needs
 
-common-next-requires : tie.Need-common-next-requires
-common-next-requires c κs = search needs
+common-lowered-next-requires : tie.Need-common-lowered-next-requires
+common-lowered-next-requires c κs = search needs
 
 cast-k : tie.Need-cast-k
 cast-k c = search needs
@@ -38,7 +39,7 @@ met-requires c κs = search needs
 
 returns-2 : tie.Need-returns-2
 returns-2 c = let a = c .before .before .before .before .before .before .before .before .args in
-    (look-met (a .t .now) (a .at .now) (a .len .now) (a .inner .now) (a .w .now) (a .i) (a .l) (a .s) (c .before .before .before .before .if1 .left) (c .before .before .before .path-at .ensures .0) (c .before .before .common-next .ensures) (c .met .ensures .0), omega (arith, c .met .ensures .1, c .before .before .before .before .before .before .before .before .pre))
+    (look-met (a .t .now) (a .at .now) (a .len .now) (a .inner .now) (lowered (a .w .now)) (a .i) (a .l) (a .s) (c .before .before .before .before .if1 .left) (c .before .before .before .path-at .ensures .0) (c .before .before .common-lowered-next .ensures) (c .met .ensures .0), omega (arith, c .met .ensures .1, c .before .before .before .before .before .before .before .before .pre))
 
 pub look-spec : {M : Type 1} → statement M
 look-spec =
@@ -49,7 +50,7 @@ look-spec =
     add-t14
     returns
     path-at-requires
-    common-next-requires
+    common-lowered-next-requires
     cast-k
     add-k
     element-copy-out-met

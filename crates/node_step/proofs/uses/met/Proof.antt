@@ -1,5 +1,5 @@
 use native.Mathlib.Omega.{arith}
-use Rattle.node_step.proofs.UseLaws.{met-is}
+use Rattle.node_step.proofs.UseLaws.{met-lowered}
 use borrow.Author.Needs.{needs}
 use Rattle.node_step.proofs.uses.met.Statement.{statement}
 use Rattle.node_step.proofs.uses.met.Tie as tie
@@ -24,7 +24,7 @@ add-t16 c = omega (arith, c .before .looked .ensures .1, c .before .before .befo
 
 returns : tie.Need-returns
 returns c = let a = c .before .before .before .before .before .before .before .before .args in
-    (met-is (a .p .now) (a .w .now) (a .inner) (a .k) (a .n) (a .s) (c .before .before .before .before .before .covers-by .ensures) (c .before .before .before .before .pick-bool .ensures) (c .before .before .before .pick .ensures) (c .before .before .pick-bool2 .ensures) (c .before .looked .ensures .0), omega (arith, c .before .looked .ensures .1))
+    (met-lowered (a .p .now) (a .w .now) (a .inner) (a .k) (a .n) (a .s) (c .before .before .before .before .before .covers-by .ensures) (c .before .before .before .before .pick-bool .ensures) (c .before .before .before .pick .ensures) (c .before .before .pick-bool2 .ensures) (c .before .looked .ensures .0), omega (arith, c .before .looked .ensures .1))
 
 pub met-spec : {M : Type 1} → statement M
 met-spec =

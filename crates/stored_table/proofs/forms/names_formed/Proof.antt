@@ -3,7 +3,8 @@ use Prim.Native.Nat.{_≤_, _-_}
 use mathlib.Core.Path.{_≡_, ap, _∙_}
 use mathlib.Core.Bool.{true}
 use Rattle.resolution.specs.Lists.{tabulate}
-use Rattle.alert_urn.specs.Text.{all, nameOk}
+use Rattle.alert_urn.specs.Text.{all}
+use Rattle.alert_urn.specs.Urn.{storedName}
 use Rattle.node_step.specs.Arrays.{stretch}
 use Rattle.signal_places.proofs.TestLaws.{all-start, all-next, all-fails, all-ends}
 use borrow.Author.Needs.{needs}
@@ -11,7 +12,7 @@ use Rattle.stored_table.proofs.forms.names_formed.Statement.{statement}
 use Rattle.stored_table.proofs.forms.names_formed.Tie as tie
 
 abbrev Inv-loop : tie.InvT-loop
-Inv-loop t n at len i₀ i = (i ≤ n) × (all nameOk (tabulate (stretch t at len) i) ≡ true)
+Inv-loop t n at len i₀ i = (i ≤ n) × (all storedName (tabulate (stretch t at len) i) ≡ true)
 
 abbrev μ-loop : tie.MeasureT-loop
 μ-loop t n at len i₀ i = n - i
@@ -22,8 +23,8 @@ loop-holds c = (omega arith, all-start _ _)
 name-text-requires : tie.Need-name-text-requires Inv-loop μ-loop
 name-text-requires c κs = search needs
 
-name-requires : tie.Need-name-requires Inv-loop μ-loop
-name-requires c κs = search needs
+stored-name-requires : tie.Need-stored-name-requires Inv-loop μ-loop
+stored-name-requires c κs = search needs
 
 add-i : tie.Need-add-i Inv-loop μ-loop
 add-i c = search needs
@@ -32,10 +33,10 @@ loop-less : tie.Need-loop-less Inv-loop μ-loop
 loop-less c = omega arith
 
 loop-again : tie.Need-loop-again Inv-loop μ-loop
-loop-again c = (omega arith, all-next _ _ _ (c .before .before .before .before .loop .inv .1) (c .before .name .ensures ∙ ap nameOk (c .before .before .name-text .ensures (omega arith))) (c .if1 .taken))
+loop-again c = (omega arith, all-next _ _ _ (c .before .before .before .before .loop .inv .1) (c .before .stored-name .ensures ∙ ap storedName (c .before .before .name-text .ensures (omega arith))) (c .if1 .taken))
 
 returns : tie.Need-returns Inv-loop μ-loop
-returns c = all-fails _ _ _ _ (c .before .before .before .loop-test .taken) (c .before .name .ensures ∙ ap nameOk (c .before .before .name-text .ensures (omega arith))) (c .if1 .left)
+returns c = all-fails _ _ _ _ (c .before .before .before .loop-test .taken) (c .before .stored-name .ensures ∙ ap storedName (c .before .before .name-text .ensures (omega arith))) (c .if1 .left)
 
 returns-2 : tie.Need-returns-2 Inv-loop μ-loop
 returns-2 c = all-ends _ _ _ _ (c .before .loop .inv .1) (c .before .loop .inv .0) (c .loop-test .left)
@@ -48,7 +49,7 @@ names-formed-spec =
     μ-loop
     loop-holds
     name-text-requires
-    name-requires
+    stored-name-requires
     add-i
     loop-less
     loop-again

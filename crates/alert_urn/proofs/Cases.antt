@@ -1,0 +1,241 @@
+-- Letter case: laws of texts whose letters are taken as small ones.
+use Prim.Native.Nat.{ℕ, zero, suc, _+_, _-_, _≤_, _<_}
+use mathlib.Core.Path.{_≡_, refl, ap, ap₂, sym, _∙_}
+use mathlib.Core.Logic.{_⊎_, inl, inr}
+use mathlib.Core.Bool.{Bool, true, false, not, _&&_, _||_, and-true, and-eq-true-iff}
+use mathlib.Core.List.{List, [], _∷_, map}
+use native.Mathlib.Omega.{arith}
+use native.Mathlib.Nat.{zero-add}
+use native.Mathlib.Numerals.{add-one}
+use lib.ListN.{length, getD, drop, drop-of-length-le}
+use lib.Seq.{drop-cons}
+use lib.Dec.{eqb, ltb, leb}
+use borrow.Author.Tests.{eq-eqb, ne-eqb, eqb-true, eqb-false, leb-true, ltb-true, le-leb}
+use Rattle.resolution.specs.Names.{sameName}
+use Rattle.alert_urn.specs.Text.{within, all, labelByte, labelOk, upTo, past, nameOk, onFirst, fields, common, endsAt}
+use Rattle.alert_urn.specs.Urn.{lower, lowered, notCapital, noCapital, begins, bytes, restOk, alertUrn, storedName}
+use Rattle.alert_urn.proofs.Fields.{byTest}
+use Rattle.alert_urn.proofs.Turns.{same-lengths}
+
+-- a capital letter, or a byte that stays
+lower-cases : {P : Type 0} (x : ℕ) → (65 ≤ x → x ≤ 90 → lower x ≡ x + 32 → P) → (within 65 90 x ≡ false → lower x ≡ x → P) → P
+lower-cases x f g =
+    byTest (within 65 90 x)
+    (λ e. let a = and-eq-true-iff (leb 65 x) (leb x 90) .0 e in f (leb-true 65 x (a .0)) (leb-true x 90 (a .1)) (simp e))
+    (λ e. g e (simp e))
+
+pub lower-below : (x : ℕ) → x < 256 → lower x < 256
+lower-below x h = lower-cases x (λ a b e. omega arith) (λ a e. omega arith)
+
+-- a byte that is no letter is seen through it
+lower-other : (c x : ℕ) → c < 97 → (c < 65) ⊎ (90 < c) → eqb (lower x) c ≡ eqb x c
+lower-other c x h o =
+    lower-cases x
+    (λ a b e. ne-eqb (lower x) c (λ q. omega arith) ∙ sym (ne-eqb x c (λ q. out o (omega arith) (omega arith))))
+    (λ a e. ap (λ z. eqb z c) e)
+  where
+    out : (c < 65) ⊎ (90 < c) → 65 ≤ c → c ≤ 90 → ⊥
+    out (inl l) p q = omega arith
+    out (inr l) p q = omega arith
+
+pub lowered-length : (s : List ℕ) → length (lowered s) ≡ length s
+unfolding lowered
+lowered-length [] = refl
+lowered-length (x ∷ s) = ap suc (lowered-length s)
+
+pub lowered-at : (s : List ℕ) (i : ℕ) → i < length s → getD (lowered s) i 0 ≡ lower (getD s i 0)
+unfolding lowered
+lowered-at [] i h = absurd (omega arith)
+lowered-at (x ∷ s) zero h = refl
+lowered-at (x ∷ s) (suc i) h = lowered-at s i (omega arith)
+
+pub lowered-below : (s : List ℕ) → ((k : ℕ) → getD s k 0 < 256) → (k : ℕ) → getD (lowered s) k 0 < 256
+unfolding lowered
+lowered-below [] h k = h k
+lowered-below (x ∷ s) h zero = lower-below x (h 0)
+lowered-below (x ∷ s) h (suc k) = lowered-below s (λ j. h (suc j)) k
+
+-- texts of one length are equal if all their bytes are common
+pub same-common : (s p : List ℕ) → length p ≡ length s → eqb (common p s) (length p) ≡ sameName s p
+unfolding common
+same-common [] [] h = refl
+same-common [] (y ∷ p) h = absurd (omega arith)
+same-common (x ∷ s) [] h = absurd (omega arith)
+same-common (x ∷ s) (y ∷ p) h =
+    byTest (eqb x y)
+    (λ e.
+    let f : eqb y x ≡ true = eq-eqb y x (sym (eqb-true x y e)) in
+    rw (e, f) (same-suc (common p s) (length p) ∙ same-common s p (omega arith)))
+    (λ e.
+    let f : eqb y x ≡ false = ne-eqb y x (λ q. eqb-false x y e (sym q)) in
+    rw (e, f) (ne-eqb 0 (suc (length p)) (λ q. omega arith)))
+  where
+    same-suc : (n m : ℕ) → eqb (suc n) (suc m) ≡ eqb n m
+    same-suc n m =
+        byTest (eqb n m)
+        (λ e. rw (e, eq-eqb (suc n) (suc m) (ap suc (eqb-true n m e))))
+        (λ e. rw (e, ne-eqb (suc n) (suc m) (λ z. eqb-false n m e (omega arith))))
+
+-- colons stay where they are
+pub lowered-upTo : (c : ℕ) → c < 97 → (c < 65) ⊎ (90 < c) → (s : List ℕ) → upTo c (lowered s) ≡ lowered (upTo c s)
+unfolding lowered upTo
+lowered-upTo c h o [] = refl
+lowered-upTo c h o (x ∷ s) =
+    byTest (eqb x c)
+    (λ e. rw (lower-other c x h o, e))
+    (λ e. rw (lower-other c x h o, e) (ap (λ (l : List ℕ). lower x ∷ l) (lowered-upTo c h o s)))
+
+pub lowered-past : (c : ℕ) → c < 97 → (c < 65) ⊎ (90 < c) → (s : List ℕ) → past c (lowered s) ≡ lowered (past c s)
+unfolding lowered past
+lowered-past c h o [] = refl
+lowered-past c h o (x ∷ s) =
+    byTest (eqb x c)
+    (λ e. rw (lower-other c x h o, e))
+    (λ e. rw (lower-other c x h o, e) (lowered-past c h o s))
+
+pub lowered-ends : (w : List ℕ) (n : ℕ) → endsAt (lowered w) n ≡ endsAt w n
+unfolding endsAt
+lowered-ends w n =
+    byTest (ltb n (length w))
+    (λ e. rw (lowered-length w, e, lowered-at w n (ltb-true n (length w) e)) (lower-other 58 (getD w n 0) (omega arith) (inl (omega arith))))
+    (λ e. rw (lowered-length w, e))
+
+-- no capital letter so far
+module _ (s : List ℕ) (i : ℕ) (a : Bool) (v : noCapital s ≡ (not a && all notCapital (drop i s))) where
+  pub small-more : {b r : Bool} → i < length s → b ≡ within 65 90 (getD s i 0) → r ≡ (b || a) → noCapital s ≡ (not r && all notCapital (drop (i + 1) s))
+  unfolding all
+  small-more {b} {r} h e f =
+      let rest : Bool = all notCapital (drop (i + 1) s) in
+      let one : drop i s ≡ getD s i 0 ∷ drop (i + 1) s = drop-cons s i 0 h ∙ ap (λ k. getD s i 0 ∷ drop k s) (sym (add-one i)) in
+      v ∙ ap (λ l. not a && all notCapital l) one
+      ∙ ap (λ z. not a && (not z && rest)) (sym e) ∙ go a b rest ∙ ap (λ z. not z && rest) (sym f)
+    where
+      go : (x y z : Bool) → (not x && (not y && z)) ≡ (not (y || x) && z)
+      go true true z = refl
+      go true false z = refl
+      go false true z = refl
+      go false false z = refl
+
+  pub small-end : length s ≤ i → not a ≡ noCapital s
+  unfolding all
+  small-end h = sym (v ∙ ap (λ z. not a && all notCapital z) (drop-of-length-le s {i = i} h) ∙ and-true (not a))
+
+pub small-start : (s : List ℕ) → noCapital s ≡ (not false && all notCapital (drop 0 s))
+unfolding noCapital
+small-start s = refl
+
+-- the stored forms
+pub name-small : (s : List ℕ) {a b : Bool} → a ≡ noCapital s → a ≡ true → b ≡ nameOk s → b ≡ storedName s
+unfolding storedName
+name-small s e t f = f ∙ sym (rw (sym e ∙ t))
+
+pub name-capital : (s : List ℕ) {a : Bool} → a ≡ noCapital s → a ≡ false → false ≡ storedName s
+unfolding storedName
+name-capital s e t = sym (rw (sym e ∙ t))
+
+-- a byte of the lowered text, as the code has it
+pub small-byte : (s : List ℕ) (i : ℕ) {r : ℕ} → i < length s → getD s i 0 < 256 → r ≡ lower (getD s i 0) → (r ≡ getD (lowered s) i 0) × (r < 256)
+small-byte s i h b e = (e ∙ sym (lowered-at s i h), omega (arith, e, lower-below (getD s i 0) b))
+
+pub small-same : (s p : List ℕ) {n : ℕ} → length p ≡ length s → n ≡ 0 + common p (lowered s) → eqb n (length p) ≡ sameName (lowered s) p
+small-same s p h e = ap (λ z. eqb z (length p)) (e ∙ zero-add (common p (lowered s))) ∙ same-common (lowered s) p (h ∙ sym (lowered-length s))
+
+pub small-lengths : (s p : List ℕ) → (length p ≡ length s → ⊥) → false ≡ sameName (lowered s) p
+small-lengths s p n = same-lengths (lowered s) p (λ e. n (sym e ∙ lowered-length s))
+
+pub lowered-drop : (n : ℕ) (s : List ℕ) → drop n (lowered s) ≡ lowered (drop n s)
+unfolding lowered
+lowered-drop zero s = refl
+lowered-drop (suc n) [] = refl
+lowered-drop (suc n) (x ∷ s) = lowered-drop n s
+
+lower-twice : (x : ℕ) → lower (lower x) ≡ lower x
+lower-twice x =
+    lower-cases x
+    (λ a b e. ap lower e ∙ lower-cases (x + 32) (λ p q f. absurd (omega arith)) (λ p f. f) ∙ sym e)
+    (λ a e. ap lower e)
+
+pub lowered-twice : (s : List ℕ) → lowered (lowered s) ≡ lowered s
+unfolding lowered
+lowered-twice [] = refl
+lowered-twice (x ∷ s) = ap₂ _∷_ (lower-twice x) (lowered-twice s)
+
+-- the form of a URI has no regard to letter case
+in-range : (lo hi x : ℕ) → lo ≤ x → x ≤ hi → within lo hi x ≡ true
+in-range lo hi x a b = ap₂ _&&_ (le-leb lo x a) (le-leb x hi b)
+
+label-case : (x : ℕ) → labelByte (lower x) ≡ labelByte x
+unfolding labelByte
+label-case x =
+    lower-cases x
+    (λ a b e.
+    let i : within 97 122 (lower x) ≡ true = ap (within 97 122) e ∙ in-range 97 122 (x + 32) (omega arith) (omega arith) in
+    rw (i, in-range 65 90 x a b) (yes (within 97 122 x)))
+    (λ a e. ap labelByte e)
+  where
+    yes : (b : Bool) → true ≡ (b || true)
+    yes true = refl
+    yes false = refl
+
+labels-case : (s : List ℕ) → all labelByte (lowered s) ≡ all labelByte s
+unfolding lowered all
+labels-case [] = refl
+labels-case (x ∷ s) = ap₂ _&&_ (label-case x) (labels-case s)
+
+hyphen-case : (s : List ℕ) (i : ℕ) → eqb (getD (lowered s) i 0) 45 ≡ eqb (getD s i 0) 45
+unfolding lowered
+hyphen-case [] i = refl
+hyphen-case (x ∷ s) zero = lower-other 45 x (omega arith) (inl (omega arith))
+hyphen-case (x ∷ s) (suc i) = hyphen-case s i
+
+labelOk-case : (s : List ℕ) → labelOk (lowered s) ≡ labelOk s
+unfolding labelOk
+labelOk-case s =
+    ap₂ _&&_ (ap (within 1 27) (lowered-length s))
+    (ap₂ _&&_ (ap not (hyphen-case s 0))
+    (ap₂ _&&_ (ap (λ k. not (eqb (getD (lowered s) (k - 1) 0) 45)) (lowered-length s) ∙ ap not (hyphen-case s (length s - 1))) (labels-case s)))
+
+name-case : (s : List ℕ) → nameOk (lowered s) ≡ nameOk s
+unfolding nameOk
+name-case s =
+    ap₂ _||_ (labelOk-case s)
+    (ap₂ _&&_ (ap labelOk (lowered-upTo 64 (omega arith) (inl (omega arith)) s) ∙ labelOk-case (upTo 64 s))
+    (ap labelOk (lowered-past 64 (omega arith) (inl (omega arith)) s) ∙ labelOk-case (past 64 s)))
+
+first-case : (x : ℕ) (l : List (List ℕ)) → onFirst (lower x) (map lowered l) ≡ map lowered (onFirst x l)
+unfolding onFirst lowered
+first-case x [] = refl
+first-case x (f ∷ l) = refl
+
+pub fields-case : (s : List ℕ) → fields 58 (lowered s) ≡ map lowered (fields 58 s)
+unfolding fields lowered
+fields-case [] = refl
+fields-case (x ∷ s) =
+    byTest (eqb x 58)
+    (λ e. rw (lower-other 58 x (omega arith) (inl (omega arith)), e) (ap (λ l. [] ∷ l) (fields-case s)))
+    (λ e. rw (lower-other 58 x (omega arith) (inl (omega arith)), e) (ap (onFirst (lower x)) (fields-case s) ∙ first-case x (fields 58 s)))
+
+names-case : (l : List (List ℕ)) → all nameOk (map lowered l) ≡ all nameOk l
+unfolding all
+names-case [] = refl
+names-case (s ∷ l) = ap₂ _&&_ (name-case s) (names-case l)
+
+map-many : (l : List (List ℕ)) → length (map lowered l) ≡ length l
+map-many [] = refl
+map-many (s ∷ l) = ap suc (map-many l)
+
+rest-case : (s : List ℕ) → restOk (lowered s) ≡ restOk s
+unfolding restOk
+rest-case s =
+    ap₂ _&&_ (ap (λ l. leb 2 (length l)) (fields-case s) ∙ ap (leb 2) (map-many (fields 58 s)))
+    (ap (all nameOk) (fields-case s) ∙ names-case (fields 58 s))
+
+begins-case : (w s : List ℕ) → begins w (lowered s) ≡ begins w s
+unfolding begins lowered
+begins-case [] s = refl
+begins-case (x ∷ w) [] = refl
+begins-case (x ∷ w) (y ∷ s) = ap₂ _&&_ (ap (λ z. eqb z x) (lower-twice y)) (begins-case w s)
+
+pub alert-case : (uri : List ℕ) → alertUrn (lowered uri) ≡ alertUrn uri
+unfolding alertUrn
+alert-case uri = ap₂ _&&_ (begins-case (bytes "urn:alert:") uri) (ap restOk (lowered-drop 10 uri) ∙ rest-case (drop 10 uri))
