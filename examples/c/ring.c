@@ -7,25 +7,12 @@
 #include <stdio.h>
 #include <string.h>
 
+#include "read_file.h"
 #include "resolver.h"
 
 /* Room for the longest table and one byte more, so that a longer one is seen as such. */
 static uint8_t table[8192 + 1];
 static uint8_t machine[MACHINE_LONGEST];
-
-/* Reads at most `room` bytes of the file. The number of bytes, or -1 if the file cannot be read. */
-static long read_file(const char *name, uint8_t *bytes, size_t room)
-{
-    FILE *file = fopen(name, "rb");
-    size_t length;
-    int failed;
-    if (file == NULL)
-        return -1;
-    length = fread(bytes, 1, room, file);
-    failed = ferror(file);
-    fclose(file);
-    return failed ? -1 : (long)length;
-}
 
 /* The machine's answer where there is a machine; a table with too many states for one is resolved without. */
 static alert_resolution resolve(size_t table_len, const char *text)

@@ -12,12 +12,13 @@
 //! | `walk T M V` | refusal, signal, used, skipped of the machine resolver |
 //! | `feed T RECORD V` | refusal, signal, used, skipped, the record after it; a record is `signal/status,../values` |
 //! | `match T URI` | refusal, category (-1 if the URI is skipped), node, whole, bytes compared |
-use crate::{Match, Reader, Record, Resolution, Resolvers, Tables};
+//! | `tally T RECORDS REFUSALS V` | refusal, records and refusal counts after it; `chosen:used:skipped` and counts, `;` between |
+use crate::{Match, Reader, Record, Resolution, Resolvers, Tables, Tallies, Tally};
 use std::fmt::Write;
 use std::path::{Path, PathBuf};
 
 /// One file for each command, the draft's worked examples, values with folded lines, and messages of several fields.
-pub const FILES: [&str; 11] = [
+pub const FILES: [&str; 12] = [
     "value.txt",
     "entry.txt",
     "table.txt",
@@ -29,6 +30,7 @@ pub const FILES: [&str; 11] = [
     "draft.txt",
     "folded.txt",
     "fields.txt",
+    "tally.txt",
 ];
 
 /// Where the cases are.
@@ -42,6 +44,7 @@ pub enum Layer {
     Reader,
     Tables,
     Resolvers,
+    Tallies,
 }
 
 #[derive(Clone)]
@@ -57,6 +60,7 @@ impl Case {
             "value" | "entry" => Layer::Reader,
             "table" | "match" | "build" | "check" => Layer::Tables,
             "plain" | "walk" | "feed" => Layer::Resolvers,
+            "tally" => Layer::Tallies,
             other => panic!("{}: unknown command {other}", self.place),
         }
     }
@@ -193,4 +197,42 @@ pub fn ask_resolvers<I: Resolvers>(case: &Case) -> String {
         }
         other => panic!("{}: {other} is not the resolvers'", case.place),
     }
+}
+
+/// Records as a case writes them.
+pub fn show_records(records: &[Tally]) -> String {
+    listed(records.iter().map(|r| format!("{}:{}:{}", r.chosen, r.used, r.skipped)))
+}
+
+/// Refusal counts as a case writes them.
+pub fn show_counts(counts: &[u32]) -> String {
+    listed(counts.iter().map(u32::to_string))
+}
+
+fn listed(words: impl Iterator<Item = String>) -> String {
+    let text = words.collect::<Vec<_>>().join(";");
+    if text.is_empty() {
+        "-".to_string()
+    } else {
+        text
+    }
+}
+
+/// The numbers of a word, with this mark between them; none for `-`.
+fn numbers(word: &str, mark: char) -> Vec<u32> {
+    let parts = word.split(mark).filter(|part| *part != "-");
+    parts.map(|part| part.parse().unwrap_or_else(|_| panic!("{part} is no number"))).collect()
+}
+
+/// What an implementation answers to a case of the monthly count.
+pub fn ask_tallies<I: Tallies>(case: &Case) -> String {
+    let mut records: Vec<Tally> = case.words[2]
+        .split(';')
+        .map(|word| numbers(word, ':'))
+        .filter(|counts| !counts.is_empty())
+        .map(|counts| Tally { chosen: counts[0], used: counts[1], skipped: counts[2] })
+        .collect();
+    let mut refusals = numbers(&case.words[3], ';');
+    let answer = I::tally_value(&case.bytes(1), &mut records, &mut refusals, &case.bytes(4));
+    format!("{} {} {}", answer.refusal, show_records(&records), show_counts(&refusals))
 }

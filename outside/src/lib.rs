@@ -55,6 +55,15 @@ impl Resolution {
     }
 }
 
+/// What one signal was heard: how many values chose it, and the sums of their used and skipped counts.
+#[repr(C)]
+#[derive(Clone, Copy, Debug, Default, PartialEq, Eq)]
+pub struct Tally {
+    pub chosen: u32,
+    pub used: u32,
+    pub skipped: u32,
+}
+
 /// The reader of Alert-Info values: what the library alert_info answers.
 pub trait Reader {
     fn value_refusal(value: &[u8]) -> u8;
@@ -91,4 +100,9 @@ pub trait Resolvers {
     fn machine(table: &[u8], image: &[u8], value: &[u8]) -> Resolution;
     /// One value of a message that has several.
     fn feed(table: &[u8], record: &mut Record, value: &[u8]) -> Resolution;
+}
+
+/// The monthly count: what the library tally answers and leaves in the records and refusal counts.
+pub trait Tallies {
+    fn tally_value(table: &[u8], records: &mut [Tally], refusals: &mut [u32], value: &[u8]) -> Resolution;
 }

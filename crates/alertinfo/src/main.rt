@@ -2,6 +2,8 @@
 // than the libraries take, so that a longer one is refused by its number.
 mod fields;
 mod files;
+mod month;
+mod report;
 mod words;
 
 use libc::STDERR_FILENO;
@@ -14,9 +16,14 @@ fn usage(to: i32) {
     io::write_all(to, b"       alertinfo resolve TABLE VALUE [MACHINE]\n");
     io::write_all(to, b"       alertinfo match TABLE URI\n");
     io::write_all(to, b"       alertinfo feed TABLE VALUE [VALUE ..]\n");
+    io::write_all(to, b"       alertinfo tally TABLE FILE\n");
     io::write_all(
         to,
         b"TABLE and MACHINE are files. VALUE is a file, or the value itself if it begins with '<'.\n",
+    );
+    io::write_all(
+        to,
+        b"FILE has one value a line; empty lines are no values.\n",
     );
     io::write_all(
         to,
@@ -155,6 +162,7 @@ fn found(m: signal_table::Match) {
     words::counted(m.compared as u64, b" byte compared\n", b" bytes compared\n");
 }
 
+// What the URI that argument 3 is means to the table.
 fn match_uri() {
     let mut table = io::large_buffer();
     let t = files::file(2, &mut table);
@@ -187,6 +195,54 @@ fn feed(arguments: usize) {
     accepted(end.signal, m.used, m.skipped);
 }
 
+// The month of the values in a file, one a line.
+fn tally_file() {
+    let mut table = io::large_buffer();
+    let t = files::file(2, &mut table);
+    if !t.ok {
+        return;
+    }
+    let n = t.n;
+    let k = signal_table::refusal(&table[..n]);
+    if k != 0 {
+        words::refused(k);
+        return;
+    }
+    let fd = files::opened(3);
+    if fd < 0 {
+        return;
+    }
+    let r = month::of_file(fd, &table[..n]);
+    libc::close(fd);
+    if r.failed {
+        files::failed(3);
+        return;
+    }
+    let m = r.month;
+    report::month(m, tally::month::needed(&table[..n]));
+}
+
+// The commands on a table and something that is no value; whether it was one of them.
+fn table_and_other() -> bool {
+    if files::is(1, b"build") {
+        build();
+        return true;
+    }
+    if files::is(1, b"check") {
+        check();
+        return true;
+    }
+    if files::is(1, b"match") {
+        match_uri();
+        return true;
+    }
+    if files::is(1, b"tally") {
+        tally_file();
+        return true;
+    }
+    false
+}
+
 fn main() {
     let n = os::arg_count();
     if files::is(1, b"entries") {
@@ -195,15 +251,8 @@ fn main() {
             return;
         }
     }
-    if files::is(1, b"build") {
-        if n == 4 {
-            build();
-            return;
-        }
-    }
-    if files::is(1, b"check") {
-        if n == 4 {
-            check();
+    if n == 4 {
+        if table_and_other() {
             return;
         }
     }
@@ -214,12 +263,6 @@ fn main() {
         }
         if n == 5 {
             resolve(true);
-            return;
-        }
-    }
-    if files::is(1, b"match") {
-        if n == 4 {
-            match_uri();
             return;
         }
     }

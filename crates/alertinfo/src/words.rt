@@ -26,6 +26,12 @@ pub fn refusal(to: i32, k: u8) {
     io::write_all(to, b"refused ");
     io::print_decimal(to, k as u64);
     io::write_all(to, b": ");
+    reason(to, k);
+    io::write_all(to, b"\n");
+}
+
+// What a refusal number says.
+pub fn reason(to: i32, k: u8) {
     if k <= 3 {
         of_value(to, k);
     } else if k <= 12 {
@@ -33,7 +39,6 @@ pub fn refusal(to: i32, k: u8) {
     } else {
         of_others(to, k);
     }
-    io::write_all(to, b"\n");
 }
 
 fn of_value(to: i32, k: u8) {

@@ -3,6 +3,17 @@
 mod commands;
 mod fields;
 mod print;
+mod tally_cases;
+
+// `table` and `tally` begin alike.
+fn table_or_tally(line: &[u8]) {
+    let third = cases::first(cases::after(line, b'a'));
+    if third == b'l' {
+        tally_cases::tally(line);
+        return;
+    }
+    commands::table(line);
+}
 
 // The answer to one line.
 fn answer(line: &[u8]) {
@@ -10,7 +21,7 @@ fn answer(line: &[u8]) {
     match c {
         b'v' => commands::value(line),
         b'e' => commands::entry(line),
-        b't' => commands::table(line),
+        b't' => table_or_tally(line),
         b'p' => commands::plain(line),
         b'b' => commands::build(line),
         b'c' => commands::check(line),
@@ -57,4 +68,5 @@ fn main() {
     answer_file(b"draft.txt");
     answer_file(b"folded.txt");
     answer_file(b"fields.txt");
+    answer_file(b"tally.txt");
 }

@@ -6,8 +6,10 @@
 //   run.rt      going through a value from entry to entry
 //   answer.rt   the answer at its end
 //   fields.rt   one value of a message that has several Alert-Info fields
+//   by.rt       the plain resolver by a decoded table
 //   c.rt        all of it for C
 mod answer;
+pub mod by;
 mod c;
 mod fields;
 mod run;
@@ -15,7 +17,6 @@ mod run;
 use crate::answer::refused;
 use crate::run::Current;
 use carried_record::Carried;
-use node_step::State;
 ghost use mathlib.Core.Path.{_≡_};
 ghost use Rattle.resolver.specs.Resolve.{plainOf, machineOf};
 ghost use Rattle.resolver.specs.Feed.{feedOf};
@@ -43,22 +44,7 @@ pub fn plain(t: &[u8], v: &[u8]) -> Resolution
         return refused(1);
     }
     let d = stored_table::decode(t);
-    if d.refusal != 0 {
-        return answer::value_first(v, d.refusal);
-    }
-    let start = State { signal: 0, shut: 0 };
-    let no_index = [0u8; 136];
-    let no_symbols = [0u8; 384];
-    answer::resolved(
-        t,
-        d,
-        &no_index,
-        &no_symbols,
-        0,
-        t,
-        Current::Direct(start),
-        v,
-    )
+    by::plain(t, d, v)
 }
 
 // The machine resolver: the walk of the image, as it is stored, over the value v with the table t.

@@ -2,10 +2,11 @@
 mod machine;
 mod resolve;
 mod table;
+mod tally;
 mod urn;
 mod value;
 
-use crate::{Built, Match, Reader, Record, Resolution, Resolvers, Tables};
+use crate::{Built, Match, Reader, Record, Resolution, Resolvers, Tables, Tallies, Tally};
 
 pub struct Baseline;
 
@@ -68,5 +69,11 @@ impl Resolvers for Baseline {
 
     fn feed(table: &[u8], record: &mut Record, value: &[u8]) -> Resolution {
         resolve::feed(table, record, value).unwrap_or_else(Resolution::refused)
+    }
+}
+
+impl Tallies for Baseline {
+    fn tally_value(table: &[u8], records: &mut [Tally], refusals: &mut [u32], value: &[u8]) -> Resolution {
+        tally::value(table, records, refusals, value).unwrap_or(Resolution::refused(20))
     }
 }

@@ -7,6 +7,11 @@ use crate::{Record, Resolution, VALUES};
 pub fn plain(table: &[u8], value: &[u8]) -> Result<Resolution, u8> {
     let uris = Uris::read(value)?;
     let table = Decoded::read(table)?;
+    Ok(plain_by(&table, value, &uris))
+}
+
+/// The plain resolution of a value that was read, by a table that was.
+pub fn plain_by(table: &Decoded, value: &[u8], uris: &Uris) -> Resolution {
     let mut state = START;
     let mut used = 0;
     for uri in uris.iter(value) {
@@ -15,7 +20,7 @@ pub fn plain(table: &[u8], value: &[u8]) -> Result<Resolution, u8> {
             used += 1;
         }
     }
-    Ok(Resolution { refusal: 0, signal: state.signal, used, skipped: uris.count as u8 - used })
+    Resolution { refusal: 0, signal: state.signal, used, skipped: uris.count as u8 - used }
 }
 
 pub fn machine(table: &[u8], image: &[u8], value: &[u8]) -> Result<Resolution, u8> {

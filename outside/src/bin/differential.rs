@@ -4,24 +4,24 @@
 //! The reference says what is right. A difference is printed as a line that crates/conformance/data could hold. At the
 //! end stands how often each function gave each refusal number; one that was never given is a failure.
 use outside::baseline::Baseline;
-use outside::cases::{show_record, to_hex};
+use outside::cases::{show_counts, show_record, show_records, to_hex};
 use outside::random::tables::{self, Limit};
 use outside::random::{images, records, values, Random};
 use outside::reference::Reference;
-use outside::{Built, Match, Reader, Record, Resolution, Resolvers, Tables};
+use outside::{Built, Match, Reader, Record, Resolution, Resolvers, Tables, Tallies, Tally as Counts};
 use std::collections::BTreeMap;
 use std::fmt::Debug;
 use std::process::exit;
 use std::time::{Instant, SystemTime, UNIX_EPOCH};
 
-#[cfg(any(feature = "alert_info", feature = "signal_table", feature = "resolver"))]
+#[cfg(any(feature = "alert_info", feature = "signal_table", feature = "resolver", feature = "tally"))]
 use outside::ours::Ours;
 
 /// The longest image.
 const LONGEST: usize = 33_667;
 
 /// Every function with the refusal numbers that it may give.
-const FUNCTIONS: [(&str, &[u8]); 11] = [
+const FUNCTIONS: [(&str, &[u8]); 12] = [
     ("alert_info_refusal", &[0, 1, 2, 3]),
     ("alert_info_entries", &[0, 1, 2, 3]),
     ("alert_info_entry", &[0, 1, 2, 3, 18]),
@@ -33,6 +33,7 @@ const FUNCTIONS: [(&str, &[u8]); 11] = [
     ("resolve_plain", &[0, 1, 2, 3, 4, 5, 6, 7, 8, 9, 10, 11, 12]),
     ("resolve_machine", &[0, 1, 2, 3, 4, 5, 6, 7, 8, 9, 10, 11, 12, 15]),
     ("resolve_feed", &[0, 1, 2, 3, 4, 5, 6, 7, 8, 9, 10, 11, 12, 19, 28]),
+    ("tally_value", &[0, 1, 2, 3, 4, 5, 6, 7, 8, 9, 10, 11, 12, 20]),
 ];
 
 #[derive(Default)]
@@ -155,6 +156,45 @@ fn feed<I: Resolvers>(table: &[u8], record: &Record, value: &[u8]) -> (Resolutio
     let mut after = *record;
     let answer = I::feed(table, &mut after, value);
     (answer, after)
+}
+
+/// The answer with the records and counts after it.
+fn tally_value<I: Tallies>(
+    table: &[u8],
+    records: &[Counts],
+    refusals: &[u32],
+    value: &[u8],
+) -> (Resolution, Vec<Counts>, Vec<u32>) {
+    let (mut records, mut refusals) = (records.to_vec(), refusals.to_vec());
+    let answer = I::tally_value(table, &mut records, &mut refusals, value);
+    (answer, records, refusals)
+}
+
+/// A count, often close to the highest.
+fn count(random: &mut Random) -> u32 {
+    match random.below(4) {
+        0 => u32::MAX - random.below(4) as u32,
+        1 => random.number() as u32,
+        _ => random.below(100) as u32,
+    }
+}
+
+/// A tally of about as many records and counts as are needed.
+fn hold_tally(tally: &mut Tally, random: &mut Random, table: &[u8], value: &[u8]) {
+    let signals = outside::reference::table::Table::read(table).map_or(0, |table| table.signals.len());
+    let n = match random.below(6) {
+        0 => random.below(34),
+        1 => signals.saturating_sub(1),
+        _ => signals + random.below(3),
+    };
+    let m = if random.below(8) == 0 { random.below(12) } else { 12 + random.below(3) };
+    let records: Vec<Counts> =
+        (0..n).map(|_| Counts { chosen: count(random), used: count(random), skipped: count(random) }).collect();
+    let refusals: Vec<u32> = (0..m).map(|_| count(random)).collect();
+    let answers = answers!("tally", tally_value, table, &records, &refusals, value);
+    let line =
+        || format!("tally {} {} {} {}", to_hex(table), show_records(&records), show_counts(&refusals), to_hex(value));
+    tally.hold("tally_value", answers[0].1 .0.refusal, &answers, line);
 }
 
 fn hold_value(tally: &mut Tally, random: &mut Random, value: &[u8]) {
@@ -286,6 +326,7 @@ fn round(tally: &mut Tally, random: &mut Random, other: &mut Vec<u8>) {
         hold_value(tally, random, &value);
         hold_matches(tally, &table, &value);
         hold_resolvers(tally, &table, &image, &value);
+        hold_tally(tally, random, &table, &value);
         hold_agreement(tally, &table, &image, &value);
         hold_feed(tally, &table, &records::record(random, &draft), &value);
         message.push(value);
@@ -305,6 +346,9 @@ fn limits(tally: &mut Tally, random: &mut Random) {
         }
         hold_table(tally, random, &table, &machine);
         hold_check(tally, &table, &machine);
+        for value in [&b"<urn:alert:c0:p0>"[..], b"<", b"<a>"] {
+            hold_tally(tally, random, &table, value);
+        }
         for _ in 0..5 {
             hold_check(tally, &table, &images::image(random, &table, &machine));
             let value = b"<urn:alert:c0:p0>, <urn:alert:c:l1>, <urn:alert:c1:a>";

@@ -4,10 +4,11 @@ pub mod direct;
 pub mod fields;
 pub mod machine;
 pub mod table;
+pub mod tally;
 pub mod urn;
 pub mod value;
 
-use crate::{Built, Match, Reader, Record, Resolution, Resolvers, Tables};
+use crate::{Built, Match, Reader, Record, Resolution, Resolvers, Tables, Tallies, Tally};
 use table::Table;
 
 pub struct Reference;
@@ -70,5 +71,11 @@ impl Resolvers for Reference {
 
     fn feed(table: &[u8], record: &mut Record, value: &[u8]) -> Resolution {
         fields::feed(table, record, value).unwrap_or_else(Resolution::refused)
+    }
+}
+
+impl Tallies for Reference {
+    fn tally_value(table: &[u8], records: &mut [Tally], refusals: &mut [u32], value: &[u8]) -> Resolution {
+        tally::value(table, records, refusals, value).unwrap_or(Resolution::refused(20))
     }
 }

@@ -2,8 +2,7 @@ use mathlib.Core.Path.{sym, _∙_}
 use native.Mathlib.Omega.{arith}
 use Rattle.alert_info.proofs.ReadingLaws.{refusal-long}
 use Rattle.resolver.specs.Resolve.{plainOf}
-use Rattle.resolver.proofs.AnswerLaws.{value-refused, refused-first}
-use Rattle.resolver.proofs.PlainLaws.{plain-right}
+use Rattle.resolver.proofs.AnswerLaws.{value-refused}
 use borrow.Author.Needs.{needs}
 use Rattle.resolver.proofs.plain.Statement.{statement}
 use Rattle.resolver.proofs.plain.Tie as tie
@@ -18,28 +17,12 @@ returns c = c .refused .ensures ∙ value-refused _ _ _ (refusal-long _ (c .befo
 decode-requires : tie.Need-decode-requires
 decode-requires c κs = search needs
 
-value-first-requires : tie.Need-value-first-requires
-value-first-requires c κs = search needs
+plain-requires : tie.Need-plain-requires
+plain-requires c κs = search needs
 
 returns-2 : tie.Need-returns-2
-unfolding plainOf
-returns-2 c = c .value-first .ensures ∙ refused-first _ _ _ (c .before .before .before .decode .ensures .refusal) (c .before .if2 .taken)
-
-resolved-requires : tie.Need-resolved-requires
-resolved-requires c κs = search needs
-
-returns-3 : tie.Need-returns-3
-returns-3 c = let z = sym (c .before .before .before .before .before .decode .ensures .refusal) ∙ c .before .before .before .if2 .left in
-    c .resolved .ensures ∙ plain-right _ _ (c .before .before .before .before .before .decode .ensures .holds z) _ _ (omega arith) z
+returns-2 c = c .plain .ensures (c .before .decode .ensures)
 
 pub plain-spec : {M : Type 1} → statement M
 plain-spec =
-    tie.close
-    (tie.spec
-    refused-requires
-    returns
-    decode-requires
-    value-first-requires
-    returns-2
-    resolved-requires
-    returns-3)
+    tie.close (tie.spec refused-requires returns decode-requires plain-requires returns-2)

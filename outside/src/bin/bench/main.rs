@@ -9,10 +9,10 @@ mod time;
 use inputs::Inputs;
 use outside::baseline::Baseline;
 use outside::reference::Reference;
-use outside::{Reader, Record, Resolvers, Tables};
+use outside::{Reader, Record, Resolvers, Tables, Tallies, Tally};
 use std::hint::black_box;
 
-#[cfg(any(feature = "alert_info", feature = "signal_table", feature = "resolver"))]
+#[cfg(any(feature = "alert_info", feature = "signal_table", feature = "resolver", feature = "tally"))]
 use outside::ours::Ours;
 
 /// A call to measure, which is lent a buffer for an image.
@@ -107,6 +107,15 @@ fn feed_rows<'a>(inputs: &'a Inputs, rows: &mut Vec<Row<'a>>) {
     }
 }
 
+fn tally_rows<'a>(inputs: &'a Inputs, rows: &mut Vec<Row<'a>>) {
+    for (name, table, _, value) in inputs.calls() {
+        rows.push(row!("tally", "tally_value", name, |I, _| {
+            let (mut records, mut refusals) = ([Tally::default(); 32], [0; 12]);
+            I::tally_value(black_box(table), &mut records, &mut refusals, black_box(value))
+        }));
+    }
+}
+
 fn print_times(rows: &[Row], runs: usize) {
     println!("| function | input | ours | baseline | ours / baseline |");
     println!("|---|---|---:|---:|---:|");
@@ -143,6 +152,7 @@ fn main() {
     table_rows(&inputs, &mut rows);
     resolver_rows(&inputs, &mut rows);
     feed_rows(&inputs, &mut rows);
+    tally_rows(&inputs, &mut rows);
     time::warm_up(&*rows[0].baseline);
     println!("## Time of one call, best of {runs} runs\n");
     print_times(&rows, runs);

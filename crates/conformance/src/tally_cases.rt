@@ -1,0 +1,186 @@
+// The command `tally T RECORDS REFUSALS V`: refusal number, and the records and refusal counts after the value. A record is
+// `chosen:used:skipped`; `;` stands between records and between counts, `-` for none.
+use crate::print;
+use tally::Tally;
+
+// At most 32 records.
+struct Sheet {
+    items: [Tally; 32],
+    n: usize,
+}
+
+// One more digit of a number up to 4,294,967,295.
+fn more(n: u64, b: u8) -> u64 {
+    if b < b'0' {
+        return n;
+    }
+    if b'9' < b {
+        return n;
+    }
+    if 429496729 < n {
+        return n;
+    }
+    let digit = b - b'0';
+    n * 10 + digit as u64
+}
+
+fn number(s: &[u8]) -> u32 {
+    let mut n = 0;
+    let mut i = 0;
+    while i < s.len() {
+        n = more(n, s[i]);
+        i += 1;
+    }
+    if 4294967295 < n {
+        return 0;
+    }
+    n as u32
+}
+
+fn record(word: &[u8]) -> Tally {
+    let rest = cases::after(word, b':');
+    Tally {
+        chosen: number(cases::before(word, b':')),
+        used: number(cases::before(rest, b':')),
+        skipped: number(cases::after(rest, b':')),
+    }
+}
+
+// One record more.
+fn with(r: Sheet, x: Tally) -> Sheet {
+    let n = r.n;
+    let items = r.items;
+    if 32 <= n {
+        return Sheet { items, n };
+    }
+    let mut after = items;
+    after[n] = x;
+    Sheet {
+        items: after,
+        n: n + 1,
+    }
+}
+
+fn none() -> Sheet {
+    let zero = Tally {
+        chosen: 0,
+        used: 0,
+        skipped: 0,
+    };
+    let items = [zero; 32];
+    Sheet { items, n: 0 }
+}
+
+fn records(text: &[u8]) -> Sheet {
+    let mut r = none();
+    if cases::first(text) == b'-' {
+        return r;
+    }
+    let end = text.len();
+    let mut at = 0;
+    while at < end {
+        let word = cases::before(&text[at..end], b';');
+        r = with(r, record(word));
+        at = at + word.len() + 1;
+    }
+    r
+}
+
+// One count more, after n of them.
+fn put(counts: &mut [u32], n: usize, x: u32) -> usize {
+    if counts.len() <= n {
+        return n;
+    }
+    counts[n] = x;
+    n + 1
+}
+
+fn counts(text: &[u8], out: &mut [u32]) -> usize {
+    if cases::first(text) == b'-' {
+        return 0;
+    }
+    let end = text.len();
+    let mut n = 0;
+    let mut at = 0;
+    while at < end {
+        let word = cases::before(&text[at..end], b';');
+        n = put(out, n, number(word));
+        at = at + word.len() + 1;
+    }
+    n
+}
+
+// What stands before element i: a semicolon between elements.
+fn between(i: usize) {
+    if i == 0 {
+        print::text(b" ");
+    } else {
+        print::text(b";");
+    }
+}
+
+fn print_record(items: [Tally; 32], i: usize) {
+    if 32 <= i {
+        return;
+    }
+    between(i);
+    let x = items[i];
+    print::number(x.chosen as usize);
+    print::text(b":");
+    print::number(x.used as usize);
+    print::text(b":");
+    print::number(x.skipped as usize);
+}
+
+fn print_records(items: [Tally; 32], n: usize) {
+    if n == 0 {
+        print::text(b" -");
+    }
+    let mut i = 0;
+    while i < n {
+        print_record(items, i);
+        i += 1;
+    }
+}
+
+fn print_count(x: u32, i: usize) {
+    between(i);
+    print::number(x as usize);
+}
+
+fn print_counts(counts: &[u32]) {
+    if counts.len() == 0 {
+        print::text(b" -");
+    }
+    let mut i = 0;
+    while i < counts.len() {
+        print_count(counts[i], i);
+        i += 1;
+    }
+}
+
+fn answer(t: &[u8], r: Sheet, counts: &mut [u32], v: &[u8]) {
+    let n = r.n;
+    let items = r.items;
+    let c = tally::month::value(t, items, n, counts, v);
+    let a = c.answer;
+    let after = c.records;
+    print::number(a.refusal as usize);
+    print_records(after, n);
+    print_counts(counts);
+}
+
+pub fn tally(line: &[u8]) {
+    let mut t = [0u8; 16384];
+    let n = cases::decode(cases::word(line, 1), &mut t);
+    let r = records(cases::word(line, 2));
+    let mut c = [0u32; 16];
+    let m = counts(cases::word(line, 3), &mut c);
+    if 16 < m {
+        return;
+    }
+    let mut v = [0u8; 8192];
+    let k = cases::decode(cases::word(line, 4), &mut v);
+    let a = 0;
+    answer(&t[..n], r, &mut c[a..m], &v[..k]);
+}
