@@ -8,8 +8,6 @@ use lib.ListN.{getD}
 use borrow.Author.Tests.{le-leb, ltb-true, ltb-false}
 use native.Mathlib.Omega.{arith}
 use Rattle.alert_urn.proofs.Fields.{byTest}
-use Rattle.resolution.specs.Table.{Table}
-use Rattle.carried_record.specs.declared.Carried.{Carried}
 use Rattle.carried_record.specs.Record.{mostOf, statusesFit, carriedFits, Fitting, FitsExactly}
 use Rattle.carried_record.proofs.BitLaws.{fit-both, most-in, most-past, fits-to, fits-of}
 

@@ -12,3 +12,4 @@ pub mod FeedingLaws
 pub mod DemandLaws
 pub mod Examples
 pub mod DemandExample
+pub mod FieldsExample

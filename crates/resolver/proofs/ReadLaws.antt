@@ -3,7 +3,7 @@ use Prim.Native.Nat.{ℕ, _+_, _≤_, _<_}
 use mathlib.Core.Path.{_≡_, refl, sym, ap, ap₂, _∙_, subst}
 use mathlib.Core.Bool.{true, false, cond, _&&_}
 use mathlib.Core.List.{List, [], _∷_, foldl}
-use lib.Dec.{eqb, leb, ltb}
+use lib.Dec.{leb, ltb}
 use lib.ListN.{length, take, length-map, length-take}
 use borrow.Author.Tests.{eq-eqb, ne-eqb}
 use native.Mathlib.Omega.{arith}
@@ -18,7 +18,7 @@ use Rattle.node_step.specs.Step.{coded}
 use Rattle.node_step.specs.declared.State.{State}
 use Rattle.carried_record.specs.declared.Carried.{Carried}
 use Rattle.carried_record.specs.Record.{statusOf, statusesFit, stateIn, carriedAs, carriedFits, counted}
-use Rattle.carried_record.specs.Bits.{Fits, fitsBy, shutBits, stateWith, carriedWith}
+use Rattle.carried_record.specs.Bits.{Fits, fitsBy, stateWith, carriedWith}
 use Rattle.carried_record.proofs.BitLaws.{shut-right, bytes-right}
 use Rattle.stored_table.specs.Tables.{tableRefusal, tableOf}
 use Rattle.stored_table.specs.Decoded.{Holds, Means}

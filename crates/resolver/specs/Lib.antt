@@ -5,3 +5,4 @@ pub mod Feeding
 pub mod Demands
 pub mod Examples
 pub mod DemandExample
+pub mod FieldsExample
