@@ -4,3 +4,4 @@ pub mod Judging
 pub mod Accepting
 pub mod Decoding
 pub mod RefusalNumbers
+pub mod Capitals

@@ -4,3 +4,4 @@ pub mod Held
 pub mod Accepted
 pub mod Stages
 pub mod Decoded
+pub mod Capitals
