@@ -9,7 +9,7 @@ use Rattle.alert_urn.specs.Urn.{alertUrn, begins, bytes, bytesFrom, lowered, no
 use Rattle.node_step.specs.Uses.{usedUrn}
 use Rattle.resolution.specs.Direct.{step}
 use Rattle.resolution.specs.Nodes.{nodes}
-use Rattle.stored_table.specs.Stored.{andThen, byteIn, counted, stored, storedFrom, text, times}
+use Rattle.table_sections.specs.Stored.{andThen, byteIn, counted, stored, storedFrom, text, times}
 use Rattle.stored_table.specs.Tables.{any, categoryNames, distinct, fewNodes, formed, isListed, judged, judgedRead, listed, namesRead, noTwo, plain, single, tableOf, tableRead, tableRefusal, uses, verdict}
 use Rattle.carried_record.specs.Record.{statusesFit, carriedFits}
 use Rattle.resolver.specs.Feed.{feedOf}

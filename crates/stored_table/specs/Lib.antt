@@ -1,4 +1,3 @@
-pub mod Stored
 pub mod Tables
 pub mod Held
 pub mod Accepted
