@@ -4,3 +4,6 @@ pub mod Accepted
 pub mod Stages
 pub mod Decoded
 pub mod Capitals
+pub mod Limits
+pub mod Written
+pub mod Examples
