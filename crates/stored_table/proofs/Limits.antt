@@ -60,16 +60,14 @@ limits =
       least-signals = ((λ t e k h. omega (arith, h, some-signals t e)), (least, least-formed, at 1 _ _ least-counts));
       most-signals = ((λ t e k h. omega (arith, h, accepted t e .few-signals)), (fullest, fullest-formed, at 1 _ _ most-counts));
       most-nodes = ((λ t e k h. omega (arith, h, accepted t e .few-nodes)), (fullest, fullest-formed, at 2 _ _ most-counts));
-      least-parts =
-          (
-            (λ t e k p. omega (arith, p .4, not-empty (p .2 .path) (accepted t e .some-part (p .0) (p .1) (p .2) (p .3)))),
-            (least, least-formed, shortest),
-          );
-      most-parts =
-          (
-            (λ t e k p. omega (arith, p .4, accepted t e .few-parts (p .0) (p .1) (p .2) (p .3))),
-            (fullest, fullest-formed, longest),
-          );
+      least-parts = (
+        (λ t e k p. omega (arith, p .4, not-empty (p .2 .path) (accepted t e .some-part (p .0) (p .1) (p .2) (p .3)))),
+        (least, least-formed, shortest),
+      );
+      most-parts = (
+        (λ t e k p. omega (arith, p .4, accepted t e .few-parts (p .0) (p .1) (p .2) (p .3))),
+        (fullest, fullest-formed, longest),
+      );
     }
   where
     some-signals : (t : List ℕ) → tableRefusal t ≡ 0 → 2 ≤ length (tableOf t .signals)
