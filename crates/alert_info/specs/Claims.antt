@@ -107,7 +107,7 @@ Places = (s : List ℕ) (k : ℕ) → k < entriesOf s → Lies White s k
 abbrev pub OnePlace : Type 0
 OnePlace = (s : List ℕ) (k : ℕ) (a b : List ℕ) → k < entriesOf s → Before White k a → s ≡ a ++ b → spanOf s k .start ≡ length a
 
--- without CR; so also a value without CR and LF
+-- no byte is CR: so whatever has neither CR nor LF
 abbrev pub notCr : ℕ → Bool
 notCr b = not (eqb b (code "\r"))
 

@@ -43,7 +43,7 @@ countTo c r = cond (accepted r) c (set c (r .refusal - 1) (getD c (r .refusal - 
 unfoldable pub needed : List ℕ → ℕ
 needed t = cond (eqb (tableRefusal t) 0) (length (tableOf t .signals)) 0
 
--- 20, whatever the value: fewer than 12 refusal counts, or fewer records than the table needs
+-- 20, whatever the value: not all 12 refusal counts, or not all the records that the table needs
 unfoldable pub tooFew : List ℕ → ℕ → ℕ → Bool
 tooFew t n m = cond (ltb m 12) true (ltb n (needed t))
 
