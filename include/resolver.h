@@ -43,7 +43,7 @@ typedef struct alert_record {
 /* The signal after one more value of a message that has several Alert-Info fields: resolution goes on from the record,
  * and the record is changed for the next value. Used and skipped are this value's own. Refused, in this order, with 4
  * to 12; 28: the record is none of this table, its signal, a status or its number of values is out of range; 19: 16
- * values were fed before; 1 to 3. A refusal leaves the record as it is, except that a value refused with 1 to 3 is
+ * values were fed before; 1 to 3. A refusal leaves the record as it is, except that after 1 to 3 the value is
  * counted in `values`. The record must overlap neither table nor value. */
 alert_resolution resolve_feed(const uint8_t *table, size_t len, alert_record *record, const uint8_t *value,
                               size_t value_len);

@@ -12,7 +12,7 @@ pub mod ours;
 pub mod random;
 pub mod reference;
 
-/// What a build answers: its refusal number, and the image's length (0 if refused).
+/// What a build answers: its refusal number, and how long the image is, which is 0 after a refusal.
 #[repr(C)]
 #[derive(Clone, Copy, Debug, PartialEq, Eq)]
 pub struct Built {
@@ -55,7 +55,7 @@ impl Resolution {
     }
 }
 
-/// What one signal was heard: how many values chose it, and the sums of their used and skipped counts.
+/// What one signal was heard: how many values chose it, and what these used and skipped in all.
 #[repr(C)]
 #[derive(Clone, Copy, Debug, Default, PartialEq, Eq)]
 pub struct Tally {

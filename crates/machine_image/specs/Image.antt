@@ -21,7 +21,7 @@ abbrev pub kindOf : Bool → ℕ
 kindOf false = 0
 kindOf true = 1
 
--- a symbol: its category, its node (0 for the root), and its kind (0 node, 1 Other)
+-- a symbol: its category; its node, where 0 is the root; its kind, 0 for a node and 1 for Other
 abbrev pub symbolBytes : List Urn → Symbol → List ℕ
 symbolBytes ns s = s .cat ∷ number ns (s .cat) (s .path) ∷ kindOf (s .other) ∷ []
 

@@ -1,4 +1,4 @@
--- The walk of an image over a list of URIs, checked or not: it reads the image as stored.
+-- How an image is walked, checked or not, over URIs: it is read as stored.
 use Prim.Native.Nat.{ℕ}
 use mathlib.Core.Option.{Option}
 use mathlib.Core.List.{List, map, foldl}
@@ -14,7 +14,7 @@ use Rattle.machine_image.specs.Image.{signalIn, targetIn}
 abbrev pub urisOf : List Name → List (List ℕ) → List (Option Urn)
 urisOf names l = map (usedUrn names) l
 
--- a used URN moves the walk to the target that the present state's row holds for its symbol
+-- a used URN leads to what the row of the present state has at its symbol
 abbrev pub stepIn : Table → List ℕ → ℕ → Urn → ℕ
 stepIn T im j u = targetIn im j (symbolIndex (symbolOf (nodes T) u) (symbols T))
 
@@ -22,6 +22,6 @@ stepIn T im j u = targetIn im j (symbolIndex (symbolOf (nodes T) u) (symbols T))
 abbrev pub walkIn : Table → List ℕ → List (Option Urn) → ℕ
 walkIn T im l = foldl (stepUri (stepIn T im)) 0 l
 
--- the walk's signal is its state's
+-- the signal of the state that the walk is in
 abbrev pub walkSignal : Table → List ℕ → List (Option Urn) → ℕ
 walkSignal T im l = signalIn im (walkIn T im l)

@@ -163,7 +163,7 @@ snoc-view (y ∷ r) = go (snoc-view r)
 pub candidates-snoc : (q e : Parts) (x : Name) → candidates q (e ++ x ∷ []) ≡ (q ++ e ++ x ∷ []) ∷ candidates q e
 candidates-snoc q e x = ap (λ l. l ++ q ∷ []) (longer-append q e (x ∷ []))
 
--- p is u or an ancestor of u, as a test of what is left
+-- p is u or above it, as a test of what is left
 abbrev pub someBelow : Option Parts → Bool
 someBelow none = false
 someBelow (some r) = true

@@ -20,7 +20,7 @@ pub record State : Type 0 where
   pub signal : ℕ
   pub status : List Status
 
--- signal 0 and every category open
+-- before the first URN: signal 0, nothing shut
 abbrev pub start : ℕ → State
 start n = record { signal = 0; status = replicate n Open }
 
@@ -89,7 +89,7 @@ pub record StateOf (t : Table) (st : State) : Type 0 where
   pub live : find t (rowOf t (st .signal)) ≡ some (st .signal)
   pub sized : length (st .status) ≡ t .cats
 
--- a used URN of a table: its category is in the table, and its path has at least one part
+-- a used URN of a table: its category is one of the table's, and its path has a part
 pub record Used (t : Table) (u : Urn) : Type 0 where
   pub known : u .cat < t .cats
   pub some-part : u .path ≢ []
@@ -124,7 +124,7 @@ abbrev pub changed : Bool → ℕ
 changed true = 0
 changed false = 1
 
--- how often the signal changes over a list: at an element if its number after it is another than before
+-- how often the signal changes over a list: once for each element that gives it another number
 abbrev pub changes : {S A : Type 0} → (S → ℕ) → (S → A → S) → S → List A → ℕ
 changes signalOf next s [] = 0
 changes signalOf next s (a ∷ l) = changed (eqb (signalOf (next s a)) (signalOf s)) + changes signalOf next (next s a) l

@@ -33,7 +33,7 @@ addUrn seen u = foldl (λ s p. addBy sameUrn s (urn (u .cat) p)) seen (prefixes 
 abbrev pub addSignal : List Urn → List Urn → List Urn
 addSignal seen sig = foldl addUrn seen sig
 
--- a node is a path with at least one part that is some signal's place or above it.
+-- the nodes are the paths, but for the root, that are some signal's place or above it.
 -- Nodes stand in the order of first appearance, ancestors first
 unfoldable pub nodes : Table → List Urn
 nodes t = foldl addSignal [] (t .signals)

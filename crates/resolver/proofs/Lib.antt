@@ -13,3 +13,5 @@ pub mod DemandLaws
 pub mod Examples
 pub mod DemandExample
 pub mod FieldsExample
+pub mod NumberExamples
+pub mod Numbers

@@ -4,7 +4,7 @@ use Prim.Native.Nat.{ℕ}
 use mathlib.Core.List.{List, [], _∷_, _++_}
 use lib.ListN.{length}
 use Rattle.node_step.specs.Uses.{usedUrn}
-use Rattle.stored_table.specs.Stored.{Read, fault, got, Stored, stored}
+use Rattle.table_sections.specs.Stored.{Read, fault, got, Stored, stored}
 use Rattle.stored_table.specs.Tables.{tableOf, tableRead, categoryNames, namesRead}
 use Rattle.resolver.specs.Resolve.{takenAs}
 

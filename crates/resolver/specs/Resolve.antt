@@ -25,7 +25,7 @@ directSignal t uris = direct (tableOf t) (usedOf (takenAs t uris)) .signal
 abbrev pub walkedSignal : List ℕ → List ℕ → List (List ℕ) → ℕ
 walkedSignal t im uris = walkSignal (tableOf t) im (takenAs t uris)
 
--- a refused resolution has signal 0 and counts 0
+-- refused: all zero but the number
 abbrev pub refused : ℕ → Resolution
 refused k = record { refusal = k; signal = 0; used = 0; skipped = 0 }
 

@@ -13,7 +13,7 @@ ghost use Rattle.alert_info.specs.Value.{refusalOf};
 ghost use Rattle.resolver.specs.Resolve.{refused as refusedWith};
 ghost use Rattle.resolver.specs.Run.{signalNow, answerOf, resolvedFrom};
 
-// A refused resolution has signal 0 and counts 0.
+// Refused: all zero but the number.
 pub(crate) fn refused(k: u8) -> Resolution
     ensures { λ r. ⌜ r ≡ refusedWith k ⌝ }
 {

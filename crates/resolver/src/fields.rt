@@ -36,7 +36,7 @@ pub(crate) fn unchanged(k: u8, carried: Carried) -> Fed
     Fed { answer, carried }
 }
 
-// A value refused with 1 to 3 is counted.
+// A value that is refused for its own sake is counted.
 fn counted(answer: Resolution, carried: Carried) -> Fed
     requires { ⌜ carried .values < 16 ⌝ }
     ensures { λ r. ⌜ r ≡ record { answer = answer; carried = countedOf carried } ⌝ }

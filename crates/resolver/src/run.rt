@@ -36,7 +36,7 @@ fn ended(fits: bool, progress: Progress) -> Outcome
     Outcome { fits, progress }
 }
 
-// A used URN takes direct resolution one step on, or the walk to the target that the state's row holds for its symbol.
+// A used URN takes direct resolution one step on, or the walk to what the row of its state has at the symbol.
 fn moved_by<'a>(
     rows: &'a [u64; 32],
     parent: &'a [u8; 64],

@@ -37,7 +37,7 @@ pub record RightForm (T : Table) (im : List ℕ) : Type 0 where
   pub shut-within : (j c : ℕ) → j < stateCount im → T .cats ≤ c → shutIn im j / 2 ^ c % 2 ≡ 0
   pub leads : (j k : ℕ) → j < stateCount im → k < symbolCount im → targetIn im j k < stateCount im
 
--- the table is well-formed, and the image's form, its start and every row of every state are right for it
+-- the table is well-formed, and the image is right for it: its form, its start and all its rows
 pub record RightImage (t im : List ℕ) : Type 0 where
   pub well-formed : tableRefusal t ≡ 0
   pub form : RightForm (tableOf t) im

@@ -6,7 +6,7 @@ ghost use lib.ListN.{length, take, replicate};
 ghost use Rattle.signal_table.specs.Built.{refused};
 ghost use Rattle.signal_table.specs.States.{nextPair, builtBy, bufferBy};
 
-// What a build answers: its refusal number, and the image's length, 0 if refused.
+// What a build answers: its refusal number, and how long the image is, which is 0 after a refusal.
 #[repr(C)]
 pub struct Built {
     pub refusal: u8,

@@ -2,7 +2,7 @@
 use super::urn;
 use crate::Match;
 
-/// A node: its category, its parent (0 for the root), and where its path and its last name stand in the table.
+/// A node: its category, its parent, where its path stands in the table, and its last name. The root is 0.
 #[derive(Clone, Copy)]
 pub struct Node {
     pub category: u8,
@@ -245,7 +245,7 @@ impl<'a> Decoded<'a> {
         (1..self.signal_count).any(|i| (0..i).any(|j| equal(i, j)))
     }
 
-    /// The deepest node that is the URN or its ancestor, with whether it is the URN whole; nothing for a skipped URI.
+    /// The deepest node that is the URN or above it, with whether it is the URN whole; nothing for a skipped URI.
     pub fn find(&self, uri: &[u8]) -> Option<(usize, u8, bool)> {
         let urn = urn::after_prefix(uri)?;
         let (length, _) = urn::form(urn)?;
@@ -267,7 +267,7 @@ impl<'a> Decoded<'a> {
         &self.bytes[node.path_start as usize..node.name_start as usize + node.name_length as usize]
     }
 
-    /// The search that counts: the category's nodes by number, up to a leaf that is the URN or above it.
+    /// The search that counts: the category's nodes by number, up to the URN's leaf.
     pub fn matched(&self, uri: &[u8]) -> Match {
         let urn = urn::after_prefix(uri).and_then(|urn| urn::form(urn).map(|(length, _)| urn.split_at(length)));
         let found = urn.and_then(|(name, path)| self.category(name).map(|category| (category, &path[1..])));
@@ -297,7 +297,7 @@ impl<'a> Decoded<'a> {
         self.rows[..self.signal_count].iter().position(|&r| r == row)
     }
 
-    /// One used URN: its category, the deepest node that is the URN or its ancestor, and whether it is the URN.
+    /// One used URN: its category, the deepest node that is the URN or above it, and whether it is the URN.
     pub fn step(&self, state: State, category: usize, node: u8, whole: bool) -> State {
         if state.shut >> category & 1 == 1 {
             return state;
@@ -331,7 +331,7 @@ impl<'a> Decoded<'a> {
     }
 }
 
-/// A current signal with the set of shut categories.
+/// The current signal, and which categories are shut.
 #[derive(Clone, Copy, PartialEq, Eq)]
 pub struct State {
     pub signal: u8,

@@ -4,19 +4,19 @@ use super::value::uris;
 use crate::Resolution;
 use std::collections::BTreeSet;
 
-/// A current signal with the set of shut categories.
+/// The current signal, and which categories are shut.
 #[derive(Clone, PartialEq, Eq, Debug, Hash)]
 pub struct State {
     pub signal: usize,
     pub shut: BTreeSet<usize>,
 }
 
-/// Signal 0 and every category open.
+/// Before the first URN: signal 0, nothing shut.
 pub fn start() -> State {
     State { signal: 0, shut: BTreeSet::new() }
 }
 
-/// The table's signal with place p in c and with the current signal's places in every other category.
+/// The signal of the table that is placed as the current one is, but at p in category c.
 fn signal_with(table: &Table, current: usize, c: usize, p: &[Vec<u8>]) -> Option<usize> {
     let fits = |places: &Vec<Vec<Vec<u8>>>| {
         (0..table.categories.len())
@@ -25,14 +25,14 @@ fn signal_with(table: &Table, current: usize, c: usize, p: &[Vec<u8>]) -> Option
     table.signals.iter().position(fits)
 }
 
-/// One used URN u, of category c.
+/// A step by a used URN.
 pub fn step(table: &Table, state: &State, urn: &Node) -> State {
     let (c, u) = (urn.category, &urn.path);
     let place = &table.signals[state.signal][c];
     if state.shut.contains(&c) || !is_proper_ancestor(place, u) {
         return state.clone();
     }
-    // The longest p that is u or an ancestor of u, no shorter than the present place.
+    // Candidates from the URN itself up to the present place: the first with a signal.
     for length in (place.len()..=u.len()).rev() {
         if let Some(signal) = signal_with(table, state.signal, c, &u[..length]) {
             let mut shut = state.shut.clone();
@@ -42,7 +42,7 @@ pub fn step(table: &Table, state: &State, urn: &Node) -> State {
             return State { signal, shut };
         }
     }
-    unreachable!("the current signal itself is the last candidate")
+    unreachable!("the present place has the current signal")
 }
 
 /// The plain resolver.

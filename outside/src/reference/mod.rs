@@ -43,7 +43,7 @@ impl Tables for Reference {
         }
     }
 
-    /// A refused build leaves the buffer all zero; after a successful one, the bytes past the image are 0.
+    /// The buffer has the image and then zeros, or zeros alone after a refusal.
     fn build(table: &[u8], buffer: &mut [u8]) -> Built {
         buffer.fill(0);
         match machine::build(table, buffer.len()) {
