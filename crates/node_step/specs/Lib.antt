@@ -1,3 +1,5 @@
 pub mod Arrays
+pub mod Branches
 pub mod Step
 pub mod Uses
+pub mod StatusByte

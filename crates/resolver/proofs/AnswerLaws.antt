@@ -71,6 +71,7 @@ refused-first t v r {k} e n =
     (λ q. ap (λ b. refused (cond b k (refusalOf v))) q ∙ ap refused e ∙ table-refused t v r (eqb-true (refusalOf v) 0 q) (λ z. n (e ∙ z)))
     (λ q. ap (λ b. refused (cond b k (refusalOf v))) q ∙ value-refused t v r refl (pos-of-ne (eqb-false (refusalOf v) 0 q)))
 
+<<<<<<< HEAD
 -- how a run over a value can end: the value is refused and so is every answer, or it is accepted, the run is at x, and an answer has its counts
 pub data Ended (t v : List ℕ) (x : Current) (o : Outcome) : Type 0 where
   not-taken : (refusalOf v ≡ 0 → ⊥) → ((s : ℕ) → answerOf o s ≡ refused (refusalOf v)) → Ended t v x o
@@ -78,14 +79,27 @@ pub data Ended (t v : List ℕ) (x : Current) (o : Outcome) : Type 0 where
 
 module _ (t : List ℕ) (T : Table) (d : Decoded) (h : Holds t T d) (m : Machine) (v : List ℕ) (short : length v ≤ 4096)
     {S : Type 0} (valid : S → Type 0) (f : S → Urn → S) (shown : S → Current) (steps : Steps t T d h m valid f shown) (s : S) (ok : valid s) where
+=======
+module _ (t : List ℕ) (T : Table) (d : Decoded) (h : Holds t T d) (m : Machine) (v : List ℕ) (short : length v ≤ 4096) (formed : tableRefusal t ≡ 0)
+    {S : Type 0} (valid : S → Type 0) (f : S → Urn → S) (shown : S → Current) (steps : Steps t T d h m valid f shown) (s : S) (ok : valid s)
+    (signalOf : S → ℕ) (tells : (s : S) → signalNow (m .categories) (m .image) (shown s) ≡ signalOf s) where
+>>>>>>> b8e7a93 (prototype: held, on the base)
   abbrev given : List (List ℕ) → List Urn
   given uris = usedOf (takenAs t uris)
 
   abbrev end : Current
   end = shown (foldl f s (given (urisOf v)))
 
+<<<<<<< HEAD
   -- the run over a reading of the value
   by-reading : (r : Reading) → readingOf v ≡ r → Ended t v end (runOf (begin (shown s)) (over v (after t d m) (begin (shown s)) r))
+=======
+  abbrev ended : Outcome → Resolution
+  ended o = answerOf o (signalNow (m .categories) (m .image) (o .progress .current))
+
+  -- the answer over a reading of the value
+  by-reading : (r : Reading) → readingOf v ≡ r → ended (runOf (begin (shown s)) (over v (after t d m) (begin (shown s)) r)) ≡ unlessRefused t v wanted
+>>>>>>> b8e7a93 (prototype: held, on the base)
   unfolding over answerOf
   by-reading unfit e =
       let z = refusal-unfit v short unfit e refl in
@@ -117,16 +131,30 @@ module _ (t : List ℕ) (T : Table) (d : Decoded) (h : Holds t T d) (m : Machine
 
       many : 64 < length ps → Ended t v end (record { fits = true; progress = last })
       many k =
+<<<<<<< HEAD
           let z = refusal-many v short (spans ps) e ps refl k in
           not-taken (λ q. omega arith)
           (λ n. ap (λ b. cond b (refused 3) (record { refusal = 0; signal = n; used = used; skipped = skipped }))
           (lt-ltb 64 (used + skipped) (omega (arith, all))) ∙ ap refused (sym z))
+=======
+          ap (λ b. cond b (refused 3) (record { refusal = 0; signal = signalNow (m .categories) (m .image) (last .current); used = used; skipped = skipped }))
+          (lt-ltb 64 (used + skipped) (omega (arith, all)))
+          ∙ value-refused t v wanted (refusal-many v short (spans ps) e ps refl k) (omega arith)
+>>>>>>> b8e7a93 (prototype: held, on the base)
 
       same : urisOf v ≡ uris → length ps ≤ 64 → Ended t v end (record { fits = true; progress = last })
       same u k =
+<<<<<<< HEAD
           taken (refusal-none v short (spans ps) e ps refl k) (ap (λ l. shown (foldl f s (given l))) (sym u))
           (λ n. ap (λ b. cond b (refused 3) (record { refusal = 0; signal = n; used = used; skipped = skipped }))
           (le-ltb 64 (used + skipped) (omega (arith, all))) ∙ ap (λ l. answered t l n) (sym u))
+=======
+          ap (λ b. cond b (refused 3) (record { refusal = 0; signal = signalNow (m .categories) (m .image) (last .current); used = used; skipped = skipped }))
+          (le-ltb 64 (used + skipped) (omega (arith, all)))
+          ∙ ap (λ n. record { refusal = 0; signal = n; used = used; skipped = skipped }) (tells (foldl f s (given uris)))
+          ∙ ap (λ l. answered t l (signalOf (foldl f s (given l)))) (sym u)
+          ∙ none-refused t v wanted (refusal-none v short (spans ps) e ps refl k) formed
+>>>>>>> b8e7a93 (prototype: held, on the base)
 
       counted : Ended t v end (record { fits = true; progress = last })
       counted =
@@ -156,6 +184,6 @@ module _ (t : List ℕ) (T : Table) (d : Decoded) (h : Holds t T d) (m : Machine
 
 -- the answer of a run, its signal and its numbers put together
 pub resolved-steps : (t : List ℕ) (d : Decoded) (m : Machine) (x : Current) (v : List ℕ) {o : Outcome} {s : ℕ} {r : Resolution}
-    → o ≡ runFrom t d m v (begin x) 0 → s ≡ signalNow (m .image) (o .progress .current) → r ≡ answerOf o s → r ≡ resolvedFrom t d m x v
+    → o ≡ runFrom t d m v (begin x) 0 → s ≡ signalNow (m .categories) (m .image) (o .progress .current) → r ≡ answerOf o s → r ≡ resolvedFrom t d m x v
 unfolding resolvedFrom
-resolved-steps t d m x v e f g = g ∙ ap (answerOf _) f ∙ ap (λ (o : Outcome). answerOf o (signalNow (m .image) (o .progress .current))) e
+resolved-steps t d m x v e f g = g ∙ ap (answerOf _) f ∙ ap (λ (o : Outcome). answerOf o (signalNow (m .categories) (m .image) (o .progress .current))) e

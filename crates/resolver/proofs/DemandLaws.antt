@@ -147,7 +147,7 @@ module _ (t : List ℕ) (ok : tableRefusal t ≡ 0) where
         only-given = c .only-given;
         still-says = λ k p s. rw (taken-append t before after) (c .still-says k p s);
         few-changes = rw (
-          ← changes-map (signalIn im) (stepUri (stepIn (tableOf t) im)) (usedUrn (categoryNames t)) 0 (before ++ after),
+          ← changes-map (signalIn (tableOf t .cats) im) (stepUri (stepIn (tableOf t) im)) (usedUrn (categoryNames t)) 0 (before ++ after),
           taken-append t before after,
         )
             (c .few-changes);

@@ -12,8 +12,8 @@ use Rattle.alert_info.specs.declared.alert_param.Span.{Span}
 use Rattle.alert_info.specs.declared.alert_param.Found.{Found}
 use Rattle.alert_info.specs.declared.alert_param.Found.the-variants.{Last, More, None}
 use Rattle.alert_info.proofs.ReadingLaws.{reading-last, reading-more, reading-none}
-use Rattle.node_step.specs.Step.{stepNumbers}
-use Rattle.node_step.specs.declared.State.{State}
+use Rattle.node_step.specs.StatusByte.{stepPacked}
+use Rattle.node_step.specs.declared.stored.Packed.{Packed}
 use Rattle.node_step.specs.declared.uses.Use.{Use}
 use Rattle.node_step.specs.declared.uses.Use.the-variants.{Skipped, Used}
 use Rattle.stored_table.specs.declared.Decoded.{Decoded}
@@ -21,16 +21,16 @@ use Rattle.resolver.specs.declared.run.Current.{Current}
 use Rattle.resolver.specs.declared.run.Current.the-variants.{Direct, Walk}
 use Rattle.resolver.specs.declared.run.Progress.{Progress}
 use Rattle.machine_image.specs.Image.{targetIn}
-use Rattle.signal_table.specs.Listed.{symbolNumber}
+use Rattle.signal_table.specs.Listed.{fewer, symbolNumber}
 use Rattle.resolver.specs.Run.{Machine, useIn, moved, afterUse, after, Met, over, runOf}
 use Rattle.resolver.specs.declared.run.Outcome.{Outcome}
 
 module _ (rows parent : List ℕ) (signals nodes : ℕ) (m : Machine) (now : Current) (c k : ℕ) (w : Bool) where
-  pub moved-direct : {st r : State} → now ≡ Direct st → r ≡ stepNumbers rows parent signals st c k w → Direct r ≡ moved rows parent signals nodes m now c k w
+  pub moved-direct : {st r : Packed} → now ≡ Direct st → r ≡ stepPacked rows parent (m .branches) signals st c k w → Direct r ≡ moved rows parent signals nodes m now c k w
   moved-direct e q = rw e (ap Direct q)
 
-  pub moved-walk : {j r n : ℕ} → now ≡ Walk j → n ≡ symbolNumber (m .index) (m .symbols) (m .count) parent nodes c k w → r ≡ targetIn (m .image) j n → Walk r ≡ moved rows parent signals nodes m now c k w
-  moved-walk {j} e f g = rw e (ap Walk (g ∙ ap (targetIn (m .image) j) f))
+  pub moved-walk : {j r n : ℕ} → now ≡ Walk j → n ≡ symbolNumber (m .index) (m .symbols) (m .count) parent nodes c k w → r ≡ targetIn (fewer (m .categories) 8) (m .image) j n → Walk r ≡ moved rows parent signals nodes m now c k w
+  moved-walk {j} e f g = rw e (ap Walk (g ∙ ap (targetIn (fewer (m .categories) 8) (m .image) j) f))
 
 module _ (rows parent : List ℕ) (signals nodes : ℕ) (m : Machine) (p : Progress) (u : Use) where
   pub after-skipped : u ≡ Skipped → record { current = p .current; used = p .used; skipped = p .skipped + 1 } ≡ afterUse rows parent signals nodes m p u

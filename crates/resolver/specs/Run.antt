@@ -7,7 +7,7 @@ use mathlib.Core.List.{List, [], _∷_, map, foldl}
 use lib.ListN.{length}
 use lib.Dec.{ltb}
 use Rattle.alert_info.specs.Value.{Reading, unfit, spans, add, partOf, readingFrom}
-use Rattle.node_step.specs.Step.{stepNumbers}
+use Rattle.node_step.specs.StatusByte.{stepPacked}
 use Rattle.node_step.specs.Uses.{usesOf}
 use Rattle.node_step.specs.declared.State.{State}
 use Rattle.node_step.specs.declared.uses.Use.{Use}
@@ -21,23 +21,26 @@ use Rattle.resolver.specs.declared.run.Progress.{Progress}
 use Rattle.resolver.specs.declared.run.Outcome.{Outcome}
 use Rattle.machine_image.specs.Image.{signalIn, targetIn}
 use Rattle.resolver.specs.Resolve.{refused}
-use Rattle.signal_table.specs.Listed.{symbolNumber}
+use Rattle.signal_table.specs.Listed.{fewer, symbolNumber}
 
 -- what a URI is to the decoded table
 abbrev pub useIn : List ℕ → Decoded → List ℕ → Use
 useIn t d uri = usesOf t (d .«name_at») (d .«name_len») (d .categories) (d .category) (d .at) (d .len) (d .shared) (d .inner) (d .nodes) uri
 
--- what a resolver goes by besides the decoded table: the stored symbols, their index and number, and an image
+-- what a resolver goes by besides the decoded table: which nodes have nodes under them; the stored symbols, their index and
+-- number; and an image over so many categories
 pub record Machine : Type 0 where
+  pub branches : List Bool
   pub index : List ℕ
   pub symbols : List ℕ
   pub count : ℕ
+  pub categories : ℕ
   pub image : List ℕ
 
 -- a used URN takes direct resolution one step on, or the walk to the target that the state's row holds for its symbol
 abbrev pub moved : List ℕ → List ℕ → ℕ → ℕ → Machine → Current → ℕ → ℕ → Bool → Current
-moved rows parent signals nodes m (Direct st) c k w = Direct (stepNumbers rows parent signals st c k w)
-moved rows parent signals nodes m (Walk j) c k w = Walk (targetIn (m .image) j (symbolNumber (m .index) (m .symbols) (m .count) parent nodes c k w))
+moved rows parent signals nodes m (Direct st) c k w = Direct (stepPacked rows parent (m .branches) signals st c k w)
+moved rows parent signals nodes m (Walk j) c k w = Walk (targetIn (fewer (m .categories) 8) (m .image) j (symbolNumber (m .index) (m .symbols) (m .count) parent nodes c k w))
 
 -- one URI more
 abbrev pub afterUse : List ℕ → List ℕ → ℕ → ℕ → Machine → Progress → Use → Progress
@@ -68,9 +71,9 @@ unfoldable pub runFrom : List ℕ → Decoded → Machine → List ℕ → Progr
 runFrom t d m v p at = runOf p (over v (after t d m) p (readingFrom v at))
 
 -- the signal where a resolver is
-abbrev pub signalNow : List ℕ → Current → ℕ
-signalNow im (Direct st) = st .signal
-signalNow im (Walk j) = signalIn im j
+abbrev pub signalNow : ℕ → List ℕ → Current → ℕ
+signalNow cats im (Direct st) = st .signal
+signalNow cats im (Walk j) = signalIn (fewer cats 8) im j
 
 -- the state of direct resolution where a resolver is; a walk has none, and its number stands for a signal there
 abbrev pub directIn : Current → State
@@ -91,4 +94,4 @@ begin x = record { current = x; used = 0; skipped = 0 }
 
 -- a whole value, from where a resolver begins
 unfoldable pub resolvedFrom : List ℕ → Decoded → Machine → Current → List ℕ → Resolution
-resolvedFrom t d m x v = answerOf (runFrom t d m v (begin x) 0) (signalNow (m .image) (runFrom t d m v (begin x) 0 .progress .current))
+resolvedFrom t d m x v = answerOf (runFrom t d m v (begin x) 0) (signalNow (m .categories) (m .image) (runFrom t d m v (begin x) 0 .progress .current))

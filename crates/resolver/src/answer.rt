@@ -37,12 +37,12 @@ pub(crate) fn value_first(v: &[u8], k: u8) -> Resolution
 }
 
 // The signal where a resolver is.
-fn signal_in(image: &[u8], current: Current) -> u8
-    ensures { λ r. ⌜ r ≡ signalNow (now (image .entry)) current ⌝ }
+fn signal_in(categories: usize, image: &[u8], current: Current) -> u8
+    ensures { λ r. ⌜ r ≡ signalNow categories (now (image .entry)) current ⌝ }
 {
     match current {
         Current::Direct(st) => st.signal,
-        Current::Walk(j) => signal_table::image::signal(image, j),
+        Current::Walk(j) => signal_table::image::signal(image, categories, j),
     }
 }
 
@@ -71,6 +71,7 @@ pub(crate) fn answer(o: Outcome, signal: u8) -> Resolution
 pub(crate) fn resolved(
     t: &[u8],
     d: Decoded,
+    branches: &[bool; 64],
     index: &[u8; 136],
     symbols: &[u8; 384],
     count: usize,
@@ -79,16 +80,16 @@ pub(crate) fn resolved(
     v: &[u8],
 ) -> Resolution
     requires { ⌜ length (now v) ≤ 4096 ⌝ }
-    ensures { λ r. ⌜ r ≡ resolvedFrom (now (t .entry)) d (record { index = now (index .entry); symbols = now (symbols .entry); count = count; image = now (image .entry) }) from (now (v .entry)) ⌝ }
+    ensures { λ r. ⌜ r ≡ resolvedFrom (now (t .entry)) d (record { branches = now (branches .entry); index = now (index .entry); symbols = now (symbols .entry); count = count; categories = d .categories; image = now (image .entry) }) from (now (v .entry)) ⌝ }
 {
     let start = Progress {
         current: from,
         used: 0,
         skipped: 0,
     };
-    let o = crate::run::run(t, d, index, symbols, count, image, start, v);
+    let o = crate::run::run(t, d, branches, index, symbols, count, image, start, v);
     let p = o.progress;
     let last = p.current;
-    let signal = signal_in(image, last);
+    let signal = signal_in(d.categories, image, last);
     answer(o, signal)
 }

@@ -16,7 +16,12 @@ mod run;
 
 use crate::answer::refused;
 use crate::run::Current;
+<<<<<<< HEAD
 use carried_record::Carried;
+=======
+use node_step::branches::branches_of;
+use node_step::stored::Packed;
+>>>>>>> b8e7a93 (prototype: held, on the base)
 ghost use mathlib.Core.Path.{_≡_};
 ghost use Rattle.resolver.specs.Resolve.{plainOf, machineOf};
 ghost use Rattle.resolver.specs.Feed.{feedOf};
@@ -44,7 +49,31 @@ pub fn plain(t: &[u8], v: &[u8]) -> Resolution
         return refused(1);
     }
     let d = stored_table::decode(t);
+<<<<<<< HEAD
     by::plain(t, d, v)
+=======
+    if d.refusal != 0 {
+        return answer::value_first(v, d.refusal);
+    }
+    let branches = branches_of(&d.parent, d.nodes);
+    let start = Packed {
+        signal: 0,
+        statuses: 0,
+    };
+    let no_index = [0u8; 136];
+    let no_symbols = [0u8; 384];
+    answer::resolved(
+        t,
+        d,
+        &branches,
+        &no_index,
+        &no_symbols,
+        0,
+        t,
+        Current::Direct(start),
+        v,
+    )
+>>>>>>> b8e7a93 (prototype: held, on the base)
 }
 
 // The machine resolver: the walk of the image, as it is stored, over the value v with the table t.
@@ -61,13 +90,35 @@ pub fn machine(t: &[u8], image: &[u8], v: &[u8]) -> Resolution
     let categories = d.categories;
     let nodes = d.nodes;
     let signals = d.signals;
+    let branches = branches_of(&d.parent, nodes);
     let s = signal_table::symbols::list(&d.category, &d.parent, nodes, categories);
     let count = s.count;
-    if !signal_table::image::formed(&s.bytes, count, signals, categories, image) {
+    if !signal_table::image::formed(
+        &d.rows,
+        &d.parent,
+        &branches,
+        &d.category,
+        nodes,
+        &s.bytes,
+        count,
+        signals,
+        categories,
+        image,
+    ) {
         return answer::value_first(v, 15);
     }
     let index = signal_table::symbols::index(&s.bytes, count);
-    answer::resolved(t, d, &index, &s.bytes, count, image, Current::Walk(0), v)
+    answer::resolved(
+        t,
+        d,
+        &branches,
+        &index,
+        &s.bytes,
+        count,
+        image,
+        Current::Walk(0),
+        v,
+    )
 }
 
 // One value of a message that has several: direct resolution goes on from what is carried.

@@ -2,7 +2,8 @@
 use alert_info::Cursor;
 use alert_info::Found;
 use alert_info::Span;
-use node_step::State;
+use node_step::stored::Packed;
+use node_step::stored::step_packed;
 use node_step::uses::Use;
 use node_step::uses::uses;
 use stored_table::Decoded;
@@ -13,7 +14,7 @@ ghost use Rattle.resolver.specs.Run.{moved, afterUse, Met, runFrom};
 
 // Where a resolver is: a state of direct resolution, or a state's number in an image.
 pub enum Current {
-    Direct(State),
+    Direct(Packed),
     Walk(u8),
 }
 
@@ -40,11 +41,13 @@ fn ended(fits: bool, progress: Progress) -> Outcome
 fn moved_by<'a>(
     rows: &'a [u64; 32],
     parent: &'a [u8; 64],
+    branches: &'a [bool; 64],
     signals: usize,
     nodes: usize,
     index: &[u8; 136],
     symbols: &[u8; 384],
     count: usize,
+    categories: usize,
     image: &[u8],
     current: Current,
     c: u8,
@@ -53,17 +56,17 @@ fn moved_by<'a>(
 ) -> Current
     ensures { λ r. ⌜
         r ≡ moved (now (rows .entry)) (now (parent .entry)) signals nodes
-        (record { index = now (index .entry); symbols = now (symbols .entry); count = count; image = now (image .entry) }) current c k w
+        (record { branches = now (branches .entry); index = now (index .entry); symbols = now (symbols .entry); count = count; categories = categories; image = now (image .entry) }) current c k w
         ⌝ }
 {
     match current {
         Current::Direct(st) => {
             let category = c as usize;
-            Current::Direct(node_step::step(rows, parent, signals, st, category, k, w))
+            Current::Direct(step_packed(rows, parent, branches, signals, st, category, k, w))
         }
         Current::Walk(j) => {
             let n = signal_table::symbols::number(index, symbols, count, parent, nodes, c, k, w);
-            Current::Walk(signal_table::image::target(image, j, n))
+            Current::Walk(signal_table::image::target(image, categories, j, n))
         }
     }
 }
@@ -72,11 +75,13 @@ fn moved_by<'a>(
 fn taken<'a>(
     rows: &'a [u64; 32],
     parent: &'a [u8; 64],
+    branches: &'a [bool; 64],
     signals: usize,
     nodes: usize,
     index: &[u8; 136],
     symbols: &[u8; 384],
     count: usize,
+    categories: usize,
     image: &[u8],
     p: Progress,
     u: Use,
@@ -84,7 +89,7 @@ fn taken<'a>(
     requires { ⌜ p .used + p .skipped ≤ 4096 ⌝ }
     ensures { λ r. ⌜
         r ≡ afterUse (now (rows .entry)) (now (parent .entry)) signals nodes
-        (record { index = now (index .entry); symbols = now (symbols .entry); count = count; image = now (image .entry) }) p u
+        (record { branches = now (branches .entry); index = now (index .entry); symbols = now (symbols .entry); count = count; categories = categories; image = now (image .entry) }) p u
         ⌝ }
 {
     let current = p.current;
@@ -103,11 +108,13 @@ fn taken<'a>(
             let next = moved_by(
                 rows,
                 parent,
+                branches,
                 signals,
                 nodes,
                 index,
                 symbols,
                 count,
+                categories,
                 image,
                 current,
                 c,
@@ -163,6 +170,7 @@ fn entry_at(v: &[u8], at: usize) -> Entry
 pub(crate) fn run(
     t: &[u8],
     d: Decoded,
+    branches: &[bool; 64],
     index: &[u8; 136],
     symbols: &[u8; 384],
     count: usize,
@@ -171,7 +179,7 @@ pub(crate) fn run(
     v: &[u8],
 ) -> Outcome
     requires { ⌜ (length (now v) ≤ 4096) × (from .used + from .skipped ≡ 0) ⌝ }
-    ensures ends { λ r. ⌜ r ≡ runFrom (now (t .entry)) d (record { index = now (index .entry); symbols = now (symbols .entry); count = count; image = now (image .entry) }) (now (v .entry)) from 0 ⌝ }
+    ensures ends { λ r. ⌜ r ≡ runFrom (now (t .entry)) d (record { branches = now (branches .entry); index = now (index .entry); symbols = now (symbols .entry); count = count; categories = d .categories; image = now (image .entry) }) (now (v .entry)) from 0 ⌝ }
     ensures few { λ r. ⌜ r .progress .used + r .progress .skipped ≤ 4097 ⌝ }
 {
     let mut at = 0;
@@ -199,11 +207,13 @@ pub(crate) fn run(
         p = taken(
             &d.rows,
             &d.parent,
+            branches,
             d.signals,
             d.nodes,
             index,
             symbols,
             count,
+            d.categories,
             image,
             p,
             u,

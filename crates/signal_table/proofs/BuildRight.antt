@@ -8,6 +8,7 @@ use borrow.Author.Tests.{ltb-false}
 use lib.ListN.{length, getD, take, replicate, length-map}
 use lib.Seq.{take-all}
 use native.Mathlib.Omega.{arith}
+use native.Mathlib.Nat.{zero-add}
 use Rattle.resolution.specs.Table.{Table, WellFormed}
 use Rattle.resolution.specs.Direct.{start, sameState, StateOf}
 use Rattle.resolution.specs.Direct as direct
@@ -16,15 +17,27 @@ use Rattle.resolution.specs.Discovery.{targets}
 use Rattle.resolution.specs.Machine.{MachineState}
 use Rattle.resolution.specs.Build.{discovered}
 use Rattle.resolution.proofs.Lists.{mem-at}
-use Rattle.node_step.specs.Arrays.{Numbers}
-use Rattle.node_step.specs.declared.State.{State}
-use Rattle.machine_image.specs.Image.{joined, stateBytes, imageOf, machineImage}
+use Rattle.resolution.specs.Nodes.{nodes}
+use Rattle.node_step.specs.Arrays.{Numbers, BranchesIn}
+use Rattle.node_step.specs.Step.{digit, coded}
+use Rattle.node_step.specs.StatusByte.{byteOf}
+use Rattle.node_step.specs.declared.stored.Packed.{Packed}
+use Rattle.node_step.proofs.ByteLaws.{packed-digit}
+use Rattle.node_step.proofs.Both.{coded-at}
+use Rattle.machine_image.specs.Image.{joined, statusByte, statusBytes, stateBytes, imageOf, machineImage}
+use Rattle.machine_image.proofs.Joined.{tabulate-entries}
+use Rattle.machine_image.proofs.Statuses.{bytes-length, bytes-at, status-coded}
 use Rattle.machine_image.specs.Refusals.{buildRefusal, buildLength, bufferOf}
 use Rattle.machine_image.proofs.Build.{own-length}
 use Rattle.signal_table.specs.Built.{refused, accepted, builtOf}
 use Rattle.signal_table.specs.Listed.{SymbolsIn}
+<<<<<<< HEAD
 use Rattle.signal_table.specs.States.{nextPair, found, bytesOf, statesBytes, imageBy, sizeBy, builtBy, bufferBy}
 use Rattle.signal_table.proofs.PairsRight.{code, of-code, found-code, all-found, targets-found}
+=======
+use Rattle.signal_table.specs.States.{begin, nextState, found, pairBytes, bytesOf, rowsBytes, imageBy, sizeBy, builtBy, bufferBy}
+use Rattle.signal_table.proofs.PairsRight.{code, found-code, all-found, targets-found}
+>>>>>>> b8e7a93 (prototype: held, on the base)
 
 joined-last : {A : Type 0} (f : A → List ℕ) (l : List A) (x : A) → joined f (l ++ x ∷ []) ≡ joined f l ++ f x
 unfolding joined
@@ -36,17 +49,29 @@ map-take f [] k d h = absurd (omega arith)
 map-take f (x ∷ l) zero d h = refl
 map-take f (x ∷ l) (suc k) d h = ap (λ z. f x ∷ z) (map-take f l k d (omega arith))
 
-map-at : {A : Type 0} (f : A → ℕ) (l : List A) (k : ℕ) (d : A) → k < length l → getD (map f l) k 0 ≡ f (getD l k d)
-map-at f [] k d h = absurd (omega arith)
-map-at f (x ∷ l) zero d h = refl
-map-at f (x ∷ l) (suc k) d h = map-at f l k d (omega arith)
+map-at : {A B : Type 0} (f : A → B) (l : List A) (k : ℕ) (d : A) (e : B) → k < length l → getD (map f l) k e ≡ f (getD l k d)
+map-at f [] k d e h = absurd (omega arith)
+map-at f (x ∷ l) zero d e h = refl
+map-at f (x ∷ l) (suc k) d e h = map-at f l k d e (omega arith)
 
-module _ (T : Table) (wf : WellFormed T) (rows ps : List ℕ) (signals : ℕ) (nu : Numbers rows ps signals T) (sy : List ℕ) (count : ℕ) (si : SymbolsIn T sy count) where
-  abbrev next : ℕ → ℕ → ℕ
-  next = nextPair rows ps signals sy
+-- a state's bytes before its row
+pair-right : (T : Table) → T .cats ≤ 8 → length (nodes T) ≤ 64 → (st : direct.State) → StateOf T st → pairBytes (T .cats) (code T st) ≡ st .signal ∷ statusBytes (nodes T) 0 (st .status)
+pair-right T eight few st g =
+    ap (λ z. st .signal ∷ z)
+    (tabulate-entries 0 (statusBytes (nodes T) 0 (st .status)) (digit (code T st .statuses)) (T .cats) (bytes-length (nodes T) 0 (st .status) ∙ g .sized)
+    (λ c h.
+    packed-digit (coded T st .categories) c (omega arith)
+    ∙ ap byteOf (coded-at T st c (omega arith))
+    ∙ status-coded T c [] few (getD (st .status) c direct.Open)
+    ∙ sym (bytes-at (nodes T) 0 (st .status) c (omega (arith, g .sized)) ∙ ap (λ z. statusByte (nodes T) z (getD (st .status) c direct.Open)) (zero-add c))))
 
-  abbrev begin : direct.State
-  begin = start (T .cats)
+module _ (T : Table) (wf : WellFormed T) (rows ps : List ℕ) (signals : ℕ) (nu : Numbers rows ps signals T) (sy : List ℕ) (count : ℕ) (si : SymbolsIn T sy count)
+    (bs : List Bool) (br : BranchesIn bs T) where
+  abbrev next : Packed → ℕ → Packed
+  next = nextState rows ps bs signals sy
+
+  abbrev first : direct.State
+  first = start (T .cats)
 
   abbrev states : List direct.State
   states = discovered T 256
@@ -54,12 +79,17 @@ module _ (T : Table) (wf : WellFormed T) (rows ps : List ℕ) (signals : ℕ) (n
   abbrev made : direct.State → MachineState
   made st = record { pair = st; row = targets sameState (stepAt T) (length (symbols T)) states st }
 
+<<<<<<< HEAD
   row-right : (st : direct.State) → StateOf T st → bytesOf next count (map code states) (code st) ≡ stateBytes (made st)
   unfolding bytesOf
+=======
+  row-right : (st : direct.State) → StateOf T st → bytesOf next (T .cats) count (map (code T) states) (code T st) ≡ stateBytes (nodes T) (made st)
+>>>>>>> b8e7a93 (prototype: held, on the base)
   row-right st g =
-      ap₂ (λ x y. x .signal ∷ x .shut ∷ y) (of-code (T .cats) (nu .few-cats) st (g .sized))
-      (targets-found T wf rows ps signals nu sy count si states st g (all-found T wf rows ps signals nu sy count si 256))
+      ap₂ (λ x y. x ++ y) (pair-right T (nu .few-cats) (nu .few-nodes) st g)
+      (targets-found T wf rows ps signals nu sy count si bs br states st g (all-found T wf rows ps signals nu sy count si bs br 256))
 
+<<<<<<< HEAD
   rows-right : (i : ℕ) → i ≤ length states → statesBytes next count (map code states) i ≡ joined stateBytes (map made (take i states))
   unfolding statesBytes joined
   rows-right zero h = refl
@@ -69,25 +99,42 @@ module _ (T : Table) (wf : WellFormed T) (rows ps : List ℕ) (signals : ℕ) (n
       ∙ row-right (getD states i begin) (all-found T wf rows ps signals nu sy count si 256 (getD states i begin) (mem-at states i begin h)))
       ∙ sym (joined-last stateBytes (map made (take i states)) (made (getD states i begin)))
       ∙ ap (joined stateBytes) (sym (map-take made states i begin h))
+=======
+  rows-right : (i : ℕ) → i ≤ length states → rowsBytes next (T .cats) count (map (code T) states) i ≡ joined (stateBytes (nodes T)) (map made (take i states))
+  unfolding rowsBytes joined
+  rows-right zero h = refl
+  rows-right (suc i) h =
+      ap₂ _++_ (rows-right i (omega arith))
+      (ap (bytesOf next (T .cats) count (map (code T) states)) (map-at (code T) states i first begin h)
+      ∙ row-right (getD states i first) (all-found T wf rows ps signals nu sy count si bs br 256 (getD states i first) (mem-at states i first h)))
+      ∙ sym (joined-last (stateBytes (nodes T)) (map made (take i states)) (made (getD states i first)))
+      ∙ ap (joined (stateBytes (nodes T))) (sym (map-take made states i first h))
+>>>>>>> b8e7a93 (prototype: held, on the base)
 
   found-length : length (found next count 256) ≡ length states
-  found-length = ap length (found-code T wf rows ps signals nu sy count si 256) ∙ length-map states code
+  found-length = ap length (found-code T wf rows ps signals nu sy count si bs br 256) ∙ length-map states (code T)
 
-  pub image-right : imageBy next count sy ≡ machineImage T
+  pub image-right : imageBy next (T .cats) count sy ≡ machineImage T
   unfolding imageBy imageOf
   image-right =
       ap₂ (λ n r. count ∷ take (3 * count) sy ++ n % 256 ∷ n / 256 ∷ [] ++ r) (found-length ∙ sym (length-map states made))
+<<<<<<< HEAD
       (ap₂ (statesBytes next count) (found-code T wf rows ps signals nu sy count si 256) found-length
       ∙ rows-right (length states) (omega arith) ∙ ap (λ z. joined stateBytes (map made z)) (take-all (length states) states (omega arith)))
       ∙ ap₂ (λ c s. c ∷ s ++ length (map made states) % 256 ∷ length (map made states) / 256 ∷ [] ++ joined stateBytes (map made states)) (sym (si .all-symbols)) (si .held)
+=======
+      (ap₂ (rowsBytes next (T .cats) count) (found-code T wf rows ps signals nu sy count si bs br 256) found-length
+      ∙ rows-right (length states) (omega arith) ∙ ap (λ z. joined (stateBytes (nodes T)) (map made z)) (take-all (length states) states (omega arith)))
+      ∙ ap₂ (λ c s. c ∷ s ++ length (map made states) % 256 ∷ length (map made states) / 256 ∷ [] ++ joined (stateBytes (nodes T)) (map made states)) (sym (si .all-symbols)) (si .held)
+>>>>>>> b8e7a93 (prototype: held, on the base)
 
-  size-right : length states ≤ 256 → sizeBy next count ≡ length (machineImage T)
-  size-right h = ap₂ (λ n c. 3 + 3 * c + n * (c + 2)) found-length (sym (si .all-symbols)) ∙ sym (own-length T wf h)
+  size-right : length states ≤ 256 → sizeBy next (T .cats) count ≡ length (machineImage T)
+  size-right h = ap₂ (λ n c. 3 + 3 * c + n * (c + T .cats + 1)) found-length (sym (si .all-symbols)) ∙ sym (own-length T wf h)
 
-  pub built-right : (room : ℕ) → builtBy next count room ≡ builtOf T room
+  pub built-right : (room : ℕ) → builtBy next (T .cats) count room ≡ builtOf T room
   unfolding builtBy buildRefusal buildLength
   built-right room =
-      ap (λ n. cond (ltb 256 n) (refused 13) (cond (ltb room (sizeBy next count)) (refused 14) (accepted (sizeBy next count)))) found-length
+      ap (λ n. cond (ltb 256 n) (refused 13) (cond (ltb room (sizeBy next (T .cats) count)) (refused 14) (accepted (sizeBy next (T .cats) count)))) found-length
       ∙ go (ltb 256 (length states)) refl
     where
       by : (b : Bool) (n : ℕ)
@@ -96,7 +143,7 @@ module _ (T : Table) (wf : WellFormed T) (rows ps : List ℕ) (signals : ℕ) (n
       by false n = refl
 
       go : (b : Bool) → ltb 256 (length states) ≡ b
-          → cond b (refused 13) (cond (ltb room (sizeBy next count)) (refused 14) (accepted (sizeBy next count)))
+          → cond b (refused 13) (cond (ltb room (sizeBy next (T .cats) count)) (refused 14) (accepted (sizeBy next (T .cats) count)))
           ≡ record {
             refusal = cond b 13 (cond (ltb room (length (machineImage T))) 14 0);
             len = cond (eqb (cond b 13 (cond (ltb room (length (machineImage T))) 14 0)) 0) (length (machineImage T)) 0;
@@ -106,14 +153,14 @@ module _ (T : Table) (wf : WellFormed T) (rows ps : List ℕ) (signals : ℕ) (n
           ap (λ n. cond (ltb room n) (refused 14) (accepted n)) (size-right (ltb-false 256 (length states) e))
           ∙ by (ltb room (length (machineImage T))) (length (machineImage T))
 
-  pub buffer-right : (room : ℕ) → bufferBy next count sy room ≡ bufferOf T room
+  pub buffer-right : (room : ℕ) → bufferBy next (T .cats) count sy room ≡ bufferOf T room
   unfolding bufferBy bufferOf buildRefusal
   buffer-right room =
-      ap (λ b. cond (eqb (b .refusal) 0) (imageBy next count sy ++ replicate (room - sizeBy next count) 0) (replicate room 0)) (built-right room)
+      ap (λ b. cond (eqb (b .refusal) 0) (imageBy next (T .cats) count sy ++ replicate (room - sizeBy next (T .cats) count) 0) (replicate room 0)) (built-right room)
       ∙ go (ltb 256 (length states)) refl (ltb room (length (machineImage T)))
     where
       go : (b : Bool) → ltb 256 (length states) ≡ b → (c : Bool)
-          → cond (eqb (cond b 13 (cond c 14 0)) 0) (imageBy next count sy ++ replicate (room - sizeBy next count) 0) (replicate room 0)
+          → cond (eqb (cond b 13 (cond c 14 0)) 0) (imageBy next (T .cats) count sy ++ replicate (room - sizeBy next (T .cats) count) 0) (replicate room 0)
           ≡ cond (eqb (cond b 13 (cond c 14 0)) 0) (machineImage T ++ replicate (room - length (machineImage T)) 0) (replicate room 0)
       go true e c = refl
       go false e true = refl

@@ -1,103 +1,225 @@
 -- What the checker says over the arrays is what it should say of the image.
-use Prim.Native.Nat.{ℕ, zero, suc, _+_, _*_, _/_, _^_, _<_}
+use Prim.Native.Nat.{ℕ, zero, suc, _+_, _-_, _*_, _≤_, _<_}
 use mathlib.Core.Path.{_≡_, refl, sym, ap, ap₂, subst, _∙_}
 use mathlib.Core.Bool.{Bool, true, false, cond, _&&_}
 use mathlib.Core.List.{List, []}
 use lib.Dec.{eqb, ltb, leb}
-use borrow.Author.Tests.{le-leb, lt-ltb}
-use lib.ListN.{length, take, drop}
+use borrow.Author.Tests.{le-leb, lt-leb, lt-ltb, le-ltb, eqb-true, ltb-true}
+use lib.ListN.{length, getD, take, drop, List·getD-eq-default}
 use native.Mathlib.Omega.{arith}
-use Rattle.resolution.specs.Lists.{all}
-use Rattle.resolution.specs.Names.{sameName}
-use Rattle.resolution.specs.Table.{Table, WellFormed, rowOf}
-use Rattle.resolution.specs.Direct.{start, sameState, StateOf}
+use native.Mathlib.Nat.{add-zero, zero-add}
+use native.Mathlib.Decide.{decLt}
+use Rattle.resolution.specs.Lists.{all, tabulate}
+use Rattle.resolution.specs.Names.{Parts, sameName, properAncestor}
+use Rattle.resolution.specs.Table.{Urn, Table, WellFormed, rowOf, place}
+use Rattle.resolution.specs.Nodes.{nodes, nodeAt, number, isNode, hasUnder, isBranch}
+use Rattle.resolution.specs.Direct.{start, sameState, statusFits, StateOf}
 use Rattle.resolution.specs.Direct as direct
 use Rattle.resolution.specs.Symbols.{symbolAt, stepsAs, stepAt}
 use Rattle.resolution.specs.Machine.{machineState, target, targetRight, rowRight}
+use Rattle.resolution.proofs.Lists.{tabulate-length, tabulate-at}
+use Rattle.resolution.proofs.Table.{row-place}
+use Rattle.resolution.proofs.Numbers.{number-at, number-positive}
 use Rattle.resolution.proofs.TableStep.{state-of, state-start, state-step}
-use Rattle.node_step.specs.Arrays.{Numbers}
-use Rattle.machine_image.specs.Image.{symbolCount, stateCount, signalIn, shutIn, targetIn, statuses, machineIn}
-use Rattle.machine_image.specs.Refusals.{targetBelow, stateFormed, formOf, checkOf}
-use Rattle.machine_image.proofs.Joined.{statuses-length, bits-statuses}
+use Rattle.node_step.specs.Arrays.{NodesIn, Numbers, BranchesIn}
+use Rattle.node_step.specs.Step.{coded, codedStatus, digit, rowAt, extends, statusIn}
+use Rattle.node_step.specs.StatusByte.{byteOf, packed, packedOf, samePacked, fitsBy}
+use Rattle.node_step.specs.Uses.{fewer}
+use Rattle.node_step.specs.declared.Progress.{Progress}
+use Rattle.node_step.specs.declared.stored.Packed.{Packed}
+use Rattle.node_step.proofs.StepRight.{place-extends}
+use Rattle.node_step.proofs.Both.{packed-test, coded-at}
+use Rattle.machine_image.specs.Image.{symbolCount, stateCount, placeOf, signalIn, byteIn, targetIn, statusByte, machineIn}
+use Rattle.machine_image.specs.Image as image
+use Rattle.machine_image.specs.Refusals.{byteFits, statusFormed, targetBelow, stateFormed, formOf, checkOf}
+use Rattle.machine_image.proofs.Statuses.{status-coded, byte-again, byte-fits}
 use Rattle.machine_image.proofs.Form.{Formed, form-to, form-symbols}
 use Rattle.machine_image.proofs.Check.{machine-states}
 use Rattle.machine_image.proofs.Walk.{machine-state-in, machine-target}
 use Rattle.signal_table.specs.Listed.{SymbolsIn}
-use Rattle.signal_table.specs.States.{nextPair}
-use Rattle.signal_table.specs.Checks.{pairIn, stateFormedBy, formBy, targetRightBy, rowRightBy, checkBy}
-use Rattle.signal_table.proofs.PairsRight.{code, code-start, code-test, next-code}
+use Rattle.signal_table.specs.States.{begin, nextState}
+use Rattle.signal_table.specs.Checks.{packFrom, packedIn, statusFormedBy, belowBy, stateFormedBy, formBy, targetRightBy, rowRightBy, checkBy}
+use Rattle.signal_table.proofs.PairsRight.{code, code-start, next-code}
 
 all-same : (n : ℕ) (f g : ℕ → Bool) → ((k : ℕ) → k < n → f k ≡ g k) → all n f ≡ all n g
 unfolding all
 all-same zero f g h = refl
 all-same (suc n) f g h = ap₂ _&&_ (all-same n f g (λ k i. h k (omega arith))) (h n (omega arith))
 
-module _ (T : Table) (wf : WellFormed T) (apart : (i j : ℕ) → i < length (T .signals) → j < length (T .signals) → rowOf T i ≡ rowOf T j → i ≡ j)
-    (rows ps : List ℕ) (signals : ℕ) (nu : Numbers rows ps signals T) (sy : List ℕ) (count : ℕ) (si : SymbolsIn T sy count) (im : List ℕ) where
-  abbrev next : ℕ → ℕ → ℕ
-  next = nextPair rows ps signals sy
+-- categories that are all open have no byte
+packed-none : (l : List Progress) (n c : ℕ) → ((k : ℕ) → k < n → byteOf (statusIn l (c + k)) ≡ 0) → 0 ≡ packed l c n
+unfolding packed
+packed-none l zero c h = refl
+packed-none l (suc n) c h =
+    omega (arith, ap (λ z. byteOf (statusIn l z)) (sym (add-zero c)) ∙ h 0 (omega arith), packed-none l n (suc c) (λ k i. ap (λ z. byteOf (statusIn l z)) (the (suc c + k ≡ c + suc k) (omega arith)) ∙ h (suc k) (omega arith)))
+  where
+    the : (A : Type 0) → A → A
+    the A x = x
 
-  pub form-right : formBy sy count signals (T .cats) im ≡ formOf T im
-  unfolding formBy formOf stateFormedBy stateFormed
+-- m bytes are those of the first m categories, where the others are open
+packed-from : (im : List ℕ) (l : List Progress) (m n i c : ℕ) → m ≤ n → ((k : ℕ) → k < m → getD im (i + k) 0 ≡ byteOf (statusIn l (c + k)))
+    → ((k : ℕ) → m ≤ k → k < n → byteOf (statusIn l (c + k)) ≡ 0) → packFrom im i m ≡ packed l c n
+unfolding packFrom packed
+packed-from im l zero n i c a h o = packed-none l n c (λ k j. o k (omega arith) j)
+packed-from im l (suc m) zero i c a h o = absurd (omega arith)
+packed-from im l (suc m) (suc n) i c a h o =
+    ap₂ (λ x y. x + 256 * y)
+    (ap (λ z. getD im z 0) (sym (add-zero i)) ∙ h 0 (omega arith) ∙ ap (λ z. byteOf (statusIn l z)) (add-zero c))
+    (packed-from im l m n (suc i) (suc c) (omega arith)
+    (λ k j. ap (λ z. getD im z 0) (the (suc i + k ≡ i + suc k) (omega arith)) ∙ h (suc k) (omega arith) ∙ ap (λ z. byteOf (statusIn l z)) (the (c + suc k ≡ suc c + k) (omega arith)))
+    (λ k j q. ap (λ z. byteOf (statusIn l z)) (the (suc c + k ≡ c + suc k) (omega arith)) ∙ o (suc k) (omega arith) (omega arith)))
+  where
+    the : (A : Type 0) → A → A
+    the A x = x
+
+-- a byte that a category can have
+module _ (t ca pos len : List ℕ) (n : ℕ) (T : Table) (ni : NodesIn t ca pos len n T) (wf : WellFormed T) (rows ps : List ℕ) (signals : ℕ) (nu : Numbers rows ps signals T)
+    (bs : List Bool) (br : BranchesIn bs T) (s c : ℕ) (hs : s < signals) (hc : c < T .cats) where
+  abbrev ns : List Urn
+  ns = nodes T
+
+  node-fits : (k : ℕ) → k < length ns
+      → eqb (getD ca k 0) c && (getD bs k false && extends ps (digit (rowAt rows s) c) (suc k) true)
+      ≡ (eqb (nodeAt ns k .cat) c && (hasUnder ns c (nodeAt ns k .path) && properAncestor (place T s c) (nodeAt ns k .path)))
+  node-fits k h =
+      ap (λ z. eqb z c && (getD bs k false && extends ps (digit (rowAt rows s) c) (suc k) true)) (ni .cat-at k (omega (arith, ni .all-nodes)))
+      ∙ go (eqb (nodeAt ns k .cat) c) refl
+    where
+      p : Parts
+      p = nodeAt ns k .path
+
+      go : (b : Bool) → eqb (nodeAt ns k .cat) c ≡ b
+          → (b && (getD bs k false && extends ps (digit (rowAt rows s) c) (suc k) true)) ≡ (b && (hasUnder ns c p && properAncestor (place T s c) p))
+      go false e = refl
+      go true e =
+          let q : nodeAt ns k .cat ≡ c = eqb-true (nodeAt ns k .cat) c e in
+          let m : number ns c p ≡ suc k = ap (λ z. number ns z p) (sym q) ∙ number-at T k h in
+          let i : isNode ns c p ≡ true = number-positive ns c p k m in
+          ap₂ _&&_ (br .branch-at k h ∙ ap (λ z. isBranch ns z p) q ∙ ap (λ z. z && hasUnder ns c p) i)
+          (ap (λ z. extends ps (digit (rowAt rows s) c) z true) (sym m) ∙ place-extends rows ps signals T wf nu c hc s hs p i ∙ ap (λ z. properAncestor z p) (row-place T s c hc))
+
+  pub fits-right : (b : ℕ) → fitsBy rows ps bs ca n s c b ≡ byteFits ns c (place T s c) b
+  unfolding fitsBy
+  fits-right zero = refl
+  fits-right (suc zero) = refl
+  fits-right (suc (suc k)) =
+      let e : suc (suc k) - 2 ≡ k = omega arith in
+      let f : suc (suc k) - 1 ≡ suc k = omega arith in
+      let m : fewer n 64 ≡ length ns = ap (λ z. cond z n 64) (le-leb n 64 (ni .few-nodes)) ∙ sym (ni .all-nodes) in
+      rw (lt-leb (suc (suc k)) 1 (omega arith), lt-leb 8 c (omega (arith, nu .few-cats)), e, f, m) (go (decLt k (length ns)))
+    where
+      go : Dec (k < length ns)
+          → cond (ltb k (length ns)) (eqb (getD ca k 0) c && (getD bs k false && extends ps (digit (rowAt rows s) c) (suc k) true)) false
+          ≡ (ltb k (length ns) && (eqb (nodeAt ns k .cat) c && (hasUnder ns c (nodeAt ns k .path) && properAncestor (place T s c) (nodeAt ns k .path))))
+      go (yes h) = rw (lt-ltb k (length ns) h) (node-fits k h)
+      go (no h) = rw (le-ltb k (length ns) (omega arith))
+
+module _ (t ca pos len : List ℕ) (n : ℕ) (T : Table) (ni : NodesIn t ca pos len n T) (wf : WellFormed T)
+    (apart : (i j : ℕ) → i < length (T .signals) → j < length (T .signals) → rowOf T i ≡ rowOf T j → i ≡ j)
+    (rows ps : List ℕ) (signals : ℕ) (nu : Numbers rows ps signals T) (bs : List Bool) (br : BranchesIn bs T) (sy : List ℕ) (count : ℕ) (si : SymbolsIn T sy count) (im : List ℕ) where
+  abbrev next : Packed → ℕ → Packed
+  next = nextState rows ps bs signals sy
+
+  abbrev fits : ℕ → ℕ → ℕ → Bool
+  fits = fitsBy rows ps bs ca n
+
+  state-right : (j : ℕ) → stateFormedBy fits signals (T .cats) im j ≡ stateFormed T im j
+  unfolding stateFormedBy stateFormed
+  state-right j =
+      ap (λ z. ltb (signalIn (T .cats) im j) z && (all (T .cats) (statusFormedBy fits (T .cats) im j) && all (symbolCount im) (targetBelow T im j))) (sym (nu .all-signals))
+      ∙ go (ltb (signalIn (T .cats) im j) (length (T .signals))) refl
+    where
+      go : (b : Bool) → ltb (signalIn (T .cats) im j) (length (T .signals)) ≡ b
+          → (b && (all (T .cats) (statusFormedBy fits (T .cats) im j) && all (symbolCount im) (targetBelow T im j)))
+          ≡ (b && (all (T .cats) (statusFormed T im j) && all (symbolCount im) (targetBelow T im j)))
+      go false e = refl
+      go true e =
+          let l : signalIn (T .cats) im j < signals = omega (arith, ltb-true (signalIn (T .cats) im j) (length (T .signals)) e, nu .all-signals) in
+          ap (λ z. z && all (symbolCount im) (targetBelow T im j))
+          (all-same (T .cats) (statusFormedBy fits (T .cats) im j) (statusFormed T im j)
+          (λ c h. fits-right t ca pos len n T ni wf rows ps signals nu bs br (signalIn (T .cats) im j) c l h (byteIn (T .cats) im j c)))
+
+  pub form-right : formBy fits sy count signals (T .cats) im ≡ formOf T im
+  unfolding formBy formOf
   form-right =
       rw (le-leb (T .cats) 8 (nu .few-cats), le-leb count 128 (si .few-symbols))
-      (ap₂ (λ x n. leb (3 + 3 * symbolCount im) (length im) && (eqb (length im) (3 + 3 * symbolCount im + stateCount im * (symbolCount im + 2))
-      && (sameName (take (3 * symbolCount im) (drop 1 im)) x && (leb 1 (stateCount im) && (leb (stateCount im) 256
-      && all (stateCount im) (λ j. ltb (signalIn im j) n && (eqb (shutIn im j / 2 ^ T .cats) 0 && all (symbolCount im) (targetBelow im j))))))))
-      (si .held) (sym (nu .all-signals)))
+      (ap₂ (λ x y. leb (3 + 3 * symbolCount im) (length im) && (eqb (length im) (placeOf (T .cats) im (stateCount im))
+      && (sameName (take (3 * symbolCount im) (drop 1 im)) x && (leb 1 (stateCount im) && (leb (stateCount im) 256 && y)))))
+      (si .held) (all-same (stateCount im) (stateFormedBy fits signals (T .cats) im) (stateFormed T im) (λ j h. state-right j)))
 
   module _ (ok : Formed T im) where
     abbrev pair : ℕ → direct.State
-    pair j = record { signal = signalIn im j; status = statuses (T .cats) (shutIn im j) }
+    pair j = record { signal = signalIn (T .cats) im j; status = tabulate (image.statusIn T im j) (T .cats) }
+
+    status-at : (j c : ℕ) → c < T .cats → getD (pair j .status) c direct.Open ≡ image.statusIn T im j c
+    status-at j c h = tabulate-at (image.statusIn T im j) (T .cats) c direct.Open h
 
     is-state : (j : ℕ) → j < stateCount im → StateOf T (pair j)
-    is-state j h = state-of T apart (pair j) (ok .signal-listed j h) (statuses-length (T .cats) (shutIn im j))
+    is-state j h =
+        state-of T apart (pair j) (ok .signal-listed j h) (tabulate-length (image.statusIn T im j) (T .cats))
+        (λ c i.
+        ap₂ (statusFits (nodes T) c) (row-place T (signalIn (T .cats) im j) c i) (status-at j c i)
+        ∙ byte-fits T c (place T (signalIn (T .cats) im j) c) (byteIn (T .cats) im j c) (ok .status-formed j c h i))
 
-    pair-code : (j : ℕ) → j < stateCount im → pairIn im j ≡ code (pair j)
-    pair-code j h = ap (λ z. signalIn im j * 256 + z) (sym (bits-statuses (T .cats) (shutIn im j) (ok .shut-within j h)))
+    pair-code : (j : ℕ) → j < stateCount im → packedIn (T .cats) im j ≡ code T (pair j)
+    pair-code j h =
+        ap (λ z. record { signal = signalIn (T .cats) im j; statuses = z })
+        (packed-from im (coded T (pair j) .categories) (T .cats) 8 (placeOf (T .cats) im j + 1) 0 (nu .few-cats) (λ c i. sym (low c i)) (λ c i l. high c i l))
+      where
+        low : (c : ℕ) → c < T .cats → byteOf (statusIn (coded T (pair j) .categories) (0 + c)) ≡ byteIn (T .cats) im j c
+        low c i =
+            ap (λ z. byteOf (statusIn (coded T (pair j) .categories) z)) (zero-add c)
+            ∙ ap byteOf (coded-at T (pair j) c (omega (arith, nu .few-cats)) ∙ ap (codedStatus (nodes T) c) (status-at j c i))
+            ∙ status-coded T c [] (nu .few-nodes) (image.statusIn T im j c)
+            ∙ byte-again T c (place T (signalIn (T .cats) im j) c) (byteIn (T .cats) im j c) (ok .status-formed j c h i)
+
+        high : (c : ℕ) → T .cats ≤ c → c < 8 → byteOf (statusIn (coded T (pair j) .categories) (0 + c)) ≡ 0
+        high c i l =
+            ap (λ z. byteOf (statusIn (coded T (pair j) .categories) z)) (zero-add c)
+            ∙ ap byteOf (coded-at T (pair j) c l ∙ ap (codedStatus (nodes T) c) (List·getD-eq-default (pair j .status) direct.Open {n = c} (omega (arith, tabulate-length (image.statusIn T im j) (T .cats)))))
 
     pair-is : (j : ℕ) → j < stateCount im → machineState (machineIn T im) j .pair ≡ pair j
     pair-is j h = ap (λ z. z .pair) (machine-state-in T im j h)
 
-    begins : eqb (pairIn im 0) 0 ≡ sameState (machineState (machineIn T im) 0 .pair) (start (T .cats))
+    tests : (a b : direct.State) → StateOf T a → StateOf T b → samePacked (code T a) (code T b) ≡ sameState a b
+    tests = packed-test T (nu .few-cats) (nu .few-nodes)
+
+    begins : samePacked (packedIn (T .cats) im 0) begin ≡ sameState (machineState (machineIn T im) 0 .pair) (start (T .cats))
     begins =
-        ap₂ eqb (pair-code 0 (ok .some-state)) (sym (code-start (T .cats)))
-        ∙ code-test (T .cats) (nu .few-cats) (pair 0) (start (T .cats)) (statuses-length (T .cats) (shutIn im 0)) (state-start T wf .sized)
+        ap₂ samePacked (pair-code 0 (ok .some-state)) (sym (code-start T (T .cats)))
+        ∙ tests (pair 0) (start (T .cats)) (is-state 0 (ok .some-state)) (state-start T wf)
         ∙ ap (λ z. sameState z (start (T .cats))) (sym (pair-is 0 (ok .some-state)))
 
-    target-right : (j k : ℕ) → j < stateCount im → k < count → targetRightBy next im j k ≡ targetRight T (machineIn T im) j k
+    target-right : (j k : ℕ) → j < stateCount im → k < count → targetRightBy next (T .cats) im j k ≡ targetRight T (machineIn T im) j k
     unfolding targetRightBy
     target-right j k h i =
         let s : k < symbolCount im = omega (arith, form-symbols T im ok, si .all-symbols) in
-        let l : targetIn im j k < stateCount im = ok .leads j k h s in
+        let l : targetIn (T .cats) im j k < stateCount im = ok .leads j k h s in
         let g = is-state j h in
-        let e : target (machineIn T im) j k ≡ targetIn im j k = machine-target T im j k h s in
-        ap₂ eqb (pair-code (targetIn im j k) l) (ap (λ z. next z k) (pair-code j h) ∙ next-code T wf rows ps signals nu sy count si (pair j) k g i)
-        ∙ code-test (T .cats) (nu .few-cats) (pair (targetIn im j k)) (stepAt T (pair j) k) (statuses-length (T .cats) (shutIn im (targetIn im j k))) (step-sized j k h)
-        ∙ ap₂ sameState (sym (pair-is (targetIn im j k) l)) (ap (λ z. stepAt T z k) (sym (pair-is j h)))
+        let e : target (machineIn T im) j k ≡ targetIn (T .cats) im j k = machine-target T im j k h s in
+        ap₂ samePacked (pair-code (targetIn (T .cats) im j k) l) (ap (λ z. next z k) (pair-code j h) ∙ next-code T wf rows ps signals nu sy count si bs br (pair j) k g i)
+        ∙ tests (pair (targetIn (T .cats) im j k)) (stepAt T (pair j) k) (is-state (targetIn (T .cats) im j k) l) (state-step T wf (pair j) (stepsAs (symbolAt T k)) g)
+        ∙ ap₂ sameState (sym (pair-is (targetIn (T .cats) im j k) l)) (ap (λ z. stepAt T z k) (sym (pair-is j h)))
         ∙ sym (ap (λ z. ltb z (length (machineIn T im)) && sameState (machineState (machineIn T im) z .pair) (stepAt T (machineState (machineIn T im) j .pair) k)) e
-        ∙ ap (λ b. b && sameState (machineState (machineIn T im) (targetIn im j k) .pair) (stepAt T (machineState (machineIn T im) j .pair) k))
-        (lt-ltb (targetIn im j k) (length (machineIn T im)) (subst (λ (z : ℕ). targetIn im j k < z) (sym (machine-states T im)) l)))
-      where
-        step-sized : (j k : ℕ) → j < stateCount im → length (stepAt T (pair j) k .status) ≡ T .cats
-        step-sized j k h = state-step T wf (pair j) (stepsAs (symbolAt T k)) (is-state j h) .sized
+        ∙ ap (λ b. b && sameState (machineState (machineIn T im) (targetIn (T .cats) im j k) .pair) (stepAt T (machineState (machineIn T im) j .pair) k))
+        (lt-ltb (targetIn (T .cats) im j k) (length (machineIn T im)) (subst (λ (z : ℕ). targetIn (T .cats) im j k < z) (sym (machine-states T im)) l)))
 
-    rows-right : all (stateCount im) (rowRightBy next count im) ≡ all (length (machineIn T im)) (rowRight T (machineIn T im))
+    rows-right : all (stateCount im) (rowRightBy next count (T .cats) im) ≡ all (length (machineIn T im)) (rowRight T (machineIn T im))
     unfolding rowRightBy
     rows-right =
-        all-same (stateCount im) (rowRightBy next count im) (rowRight T (machineIn T im))
-        (λ j h. all-same count (targetRightBy next im j) (targetRight T (machineIn T im) j) (λ k i. target-right j k h i)
+        all-same (stateCount im) (rowRightBy next count (T .cats) im) (rowRight T (machineIn T im))
+        (λ j h. all-same count (targetRightBy next (T .cats) im j) (targetRight T (machineIn T im) j) (λ k i. target-right j k h i)
         ∙ ap (λ n. all n (targetRight T (machineIn T im) j)) (sym (si .all-symbols)))
         ∙ ap (λ n. all n (rowRight T (machineIn T im))) (sym (machine-states T im))
 
-  pub check-right : checkBy next sy count signals (T .cats) im ≡ checkOf T im
+  pub check-right : checkBy fits next sy count signals (T .cats) im ≡ checkOf T im
   unfolding checkBy checkOf
   check-right =
-      ap (λ (b : Bool). cond {A = ℕ} b (cond (eqb (pairIn im 0) 0) (cond (all (stateCount im) (rowRightBy next count im)) 0 17) 16) 15) form-right
+      ap (λ (b : Bool). cond {A = ℕ} b (cond (samePacked (packedIn (T .cats) im 0) begin) (cond (all (stateCount im) (rowRightBy next count (T .cats) im)) 0 17) 16) 15) form-right
       ∙ go (formOf T im) refl
     where
       go : (b : Bool) → formOf T im ≡ b
-          → _≡_ {A = ℕ} (cond b (cond (eqb (pairIn im 0) 0) (cond (all (stateCount im) (rowRightBy next count im)) 0 17) 16) 15)
+          → _≡_ {A = ℕ} (cond b (cond (samePacked (packedIn (T .cats) im 0) begin) (cond (all (stateCount im) (rowRightBy next count (T .cats) im)) 0 17) 16) 15)
           (cond b (cond (sameState (machineState (machineIn T im) 0 .pair) (start (T .cats))) (cond (all (length (machineIn T im)) (rowRight T (machineIn T im))) 0 17) 16) 15)
       go false e = refl
       go true e = let ok = form-to T im e in ap₂ (λ (x : Bool) (y : Bool). cond {A = ℕ} x (cond y 0 17) 16) (begins ok) (rows-right ok)

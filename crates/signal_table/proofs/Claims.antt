@@ -38,7 +38,7 @@ module _ (t : List ℕ) (e : tableRefusal t ≡ 0) where
       let a = accepted t e in
       let n = few-found (tableOf t) few in
       record {
-        short = longest-image (tableOf t) (all-used t e) (a .few-nodes) (machineOf (tableOf t) (discovered (tableOf t) 256)) (own-storable (tableOf t) (a .well) n);
+        short = longest-image (tableOf t) (all-used t e) (a .few-categories) (a .few-nodes) (machineOf (tableOf t) (discovered (tableOf t) 256)) (own-storable (tableOf t) (a .well) n);
         built = λ room h.
             let w = build-fits (tableOf t) room n h in
             ap (λ b. cond b (builtOf (tableOf t) room) (refused (tableRefusal t))) same ∙ (λ i. record { refusal = w .0 i; len = w .1 i });

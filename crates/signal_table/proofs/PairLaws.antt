@@ -1,55 +1,48 @@
--- Laws of the step on numbered states: a signal stays below 32.
-use Prim.Native.Nat.{ℕ, zero, suc, _+_, _*_, _<_}
-use mathlib.Core.Path.{_≡_, refl, ap, ap₂, _∙_}
-use mathlib.Core.Bool.{Bool, true, false, cond}
-use mathlib.Core.List.{List}
-use lib.Dec.{eqb, ltb, leb}
-use borrow.Author.Tests.{ltb-true}
-use lib.ListN.{getD}
+-- Laws of the step at a symbol's bytes, and of a state's bytes before its row.
+use Prim.Native.Nat.{ℕ, _+_, _*_, _≤_, _<_}
+use mathlib.Core.Path.{_≡_, refl, sym, ap, _∙_}
+use mathlib.Core.Bool.{Bool, false}
+use mathlib.Core.List.{List, [], _∷_, _++_}
+use lib.Dec.{eqb}
+use lib.ListN.{length, getD, set, take, length-append}
+use lib.Seq.{length-take-le}
+use borrow.Author.Tests.{eq-eqb, ne-eqb}
 use native.Mathlib.Omega.{arith}
-use Rattle.node_step.specs.Step.{few, rowAt, digit, parentOf, put, findRow, seek, takes, moved, stepNumbers}
-use Rattle.node_step.specs.declared.State.{State}
-use Rattle.node_step.specs.declared.Hit.{Hit}
-use Rattle.signal_table.specs.States.{pairOf, ofPair, nextPair}
+use Rattle.resolution.specs.Lists.{tabulate}
+use Rattle.resolution.proofs.Lists.{tabulate-length}
+use Rattle.node_step.specs.Step.{digit}
+use Rattle.node_step.specs.StatusByte.{samePacked, stepPacked}
+use Rattle.node_step.specs.declared.stored.Packed.{Packed}
+use Rattle.signal_table.specs.States.{nextState, pairBytes}
+use Rattle.signal_table.proofs.Over.{over, over-all}
 
-seek-small : (rows ps : List ℕ) (k row c q n d : ℕ) → seek rows ps k row c q n d .signal < 32
-unfolding seek
-seek-small rows ps k row c q zero d = omega arith
-seek-small rows ps k row c q (suc n) d = go (seek-small rows ps k row c q n (parentOf ps d)) (ltb (findRow rows (put row c d) 0 k) 32) refl (eqb d q)
-  where
-    go : seek rows ps k row c q n (parentOf ps d) .signal < 32 → (b : Bool) → ltb (findRow rows (put row c d) 0 k) 32 ≡ b → (e : Bool)
-        → cond b (record { found = true; node = d; signal = findRow rows (put row c d) 0 k })
-        (cond e (record { found = false; node = 0; signal = 0 }) (seek rows ps k row c q n (parentOf ps d))) .signal < 32
-    go ih true h e = ltb-true (findRow rows (put row c d) 0 k) 32 h
-    go ih false h true = omega arith
-    go ih false h false = ih
+pub next-is : (rows ps : List ℕ) (bs : List Bool) (n : ℕ) (sy : List ℕ) (st : Packed) (k : ℕ) {c : ℕ} {r : Packed}
+    → c ≡ getD sy (3 * k) 0 → r ≡ stepPacked rows ps bs n st c (getD sy (3 * k + 1) 0) (eqb (getD sy (3 * k + 2) 0) 0) → r ≡ nextState rows ps bs n sy st k
+unfolding nextState
+next-is rows ps bs n sy st k e f = f ∙ ap (λ z. stepPacked rows ps bs n st z (getD sy (3 * k + 1) 0) (eqb (getD sy (3 * k + 2) 0) 0)) e
 
-step-small : (rows ps : List ℕ) (n : ℕ) (st : State) (c d : ℕ) (whole : Bool) → st .signal < 32 → stepNumbers rows ps n st c d whole .signal < 32
-unfolding stepNumbers moved
-step-small rows ps n st c d whole h =
-    go (leb 8 c) (takes ps (st .shut) c (digit (rowAt rows (st .signal)) c) d whole)
-    (seek rows ps (few n) (rowAt rows (st .signal)) c (digit (rowAt rows (st .signal)) c) 9 d)
-    (seek-small rows ps (few n) (rowAt rows (st .signal)) c (digit (rowAt rows (st .signal)) c) 9 d)
-  where
-    found-small : (x : Hit) → x .signal < 32 → moved st c d whole x .signal < 32
-    found-small x l = at (x .found) refl
-      where
-        at : (f : Bool) → x .found ≡ f → moved st c d whole x .signal < 32
-        at true e = rw e l
-        at false e = rw e h
+-- the bytes are all written
+pub pair-done : (cats : ℕ) (st : Packed) (c : ℕ) (b : List ℕ) {r : List ℕ} → c ≤ cats → cats ≤ c → length b ≡ cats + 1 → r ≡ over (st .signal ∷ [] ++ tabulate (digit (st .statuses)) c) b → r ≡ pairBytes cats st
+pair-done cats st c b h k l e =
+    let z : c ≡ cats = omega arith in
+    e ∙ ap (λ y. over (st .signal ∷ [] ++ tabulate (digit (st .statuses)) y) b) z
+    ∙ over-all (st .signal ∷ [] ++ tabulate (digit (st .statuses)) cats) b (omega (arith, tabulate-length (digit (st .statuses)) cats))
 
-    go : (a b : Bool) (x : Hit) → x .signal < 32 → cond a st (cond b (moved st c d whole x) st) .signal < 32
-    go true b x l = h
-    go false true x l = found-small x l
-    go false false x l = h
+-- the test, signal first
+pub same-no : (a b : Packed) → (a .signal ≡ b .signal → ⊥) → false ≡ samePacked a b
+unfolding samePacked
+same-no a b n = sym (rw (ne-eqb (a .signal) (b .signal) n))
 
-module _ (rows ps : List ℕ) (n : ℕ) (sy : List ℕ) (p k : ℕ) {c : ℕ} {r : State}
-    (e : c ≡ getD sy (3 * k) 0) (f : r ≡ stepNumbers rows ps n (ofPair p) c (getD sy (3 * k + 1) 0) (eqb (getD sy (3 * k + 2) 0) 0)) {s t : ℕ} (g : s ≡ r .signal) (h : t ≡ r .shut) where
-  pub next-is : s * 256 + t ≡ nextPair rows ps n sy p k
-  unfolding nextPair
-  next-is = ap₂ (λ x y. x * 256 + y) g h ∙ ap pairOf (f ∙ ap (λ z. stepNumbers rows ps n (ofPair p) z (getD sy (3 * k + 1) 0) (eqb (getD sy (3 * k + 2) 0) 0)) e)
+pub same-rest : (a b : Packed) → a .signal ≡ b .signal → eqb (a .statuses) (b .statuses) ≡ samePacked a b
+unfolding samePacked
+same-rest a b e = sym (rw (eq-eqb (a .signal) (b .signal) e))
 
-  pub next-small : t < 256 → p < 8192 → s * 256 + t < 8192
-  next-small a b =
-      let l = step-small rows ps n (ofPair p) c (getD sy (3 * k + 1) 0) (eqb (getD sy (3 * k + 2) 0) 0) (omega arith) in
-      omega (arith, l, ap (λ x. x .signal) f)
+-- a row from its first byte to its last
+pub row-start : (numbers row : List ℕ) → row ≡ over ([] ++ take 0 numbers) row
+unfolding over
+row-start numbers row = refl
+
+pub row-done : (numbers row : List ℕ) (k : ℕ) {r : List ℕ} → k ≤ length row → length row ≤ k → length row ≤ length numbers → r ≡ over ([] ++ take k numbers) row → r ≡ take (length row) numbers
+row-done numbers row k h i l e =
+    let z : k ≡ length row = omega arith in
+    e ∙ ap (λ y. over ([] ++ take y numbers) row) z ∙ over-all (take (length row) numbers) row (length-take-le (length row) numbers l)

@@ -3,35 +3,50 @@ use Prim.Native.Nat.{ℕ, zero, suc, _+_, _≤_, _<_}
 use mathlib.Core.Path.{_≡_, refl, sym, ap, subst, _∙_}
 use mathlib.Core.Bool.{Bool, true, false, cond}
 use mathlib.Core.List.{List, [], _∷_, _++_}
+<<<<<<< HEAD
 use lib.Dec.{eqb}
 use lib.ListN.{length, set, take, drop, length-append}
 use lib.Seq.{take-at, length-take-le}
+=======
+use lib.ListN.{length, set, take, drop, length-append}
+use lib.Seq.{take-at}
+>>>>>>> b8e7a93 (prototype: held, on the base)
 use native.Mathlib.Omega.{arith}
 use native.Mathlib.Decide.{ℕ-discrete}
 use native.Mathlib.Numerals.{add-one}
 use Rattle.resolution.specs.Lists.{memberBy, addBy, indexBy, tabulate}
 use Rattle.resolution.specs.Discovery.{expand, targets}
+<<<<<<< HEAD
 use Rattle.resolution.proofs.Lists.{eqb-exact, Extends, add-extends, add-has, member-extends, tabulate-length, tabulate-same}
 use Rattle.signal_table.specs.States.{Kept, longer, Turned}
 use Rattle.signal_table.proofs.KeptLaws.{index-extends, index-add, add-longer}
 use Rattle.signal_table.proofs.Over.{over, over-all, over-set}
+=======
+use Rattle.resolution.proofs.Lists.{Extends, add-extends, add-has, member-extends, tabulate-length, tabulate-same}
+use Rattle.node_step.specs.StatusByte.{samePacked}
+use Rattle.node_step.specs.declared.stored.Packed.{Packed}
+use Rattle.node_step.proofs.PackedStep.{packed-exact}
+use Rattle.signal_table.specs.States.{Kept, longer, Turned}
+use Rattle.signal_table.proofs.KeptLaws.{index-extends, index-add, add-longer}
+use Rattle.signal_table.proofs.Over.{over, over-set}
+>>>>>>> b8e7a93 (prototype: held, on the base)
 
-pub extends-length : {l k : List ℕ} → Extends l k → length l ≤ length k
+pub extends-length : {l k : List Packed} → Extends l k → length l ≤ length k
 extends-length {l} e = omega (arith, length-append l (e .more), ap length (e .joined))
 
-module _ (next : ℕ → ℕ → ℕ) (p : ℕ) (l : List ℕ) where
-  abbrev after : ℕ → List ℕ
-  after k = expand eqb next p k l
+module _ (next : Packed → ℕ → Packed) (p : Packed) (l : List Packed) where
+  abbrev after : ℕ → List Packed
+  after k = expand samePacked next p k l
 
   -- each target is there
-  pub target-there : (n k : ℕ) → k < n → memberBy eqb (next p k) (after n) ≡ true
+  pub target-there : (n k : ℕ) → k < n → memberBy samePacked (next p k) (after n) ≡ true
   unfolding expand
   target-there zero k h = absurd (omega arith)
   target-there (suc n) k h = go (ℕ-discrete k n) (λ i. target-there n k i)
     where
-      go : Dec (k ≡ n) → (k < n → memberBy eqb (next p k) (after n) ≡ true) → memberBy eqb (next p k) (addBy eqb (after n) (next p n)) ≡ true
-      go (yes e) ih = rw e (add-has eqb eqb-exact (after n) (next p n))
-      go (no e) ih = member-extends eqb eqb-exact (next p k) (add-extends eqb eqb-exact (after n) (next p n)) (ih (omega arith))
+      go : Dec (k ≡ n) → (k < n → memberBy samePacked (next p k) (after n) ≡ true) → memberBy samePacked (next p k) (addBy samePacked (after n) (next p n)) ≡ true
+      go (yes e) ih = rw e (add-has samePacked packed-exact (after n) (next p n))
+      go (no e) ih = member-extends samePacked packed-exact (next p k) (add-extends samePacked packed-exact (after n) (next p n)) (ih (omega arith))
 
   -- with more targets the list is no shorter
   pub after-longer : (k n : ℕ) → k ≤ n → length (after k) ≤ length (after n)
@@ -41,19 +56,27 @@ module _ (next : ℕ → ℕ → ℕ) (p : ℕ) (l : List ℕ) where
     where
       go : Dec (k ≡ suc n) → (k ≤ n → length (after k) ≤ length (after n)) → length (after k) ≤ length (after (suc n))
       go (yes e) ih = rw e (omega arith)
-      go (no e) ih = omega (arith, ih (omega arith), extends-length (add-extends eqb eqb-exact (after n) (next p n)))
+      go (no e) ih = omega (arith, ih (omega arith), extends-length (add-extends samePacked packed-exact (after n) (next p n)))
 
   -- the numbers of the targets at the first k symbols
   abbrev pub begun : ℕ → List ℕ
+<<<<<<< HEAD
   begun k = targets eqb next k (after k) p
 
   begun-length : (k : ℕ) → length (begun k) ≡ k
   begun-length k = tabulate-length (λ i. indexBy eqb (next p i) (after k)) k
+=======
+  begun k = targets samePacked next k (after k) p
+
+  begun-length : (k : ℕ) → length (begun k) ≡ k
+  begun-length k = tabulate-length (λ i. indexBy samePacked (next p i) (after k)) k
+>>>>>>> b8e7a93 (prototype: held, on the base)
 
   -- one target more: those before it keep their numbers
-  begun-more : (k : ℕ) → begun (suc k) ≡ begun k ++ indexBy eqb (next p k) (after k) ∷ []
+  begun-more : (k : ℕ) → begun (suc k) ≡ begun k ++ indexBy samePacked (next p k) (after k) ∷ []
   unfolding tabulate expand
   begun-more k =
+<<<<<<< HEAD
       ap (λ z. z ++ indexBy eqb (next p k) (addBy eqb (after k) (next p k)) ∷ [])
       (tabulate-same (λ i. indexBy eqb (next p i) (addBy eqb (after k) (next p k))) (λ i. indexBy eqb (next p i) (after k)) k
       (λ i h. index-extends (next p i) (add-extends eqb eqb-exact (after k) (next p k)) (target-there k i h)))
@@ -92,8 +115,48 @@ module _ (next : ℕ → ℕ → ℕ) (p : ℕ) (l : List ℕ) where
           → 256 ≤ j → Turned next count l p numbers′ states′ index′ 257
       unfolding expand
       turning-over count states′ index′ numbers′ {q} {j} h e f i =
+=======
+      ap (λ z. z ++ indexBy samePacked (next p k) (addBy samePacked (after k) (next p k)) ∷ [])
+      (tabulate-same (λ i. indexBy samePacked (next p i) (addBy samePacked (after k) (next p k))) (λ i. indexBy samePacked (next p i) (after k)) k
+      (λ i h. index-extends (next p i) (add-extends samePacked packed-exact (after k) (next p k)) (target-there k i h)))
+      ∙ ap (λ z. targets samePacked next k (after k) p ++ z ∷ []) (index-add (next p k) (after k))
+
+  -- what the loop keeps
+  pub record Turning (k : ℕ) (numbers₀ numbers signal statuses : List ℕ) (m : ℕ) : Type 0 where
+    pub kept : Kept signal statuses m (after k)
+    pub numbered : numbers ≡ over (begun k) numbers₀
+
+  module _ (numbers₀ : List ℕ) where
+    pub turning-start : (signal statuses : List ℕ) (m : ℕ) → Kept signal statuses m l → Turning 0 numbers₀ numbers₀ signal statuses m
+    unfolding expand tabulate over
+    turning-start signal statuses m k = record { kept = k; numbered = refl }
+
+    module _ (k : ℕ) (numbers signal statuses : List ℕ) (m : ℕ) (t : Turning k numbers₀ numbers signal statuses m) where
+      pub turning-more : (signal′ statuses′ : List ℕ) {q : Packed} {j m′ : ℕ} → k < length numbers₀ → q ≡ next p k
+          → ((l′ : List Packed) → Kept signal statuses m l′ → (j ≡ indexBy samePacked q l′) × (j < 256 → Kept signal′ statuses′ (longer m j) (addBy samePacked l′ q)))
+          → j < 256 → m′ ≡ longer m j → Turning (k + 1) numbers₀ (set numbers k j) signal′ statuses′ m′
+      unfolding expand
+      turning-more signal′ statuses′ {q} {j} {m′} h e f i g =
           let w = f (after k) (t .kept) in
-          let a : j ≡ indexBy eqb (next p k) (after k) = w .0 ∙ ap (λ z. indexBy eqb z (after k)) e in
+          rw add-one
+          (record {
+            kept = subst (λ (z : ℕ). Kept signal′ statuses′ z (addBy samePacked (after k) (next p k))) (sym g)
+                (subst (λ (z : Packed). Kept signal′ statuses′ (longer m j) (addBy samePacked (after k) z)) e (w .1 i));
+            numbered =
+                ap (λ z. set z k j) (t .numbered)
+                ∙ over-set (begun k) numbers₀ k j (begun-length k) h
+                ∙ ap (λ z. over z numbers₀) (ap (λ z. begun k ++ z ∷ []) (w .0 ∙ ap (λ z. indexBy samePacked z (after k)) e) ∙ sym (begun-more k));
+          })
+
+      -- a 257th state
+      pub turning-over : (count : ℕ) (signal′ statuses′ numbers′ : List ℕ) {q : Packed} {j : ℕ} → k < count → q ≡ next p k
+          → ((l′ : List Packed) → Kept signal statuses m l′ → (j ≡ indexBy samePacked q l′) × (j < 256 → Kept signal′ statuses′ (longer m j) (addBy samePacked l′ q)))
+          → 256 ≤ j → Turned next count l p numbers′ signal′ statuses′ 257
+      unfolding expand
+      turning-over count signal′ statuses′ numbers′ {q} {j} h e f i =
+>>>>>>> b8e7a93 (prototype: held, on the base)
+          let w = f (after k) (t .kept) in
+          let a : j ≡ indexBy samePacked (next p k) (after k) = w .0 ∙ ap (λ z. indexBy samePacked z (after k)) e in
           let b : length (after k) ≤ 256 = omega (arith, t .kept .all-kept, t .kept .few) in
           let c = add-longer (next p k) (after k) (omega (arith, a)) in
           let d = index-le (next p k) (after k) in
@@ -103,24 +166,33 @@ module _ (next : ℕ → ℕ → ℕ) (p : ℕ) (l : List ℕ) where
             numbered = λ z. absurd (omega arith);
           }
         where
-          index-le : (x : ℕ) (y : List ℕ) → indexBy eqb x y ≤ length y
+          index-le : (x : Packed) (y : List Packed) → indexBy samePacked x y ≤ length y
           index-le x [] = omega arith
-          index-le x (z ∷ y) = by (eqb x z) (index-le x y)
+          index-le x (z ∷ y) = by (samePacked x z) (index-le x y)
             where
-              by : (b : Bool) → indexBy eqb x y ≤ length y → cond b zero (suc (indexBy eqb x y)) ≤ suc (length y)
+              by : (b : Bool) → indexBy samePacked x y ≤ length y → cond b zero (suc (indexBy samePacked x y)) ≤ suc (length y)
               by true ih = omega arith
               by false ih = omega arith
 
+<<<<<<< HEAD
       pub turning-end : (count : ℕ) → k ≤ count → count ≤ k → m ≤ 256 → Turned next count l p numbers states index m
       unfolding over
       turning-end count a b c =
           let e : k ≡ count = omega arith in
           let u : Turning count numbers₀ numbers states index m = subst (λ (z : ℕ). Turning z numbers₀ numbers states index m) e t in
+=======
+      pub turning-end : (count : ℕ) → k ≤ count → count ≤ k → m ≤ 256 → Turned next count l p numbers signal statuses m
+      unfolding over
+      turning-end count a b c =
+          let e : k ≡ count = omega arith in
+          let u : Turning count numbers₀ numbers signal statuses m = subst (λ (z : ℕ). Turning z numbers₀ numbers signal statuses m) e t in
+>>>>>>> b8e7a93 (prototype: held, on the base)
           record {
             kept = λ z. u .kept;
             over = λ z. absurd (omega arith);
             numbered = λ z. ap (take count) (u .numbered) ∙ take-at (begun count) (drop (length (begun count)) numbers₀) count (begun-length count);
           }
+<<<<<<< HEAD
 
 -- the row writer, at the start and at the end
 pub row-start : (numbers row : List ℕ) → row ≡ over ([] ++ take 0 numbers) row
@@ -139,3 +211,5 @@ pair-done [] a b h = absurd (omega arith)
 pair-done (x ∷ []) a b h = absurd (omega arith)
 pair-done (x ∷ y ∷ []) a b h = refl
 pair-done (x ∷ y ∷ z ∷ r) a b h = absurd (omega arith)
+=======
+>>>>>>> b8e7a93 (prototype: held, on the base)

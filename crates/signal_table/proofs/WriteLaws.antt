@@ -8,6 +8,7 @@ use lib.Seq.{length-take-le, drop-at, take-append-add}
 use native.Mathlib.Omega.{arith}
 use native.Mathlib.Nat.{sub-zero, mul-le-mul-right}
 use borrow.Rule.Slice.PartMut.{putMid}
+use Rattle.node_step.specs.declared.stored.Packed.{Packed}
 use Rattle.signal_table.specs.Built.{refused, accepted}
 use Rattle.signal_table.specs.States.{found, statesBytes, imageBy, sizeBy, builtBy, bufferBy, Discovered}
 
@@ -65,65 +66,72 @@ head-first-length b y h f head e k ly lh =
     ∙ omega (arith, first-length b y f (omega arith) ly, length-drop (head - 0) (putMid f (length b - f) b y))
 
 -- the answer
-module _ (next : ℕ → ℕ → ℕ) (count : ℕ) (sy : List ℕ) (room : ℕ) where
-  pub build-many : 256 < length (found next count 256) → (refused 13 ≡ builtBy next count room) × (replicate room 0 ≡ bufferBy next count sy room)
+module _ (next : Packed → ℕ → Packed) (cats count : ℕ) (sy : List ℕ) (room : ℕ) where
+  pub build-many : 256 < length (found next count 256) → (refused 13 ≡ builtBy next cats count room) × (replicate room 0 ≡ bufferBy next cats count sy room)
   unfolding builtBy bufferBy
   build-many h = let a = lt-ltb 256 (length (found next count 256)) h in (sym (rw a), sym (rw a))
 
   module _ (h : length (found next count 256) ≤ 256) where
-    pub build-short : room < sizeBy next count → (refused 14 ≡ builtBy next count room) × (replicate room 0 ≡ bufferBy next count sy room)
+    pub build-short : room < sizeBy next cats count → (refused 14 ≡ builtBy next cats count room) × (replicate room 0 ≡ bufferBy next cats count sy room)
     unfolding builtBy bufferBy
-    build-short k = let a = le-ltb 256 (length (found next count 256)) h in let b = lt-ltb room (sizeBy next count) k in (sym (rw (a, b)), sym (rw (a, b)))
+    build-short k = let a = le-ltb 256 (length (found next count 256)) h in let b = lt-ltb room (sizeBy next cats count) k in (sym (rw (a, b)), sym (rw (a, b)))
 
-    pub build-done : sizeBy next count ≤ room
-        → (accepted (sizeBy next count) ≡ builtBy next count room) × (imageBy next count sy ++ replicate (room - sizeBy next count) 0 ≡ bufferBy next count sy room)
+    pub build-done : sizeBy next cats count ≤ room
+        → (accepted (sizeBy next cats count) ≡ builtBy next cats count room) × (imageBy next cats count sy ++ replicate (room - sizeBy next cats count) 0 ≡ bufferBy next cats count sy room)
     unfolding builtBy bufferBy
-    build-done k = let a = le-ltb 256 (length (found next count 256)) h in let b = le-ltb room (sizeBy next count) k in (sym (rw (a, b)), sym (rw (a, b)))
+    build-done k = let a = le-ltb 256 (length (found next count 256)) h in let b = le-ltb room (sizeBy next cats count) k in (sym (rw (a, b)), sym (rw (a, b)))
 
   -- the image, from the head and the rows
   pub image-is : (n : ℕ) (h y : List ℕ) → n ≡ length (found next count 256) → h ≡ count ∷ take (3 * count) sy ++ n % 256 ∷ n / 256 ∷ []
+<<<<<<< HEAD
       → take (n * (count + 2)) y ≡ statesBytes next count (found next count 256) n → h ++ take (n * (count + 2)) y ≡ imageBy next count sy
   unfolding imageBy
   image-is n h y e f g =
       ap₂ _++_ (f ∙ ap (λ z. count ∷ take (3 * count) sy ++ z % 256 ∷ z / 256 ∷ []) e) (g ∙ ap (statesBytes next count (found next count 256)) e)
+=======
+      → take (n * (count + cats + 1)) y ≡ rowsBytes next cats count (found next count 256) n → h ++ take (n * (count + cats + 1)) y ≡ imageBy next cats count sy
+  unfolding imageBy
+  image-is n h y e f g =
+      ap₂ _++_ (f ∙ ap (λ z. count ∷ take (3 * count) sy ++ z % 256 ∷ z / 256 ∷ []) e) (g ∙ ap (rowsBytes next cats count (found next count 256)) e)
+>>>>>>> b8e7a93 (prototype: held, on the base)
 
 -- the same from what discovery gave: n states, their rows in y
-module _ (next : ℕ → ℕ → ℕ) (count : ℕ) (sy : List ℕ) (b y part : List ℕ) (f n : ℕ) (d : Discovered next count part y n) where
-  pub built-many : 256 < n → (refused 13 ≡ builtBy next count (length b)) × (replicate (length b) 0 ≡ bufferBy next count sy (length b))
-  built-many h = build-many next count sy (length b) (d .over h)
+module _ (next : Packed → ℕ → Packed) (cats count : ℕ) (sy : List ℕ) (b y part : List ℕ) (f n : ℕ) (d : Discovered next cats count part y n) where
+  pub built-many : 256 < n → (refused 13 ≡ builtBy next cats count (length b)) × (replicate (length b) 0 ≡ bufferBy next cats count sy (length b))
+  built-many h = build-many next cats count sy (length b) (d .over h)
 
   module _ (few : n ≤ 256) where
     is : n ≡ length (found next count 256)
     is = d .few few
 
-    sized : 3 + 3 * count + n * (count + 2) ≡ sizeBy next count
-    sized = ap (λ z. 3 + 3 * count + z * (count + 2)) is
+    sized : 3 + 3 * count + n * (count + cats + 1) ≡ sizeBy next cats count
+    sized = ap (λ z. 3 + 3 * count + z * (count + cats + 1)) is
 
-    pub built-short : length b < 3 + 3 * count + n * (count + 2) → (refused 14 ≡ builtBy next count (length b)) × (replicate (length b) 0 ≡ bufferBy next count sy (length b))
-    built-short h = build-short next count sy (length b) (omega (arith, is)) (omega (arith, sized))
+    pub built-short : length b < 3 + 3 * count + n * (count + cats + 1) → (refused 14 ≡ builtBy next cats count (length b)) × (replicate (length b) 0 ≡ bufferBy next cats count sy (length b))
+    built-short h = build-short next cats count sy (length b) (omega (arith, is)) (omega (arith, sized))
 
-    module _ (fits : 3 + 3 * count + n * (count + 2) ≤ length b) (h z : List ℕ) (e : f ≡ 3 + 3 * count) (wide : length sy ≡ 384) (low : count ≤ 128)
+    module _ (fits : 3 + 3 * count + n * (count + cats + 1) ≤ length b) (h z : List ℕ) (e : f ≡ 3 + 3 * count) (wide : length sy ≡ 384) (low : count ≤ 128)
         (p : part ≡ take (length b - f) (drop f b))
         (eh : h ≡ count ∷ take (3 * count) sy ++ n % 256 ∷ n / 256 ∷ [])
-        (ez : z ≡ replicate (length (take (length b - (3 + 3 * count + n * (count + 2))) (drop (3 + 3 * count + n * (count + 2)) (putMid 0 (3 + 3 * count - 0) (putMid f (length b - f) b y) h)))) 0) where
+        (ez : z ≡ replicate (length (take (length b - (3 + 3 * count + n * (count + cats + 1))) (drop (3 + 3 * count + n * (count + cats + 1)) (putMid 0 (3 + 3 * count - 0) (putMid f (length b - f) b y) h)))) 0) where
       head-length : length h ≡ 3 + 3 * count
       head-length = ap length eh ∙ length-append (count ∷ take (3 * count) sy) (n % 256 ∷ n / 256 ∷ []) ∙ omega (arith, length-take-le (3 * count) sy (omega arith))
 
       part-length : length part ≡ length b - (3 + 3 * count)
       part-length = ap length p ∙ length-take-le (length b - f) (drop f b) (omega (arith, length-drop f b)) ∙ ap (λ z. length b - z) e
 
-      pub built-done : (accepted (3 + 3 * count + n * (count + 2)) ≡ builtBy next count (length b))
-          × (putMid (3 + 3 * count + n * (count + 2)) (length b - (3 + 3 * count + n * (count + 2))) (putMid 0 (3 + 3 * count - 0) (putMid f (length b - f) b y) h) z
-          ≡ bufferBy next count sy (length b))
+      pub built-done : (accepted (3 + 3 * count + n * (count + cats + 1)) ≡ builtBy next cats count (length b))
+          × (putMid (3 + 3 * count + n * (count + cats + 1)) (length b - (3 + 3 * count + n * (count + cats + 1))) (putMid 0 (3 + 3 * count - 0) (putMid f (length b - f) b y) h) z
+          ≡ bufferBy next cats count sy (length b))
       built-done =
-          let w = build-done next count sy (length b) (omega (arith, is)) (omega (arith, sized)) in
-          let k : 3 + 3 * count + n * (count + 2) - (3 + 3 * count) ≡ n * (count + 2) = omega arith in
+          let w = build-done next cats count sy (length b) (omega (arith, is)) (omega (arith, sized)) in
+          let k : 3 + 3 * count + n * (count + cats + 1) - (3 + 3 * count) ≡ n * (count + cats + 1) = omega arith in
           let r = d .rows few (omega (arith, part-length)) in (
             ap accepted sized ∙ w .0,
-            three-lent b y h z f (3 + 3 * count) (3 + 3 * count + n * (count + 2)) e (omega arith) fits (d .same-length ∙ ap length p) head-length ez
-                ∙ ap₂ _++_ (ap (λ z. h ++ take z y) k ∙ image-is next count sy (length b) n h y is eh r) (ap (λ z. replicate (length b - z) 0) sized)
+            three-lent b y h z f (3 + 3 * count) (3 + 3 * count + n * (count + cats + 1)) e (omega arith) fits (d .same-length ∙ ap length p) head-length ez
+                ∙ ap₂ _++_ (ap (λ z. h ++ take z y) k ∙ image-is next cats count sy (length b) n h y is eh r) (ap (λ z. replicate (length b - z) 0) sized)
                 ∙ w .1,
           )
 
-pub rows-fit : (n count : ℕ) → n ≤ 256 → count ≤ 128 → n * (count + 2) ≤ 33280
-rows-fit n count h k = omega (arith, mul-le-mul-right (count + 2) h)
+pub rows-fit : (n count cats : ℕ) → n ≤ 256 → count ≤ 128 → cats ≤ 8 → n * (count + cats + 1) ≤ 35072
+rows-fit n count cats h k l = omega (arith, mul-le-mul-right (count + cats + 1) h)

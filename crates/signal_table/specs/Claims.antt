@@ -11,8 +11,8 @@ use Rattle.signal_table.specs.Built.{accepted, builtFrom, bufferFrom, ch
 
 -- of a well-formed table with at most 256 reachable states
 pub record Builds (t : List ℕ) : Type 0 where
-  -- its machine's image is no longer than 33,667 bytes
-  pub short : length (machineImage (tableOf t)) ≤ 33667
+  -- its machine's image is no longer than 35,459 bytes
+  pub short : length (machineImage (tableOf t)) ≤ 35459
   -- wherever there is room for it the build succeeds, and leaves the image and zeros after it
   pub built : (room : ℕ) → length (machineImage (tableOf t)) ≤ room → builtFrom t room ≡ accepted (length (machineImage (tableOf t)))
   pub written : (room : ℕ) → length (machineImage (tableOf t)) ≤ room

@@ -1,46 +1,48 @@
+<<<<<<< HEAD
 -- Discovery as the code does it: a state is one number, and each state is written when its targets are found.
+=======
+-- Discovery as the code does it: a state has its categories' bytes in one number, and the rows are written as the states are found.
+>>>>>>> b8e7a93 (prototype: held, on the base)
 use Prim.Native.Nat.{ℕ, zero, suc, _+_, _-_, _*_, _/_, _%_, _≤_, _<_}
 use mathlib.Core.Path.{_≡_}
-use mathlib.Core.Bool.{cond}
+use mathlib.Core.Bool.{Bool, cond}
 use mathlib.Core.List.{List, [], _∷_, _++_}
 use lib.Dec.{eqb, ltb}
 use lib.ListN.{length, getD, take, replicate}
+use Rattle.resolution.specs.Lists.{tabulate, Distinct}
 use Rattle.resolution.specs.Discovery.{expand, discover, targets}
-use Rattle.node_step.specs.Step.{stepNumbers}
-use Rattle.node_step.specs.declared.State.{State}
+use Rattle.node_step.specs.Step.{digit}
+use Rattle.node_step.specs.StatusByte.{samePacked, stepPacked}
+use Rattle.node_step.specs.declared.stored.Packed.{Packed}
 use Rattle.signal_table.specs.Built.{refused, accepted}
 use Rattle.signal_table.specs.declared.write.Built.{Built}
 
--- a state as one number: 256 times its signal, plus its shut set
-abbrev pub pairOf : State → ℕ
-pairOf st = st .signal * 256 + st .shut
-
--- and the state of a number
-abbrev pub ofPair : ℕ → State
-ofPair p = record { signal = p / 256; shut = p % 256 }
+-- signal 0 with every category open
+abbrev pub begin : Packed
+begin = record { signal = 0; statuses = 0 }
 
 -- the state after symbol k of those in sy
-unfoldable pub nextPair : List ℕ → List ℕ → ℕ → List ℕ → ℕ → ℕ → ℕ
-nextPair rows ps n sy p k =
-    pairOf (stepNumbers rows ps n (ofPair p) (getD sy (3 * k) 0) (getD sy (3 * k + 1) 0) (eqb (getD sy (3 * k + 2) 0) 0))
+unfoldable pub nextState : List ℕ → List ℕ → List Bool → ℕ → List ℕ → Packed → ℕ → Packed
+nextState rows ps bs n sy st k =
+    stepPacked rows ps bs n st (getD sy (3 * k) 0) (getD sy (3 * k + 1) 0) (eqb (getD sy (3 * k + 2) 0) 0)
 
--- the number of the state p among the n in the array, by the index, or 256
-unfoldable pub numberIn : List ℕ → List ℕ → ℕ → ℕ → ℕ
-numberIn states index n p = cond (ltb (getD index p 0) n) (cond (eqb (getD states (getD index p 0) 0) p) (getD index p 0) 256) 256
+-- state i in the arrays of signals and statuses
+abbrev pub stateAt : List ℕ → List ℕ → ℕ → Packed
+stateAt signal statuses i = record { signal = getD signal i 0; statuses = getD statuses i 0 }
 
--- the n states of a list, and the number of each at its place in the index
-pub record Kept (states index : List ℕ) (n : ℕ) (l : List ℕ) : Type 0 where
-  pub wide : (length states ≡ 256) × (length index ≡ 8192)
+-- the n states of a list, in the arrays
+pub record Kept (signal statuses : List ℕ) (n : ℕ) (l : List Packed) : Type 0 where
+  pub wide : (length signal ≡ 256) × (length statuses ≡ 256)
   pub all-kept : length l ≡ n
   pub few : n ≤ 256
-  pub held : (i : ℕ) → i < n → getD states i 0 ≡ getD l i 0
-  pub small : (i : ℕ) → i < n → getD l i 0 < 8192
-  pub indexed : (i : ℕ) → i < n → getD index (getD l i 0) 0 ≡ i
+  pub held : (i : ℕ) → i < n → stateAt signal statuses i ≡ getD l i begin
+  pub distinct : Distinct samePacked l
 
 -- n, or one more if j is n
 abbrev pub longer : ℕ → ℕ → ℕ
 longer n j = cond (eqb j n) (n + 1) n
 
+<<<<<<< HEAD
 -- the bytes of state p before its row: its signal and its shut set
 abbrev pub pairBytes : ℕ → List ℕ
 pairBytes p = p / 256 ∷ p % 256 ∷ []
@@ -76,20 +78,62 @@ module _ (next : ℕ → ℕ → ℕ) (count : ℕ) where
     pub few : r ≤ 256 → r ≡ length (found 256)
     pub over : 256 < r → 256 < length (found 256)
     pub rows : r ≤ 256 → r * (count + 2) ≤ length part → take (r * (count + 2)) part′ ≡ statesBytes (found 256) r
+=======
+-- the bytes of a state before its row: its signal, and one byte for each category
+abbrev pub pairBytes : ℕ → Packed → List ℕ
+pairBytes cats st = st .signal ∷ tabulate (digit (st .statuses)) cats
+
+-- a state with the row that starts the array of numbers, in its stretch at a of a part, if that lies in it
+pub record Placed (cats count : ℕ) (st : Packed) (numbers : List ℕ) (a : ℕ) (part part′ : List ℕ) : Type 0 where
+  pub same-length : length part′ ≡ length part
+  pub written : a + cats + 1 + count ≤ length part → take (a + cats + 1 + count) part′ ≡ take a part ++ (pairBytes cats st ++ take count numbers)
+
+module _ (next : Packed → ℕ → Packed) (count : ℕ) where
+  -- the states found after i turns
+  abbrev pub found : ℕ → List Packed
+  found i = discover samePacked next count begin i
+
+  -- the turn of a state over the list l: r states after it, and its targets' numbers; 257 if there are over 256
+  pub record Turned (l : List Packed) (st : Packed) (numbers signal statuses : List ℕ) (r : ℕ) : Type 0 where
+    pub kept : r ≤ 256 → Kept signal statuses r (expand samePacked next st count l)
+    pub over : 256 < r → 256 < length (expand samePacked next st count l)
+    pub numbered : r ≤ 256 → take count numbers ≡ targets samePacked next count (expand samePacked next st count l) st
+
+module _ (next : Packed → ℕ → Packed) (cats count : ℕ) where
+  -- the bytes of a state, its targets being numbered by the list l
+  abbrev pub bytesOf : List Packed → Packed → List ℕ
+  bytesOf l st = pairBytes cats st ++ targets samePacked next count l st
+
+  -- those of the first i states of l
+  unfoldable pub rowsBytes : List Packed → ℕ → List ℕ
+  rowsBytes l zero = []
+  rowsBytes l (suc i) = rowsBytes l i ++ bytesOf l (getD l i begin)
+
+  -- all turns: r states, with their rows at the front of the part, if it has room for them
+  pub record Discovered (part part′ : List ℕ) (r : ℕ) : Type 0 where
+    pub same-length : length part′ ≡ length part
+    pub few : r ≤ 256 → r ≡ length (found next count 256)
+    pub over : 256 < r → 256 < length (found next count 256)
+    pub rows : r ≤ 256 → r * (count + cats + 1) ≤ length part → take (r * (count + cats + 1)) part′ ≡ rowsBytes (found next count 256) r
+>>>>>>> b8e7a93 (prototype: held, on the base)
 
   -- the image of the states found
   unfoldable pub imageBy : List ℕ → List ℕ
   imageBy sy =
+<<<<<<< HEAD
       count ∷ take (3 * count) sy ++ length (found 256) % 256 ∷ length (found 256) / 256 ∷ [] ++ statesBytes (found 256) (length (found 256))
+=======
+      count ∷ take (3 * count) sy ++ length (found next count 256) % 256 ∷ length (found next count 256) / 256 ∷ [] ++ rowsBytes (found next count 256) (length (found next count 256))
+>>>>>>> b8e7a93 (prototype: held, on the base)
 
   -- its length
   abbrev pub sizeBy : ℕ
-  sizeBy = 3 + 3 * count + length (found 256) * (count + 2)
+  sizeBy = 3 + 3 * count + length (found next count 256) * (count + cats + 1)
 
   -- what a build answers, and what it leaves in the buffer
   unfoldable pub builtBy : ℕ → Built
   builtBy room =
-      cond (ltb 256 (length (found 256))) (refused 13)
+      cond (ltb 256 (length (found next count 256))) (refused 13)
       (cond (ltb room sizeBy) (refused 14)
       (accepted sizeBy))
 

@@ -8,6 +8,7 @@ mod write;
 
 pub use crate::matching::Match;
 pub use crate::write::Built;
+use node_step::branches::branches_of;
 ghost use mathlib.Core.Path.{_≡_};
 ghost use lib.ListN.{length};
 ghost use Rattle.stored_table.specs.Tables.{tableRefusal};
@@ -31,8 +32,18 @@ pub fn build(t: &[u8], buf: &mut [u8]) -> Built
     if refused != 0 {
         return write::refuse(buf, refused);
     }
+    let branches = branches_of(&d.parent, d.nodes);
     let s = symbols::list(&d.category, &d.parent, d.nodes, d.categories);
-    write::build_by(&d.rows, &d.parent, d.signals, &s.bytes, s.count, buf)
+    write::build_by(
+        &d.rows,
+        &d.parent,
+        &branches,
+        d.signals,
+        symbols::at_most(d.categories, 8),
+        &s.bytes,
+        s.count,
+        buf,
+    )
 }
 
 // 0 if the image is a right machine of the table, else the number of what is wrong.
@@ -44,10 +55,14 @@ pub fn check(t: &[u8], image: &[u8]) -> u8
     if refused != 0 {
         return refused;
     }
+    let branches = branches_of(&d.parent, d.nodes);
     let s = symbols::list(&d.category, &d.parent, d.nodes, d.categories);
     image::check_by(
         &d.rows,
         &d.parent,
+        &branches,
+        &d.category,
+        d.nodes,
         d.signals,
         d.categories,
         &s.bytes,

@@ -4,7 +4,7 @@ ghost use mathlib.Core.List.{[], _∷_, _++_};
 ghost use Prim.Native.Nat.{_+_, _*_, _/_, _%_, _≤_};
 ghost use lib.ListN.{length, take, replicate};
 ghost use Rattle.signal_table.specs.Built.{refused};
-ghost use Rattle.signal_table.specs.States.{nextPair, builtBy, bufferBy};
+ghost use Rattle.signal_table.specs.States.{nextState, builtBy, bufferBy};
 
 // What a build answers: its refusal number, and the image's length, 0 if refused.
 #[repr(C)]
@@ -52,23 +52,39 @@ fn put_head(symbols: &[u8; 384], count: usize, n: usize, head: &mut [u8])
 pub(crate) fn build_by<'a>(
     rows: &'a [u64; 32],
     parents: &'a [u8; 64],
+    branches: &'a [bool; 64],
     signals: usize,
+    categories: usize,
     symbols: &[u8; 384],
     count: usize,
     buf: &mut [u8],
 ) -> Built
-    requires { ⌜ (count ≤ 128) × (length (now symbols) ≡ 384) ⌝ }
-    ensures { λ r. ⌜ r ≡ builtBy (nextPair (now (rows .entry)) (now (parents .entry)) signals (now (symbols .entry))) count (length (now (buf .entry))) ⌝ }
-    ensures { λ _. ⌜ now (buf .exit) ≡ bufferBy (nextPair (now (rows .entry)) (now (parents .entry)) signals (now (symbols .entry))) count (now (symbols .entry)) (length (now (buf .entry))) ⌝ }
+    requires { ⌜ (categories ≤ 8) × (count ≤ 128) × (length (now symbols) ≡ 384) ⌝ }
+    ensures { λ r. ⌜ r ≡ builtBy (nextState (now (rows .entry)) (now (parents .entry)) (now (branches .entry)) signals (now (symbols .entry))) categories count (length (now (buf .entry))) ⌝ }
+    ensures { λ _. ⌜ now (buf .exit) ≡ bufferBy (nextState (now (rows .entry)) (now (parents .entry)) (now (branches .entry)) signals (now (symbols .entry))) categories count (now (symbols .entry)) (length (now (buf .entry))) ⌝ }
 {
     let head = 3 + 3 * count;
     let room = buf.len();
+<<<<<<< HEAD
     let from = node_step::uses::at_most(head, room);
     let n = crate::states::discover(rows, parents, signals, symbols, count, &mut buf[from..room]);
+=======
+    let from = at_most(head, room);
+    let n = crate::states::discover(
+        rows,
+        parents,
+        branches,
+        signals,
+        categories,
+        symbols,
+        count,
+        &mut buf[from..room],
+    );
+>>>>>>> b8e7a93 (prototype: held, on the base)
     if 256 < n {
         return refuse(buf, 13);
     }
-    let size = head + n * (count + 2);
+    let size = head + n * (count + categories + 1);
     if room < size {
         return refuse(buf, 14);
     }

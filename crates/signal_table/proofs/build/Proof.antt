@@ -22,8 +22,14 @@ returns c = let a = c .before .before .before .before .before .before .before .b
       c .before .before .refuse .ensures .1 ∙ refused-buffer (a .t .now) (d .result) (d .ensures) (c .before .before .before .before .if1 .taken) (length (a .buf .now)),
     )
 
+branches-of-requires : tie.Need-branches-of-requires
+branches-of-requires c κs = search needs
+
 list-requires : tie.Need-list-requires
 list-requires c κs = search needs
+
+at-most-requires : tie.Need-at-most-requires
+at-most-requires c κs = search needs
 
 build-by-requires : tie.Need-build-by-requires
 build-by-requires c κs = let v = lists-listed _ _ _ _ (c .before .before .before .before .before .before .list .ensures) in (v .1, v .0 .wide)
@@ -32,11 +38,19 @@ same-length-2 : tie.Need-same-length-2
 same-length-2 c = search needs
 
 returns-2 : tie.Need-returns-2
+<<<<<<< HEAD
 returns-2 c = let a = c .before .before .before .before .before .before .before .before .before .before .before .before .before .before .before .before .before .args in
     let d = c .before .before .before .before .before .before .before .before .before .before .before .before .before .before .decode in
     let s = c .before .before .before .before .before .before .before .before .before .list in (
       c .before .before .build-by .ensures .0 ∙ table-built (a .t .now) (d .result) (d .ensures) (c .before .before .before .before .before .before .before .before .before .before .before .before .before .if1 .left) (s .result) (s .ensures) (length (a .buf .now)),
       c .before .before .build-by .ensures .1 ∙ table-buffer (a .t .now) (d .result) (d .ensures) (c .before .before .before .before .before .before .before .before .before .before .before .before .before .if1 .left) (s .result) (s .ensures) (length (a .buf .now)),
+=======
+returns-2 c = let a = c .before .before .before .before .before .before .before .before .before .before .before .before .before .before .before .before .before .before .before .before .before .before .args in
+    let d = c .before .before .before .before .before .before .before .before .before .before .before .before .before .before .before .before .before .before .before .decode in
+    let s = c .before .before .before .before .before .before .before .before .before .before .before .list in (
+      c .before .before .build-by .ensures .0 ∙ table-built (a .t .now) (d .result) (d .ensures) (c .before .before .before .before .before .before .before .before .before .before .before .before .before .before .before .before .before .before .if1 .left) (s .result .bytes) (s .result .count) (s .ensures .0) (c .before .before .before .before .before .before .before .before .before .before .before .before .before .before .before .branches-of .ensures) (length (a .buf .now)) (c .before .before .before .before .before .before .at-most .ensures .0),
+      c .before .before .build-by .ensures .1 ∙ table-buffer (a .t .now) (d .result) (d .ensures) (c .before .before .before .before .before .before .before .before .before .before .before .before .before .before .before .before .before .before .if1 .left) (s .result .bytes) (s .result .count) (s .ensures .0) (c .before .before .before .before .before .before .before .before .before .before .before .before .before .before .before .branches-of .ensures) (length (a .buf .now)) (c .before .before .before .before .before .before .at-most .ensures .0),
+>>>>>>> b8e7a93 (prototype: held, on the base)
     )
 
 pub build-spec : {M : Type 1} → statement M
@@ -47,7 +61,9 @@ build-spec =
     refuse-requires
     same-length
     returns
+    branches-of-requires
     list-requires
+    at-most-requires
     build-by-requires
     same-length-2
     returns-2)

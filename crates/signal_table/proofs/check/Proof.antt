@@ -10,6 +10,9 @@ decode-requires c κs = search needs
 returns : tie.Need-returns
 returns c = let a = c .before .before .before .before .args in refused-check (a .t .now) (c .before .decode .result) (c .before .decode .ensures) (c .if1 .taken) (a .image .now)
 
+branches-of-requires : tie.Need-branches-of-requires
+branches-of-requires c κs = search needs
+
 list-requires : tie.Need-list-requires
 list-requires c κs = search needs
 
@@ -17,10 +20,25 @@ check-by-requires : tie.Need-check-by-requires
 check-by-requires c κs = search needs
 
 returns-2 : tie.Need-returns-2
+<<<<<<< HEAD
 returns-2 c = let a = c .before .before .before .before .before .before .before .before .before .before .before .before .before .before .args in
     let d = c .before .before .before .before .before .before .before .before .before .before .before .decode in
     let s = c .before .before .before .before .before .before .list in
     c .check-by .ensures ∙ table-check (a .t .now) (d .result) (d .ensures) (c .before .before .before .before .before .before .before .before .before .before .if1 .left) (s .result) (s .ensures) (a .image .now)
+=======
+returns-2 c = let a = c .before .before .before .before .before .before .before .before .before .before .before .before .before .before .before .before .before .before .before .args in
+    let d = c .before .before .before .before .before .before .before .before .before .before .before .before .before .before .before .before .decode in
+    let s = c .before .before .before .before .before .before .before .before .list in
+    c .check-by .ensures ∙ table-check (a .t .now) (d .result) (d .ensures) (c .before .before .before .before .before .before .before .before .before .before .before .before .before .before .before .if1 .left) (s .result .bytes) (s .result .count) (s .ensures .0) (c .before .before .before .before .before .before .before .before .before .before .before .before .branches-of .ensures) (a .image .now)
+>>>>>>> b8e7a93 (prototype: held, on the base)
 
 pub check-spec : {M : Type 1} → statement M
-check-spec = tie.close (tie.spec decode-requires returns list-requires check-by-requires returns-2)
+check-spec =
+    tie.close
+    (tie.spec
+    decode-requires
+    returns
+    branches-of-requires
+    list-requires
+    check-by-requires
+    returns-2)

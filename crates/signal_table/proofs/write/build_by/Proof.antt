@@ -1,8 +1,12 @@
 use mathlib.Core.Path.{refl, sym, ap, _∙_}
 use native.Mathlib.Omega.{arith}
 use lib.ListN.{replicate}
+<<<<<<< HEAD
 use Rattle.node_step.proofs.UseLaws.{fewer-le}
 use Rattle.signal_table.specs.States.{nextPair}
+=======
+use Rattle.signal_table.specs.States.{nextState}
+>>>>>>> b8e7a93 (prototype: held, on the base)
 use Rattle.signal_table.proofs.WriteLaws.{first-length, built-many, built-short, built-done, rows-fit}
 use borrow.Author.Needs.{needs}
 use Rattle.signal_table.proofs.write.build_by.Statement.{statement}
@@ -37,19 +41,26 @@ same-length c = search needs
 
 returns : tie.Need-returns
 returns c = let a = c .before .before .before .before .before .before .before .before .before .before .before .args in
-    let m = built-many (nextPair (a .rows .now) (a .parents .now) (a .signals) (a .symbols .now)) (a .count) (a .symbols .now) (a .buf .now) (c .before .before .before .before .before .before .before .discover .last .1 .1 .1 .1 .1 .0) _ (c .before .before .before .before .before .before .before .before .before .at-most .result) (c .before .before .before .before .before .before .before .discover .result) (c .before .before .before .before .before .before .before .discover .ensures) (c .before .before .before .before .if1 .taken) in (
+    let m = built-many (nextState (a .rows .now) (a .parents .now) (a .branches .now) (a .signals) (a .symbols .now)) (a .categories) (a .count) (a .symbols .now) (a .buf .now) (c .before .before .before .before .before .before .before .discover .last .1 .1 .1 .1 .1 .1 .1 .0) _ (c .before .before .before .before .before .before .before .before .before .at-most .result) (c .before .before .before .before .before .before .before .discover .result) (c .before .before .before .before .before .before .before .discover .ensures) (c .before .before .before .before .if1 .taken) in (
       c .before .before .refuse .ensures .0 ∙ m .0,
+<<<<<<< HEAD
       c .before .before .refuse .ensures .1 ∙ ap (λ k. replicate k 0) (first-length (a .buf .now) (c .before .before .before .before .before .before .before .discover .last .1 .1 .1 .1 .1 .0) (c .before .before .before .before .before .before .before .before .before .at-most .result) (c .before .before .before .before .before .before .before .before .before .at-most .ensures .1) (c .before .before .before .before .before .before .before .discover .ensures .same-length)) ∙ m .1,
+=======
+      c .before .before .refuse .ensures .1 ∙ ap (λ k. replicate k 0) (first-length (a .buf .now) (c .before .before .before .before .before .before .before .discover .last .1 .1 .1 .1 .1 .1 .1 .0) (c .before .before .before .before .before .before .before .before .before .at-most .result) (c .before .before .before .before .before .before .before .before .before .at-most .ensures .0) (c .before .before .before .before .before .before .before .discover .ensures .same-length)) ∙ m .1,
+>>>>>>> b8e7a93 (prototype: held, on the base)
     )
 
 add-size : tie.Need-add-size
 add-size c = search needs
 
-mul-size : tie.Need-mul-size
-mul-size c = let a = c .before .before .before .before .before .before .before .args in omega (arith, rows-fit (c .before .before .before .discover .result) (a .count) (c .if1 .left) (c .before .before .before .before .before .before .before .pre .0))
-
 add-size-2 : tie.Need-add-size-2
-add-size-2 c = let a = c .before .before .before .before .before .before .before .args in omega (arith, rows-fit (c .before .before .before .discover .result) (a .count) (c .if1 .left) (c .before .before .before .before .before .before .before .pre .0))
+add-size-2 c = search needs
+
+mul-size : tie.Need-mul-size
+mul-size c = let a = c .before .before .before .before .before .before .before .args in omega (arith, rows-fit (c .before .before .before .discover .result) (a .count) (a .categories) (c .if1 .left) (c .before .before .before .before .before .before .before .pre .1) (c .before .before .before .before .before .before .before .pre .0))
+
+add-size-3 : tie.Need-add-size-3
+add-size-3 c = let a = c .before .before .before .before .before .before .before .args in omega (arith, rows-fit (c .before .before .before .discover .result) (a .count) (a .categories) (c .if1 .left) (c .before .before .before .before .before .before .before .pre .1) (c .before .before .before .before .before .before .before .pre .0))
 
 refuse-requires-2 : tie.Need-refuse-requires-2
 refuse-requires-2 c κs = search needs
@@ -59,9 +70,13 @@ same-length-2 c = search needs
 
 returns-2 : tie.Need-returns-2
 returns-2 c = let a = c .before .before .before .before .before .before .before .before .before .before .before .before .args in
-    let m = built-short (nextPair (a .rows .now) (a .parents .now) (a .signals) (a .symbols .now)) (a .count) (a .symbols .now) (a .buf .now) (c .before .before .before .before .before .before .before .before .discover .last .1 .1 .1 .1 .1 .0) _ (c .before .before .before .before .before .before .before .before .before .before .at-most .result) (c .before .before .before .before .before .before .before .before .discover .result) (c .before .before .before .before .before .before .before .before .discover .ensures) (c .before .before .before .before .before .if1 .left) (c .before .before .before .before .if2 .taken) in (
+    let m = built-short (nextState (a .rows .now) (a .parents .now) (a .branches .now) (a .signals) (a .symbols .now)) (a .categories) (a .count) (a .symbols .now) (a .buf .now) (c .before .before .before .before .before .before .before .before .discover .last .1 .1 .1 .1 .1 .1 .1 .0) _ (c .before .before .before .before .before .before .before .before .before .before .at-most .result) (c .before .before .before .before .before .before .before .before .discover .result) (c .before .before .before .before .before .before .before .before .discover .ensures) (c .before .before .before .before .before .if1 .left) (c .before .before .before .before .if2 .taken) in (
       c .before .before .refuse2 .ensures .0 ∙ m .0,
+<<<<<<< HEAD
       c .before .before .refuse2 .ensures .1 ∙ ap (λ k. replicate k 0) (first-length (a .buf .now) (c .before .before .before .before .before .before .before .before .discover .last .1 .1 .1 .1 .1 .0) (c .before .before .before .before .before .before .before .before .before .before .at-most .result) (c .before .before .before .before .before .before .before .before .before .before .at-most .ensures .1) (c .before .before .before .before .before .before .before .before .discover .ensures .same-length)) ∙ m .1,
+=======
+      c .before .before .refuse2 .ensures .1 ∙ ap (λ k. replicate k 0) (first-length (a .buf .now) (c .before .before .before .before .before .before .before .before .discover .last .1 .1 .1 .1 .1 .1 .1 .0) (c .before .before .before .before .before .before .before .before .before .before .at-most .result) (c .before .before .before .before .before .before .before .before .before .before .at-most .ensures .0) (c .before .before .before .before .before .before .before .before .discover .ensures .same-length)) ∙ m .1,
+>>>>>>> b8e7a93 (prototype: held, on the base)
     )
 
 sub-put-head : tie.Need-sub-put-head
@@ -90,8 +105,13 @@ same-length-3 c = search needs
 
 returns-3 : tie.Need-returns-3
 returns-3 c = let a = c .before .before .before .before .before .before .before .before .before .before .before .before .before .before .before .before .args in
+<<<<<<< HEAD
     built-done (nextPair (a .rows .now) (a .parents .now) (a .signals) (a .symbols .now)) (a .count) (a .symbols .now) (a .buf .now) (c .before .before .before .before .before .before .before .before .before .before .before .before .discover .last .1 .1 .1 .1 .1 .0) _ (c .before .before .before .before .before .before .before .before .before .before .before .before .before .before .at-most .result) (c .before .before .before .before .before .before .before .before .before .before .before .before .discover .result) (c .before .before .before .before .before .before .before .before .before .before .before .before .discover .ensures) (c .before .before .before .before .before .before .before .before .before .if1 .left)
     (c .before .before .before .before .before .before .before .before .if2 .left) (c .before .before .before .before .before .before .put-head .last .1 .1 .1 .0) (c .before .before .clear .last .0) (c .before .before .before .before .before .before .before .before .before .before .before .before .before .before .at-most .ensures .0 ∙ sym (fewer-le _ _ (omega arith))) (c .before .before .before .before .before .before .before .before .before .before .before .before .before .before .before .before .pre .1) (c .before .before .before .before .before .before .before .before .before .before .before .before .before .before .before .before .pre .0) refl (c .before .before .before .before .before .before .put-head .ensures) (c .before .before .clear .ensures)
+=======
+    built-done (nextState (a .rows .now) (a .parents .now) (a .branches .now) (a .signals) (a .symbols .now)) (a .categories) (a .count) (a .symbols .now) (a .buf .now) (c .before .before .before .before .before .before .before .before .before .before .before .before .discover .last .1 .1 .1 .1 .1 .1 .1 .0) _ (c .before .before .before .before .before .before .before .before .before .before .before .before .before .before .at-most .result) (c .before .before .before .before .before .before .before .before .before .before .before .before .discover .result) (c .before .before .before .before .before .before .before .before .before .before .before .before .discover .ensures) (c .before .before .before .before .before .before .before .before .before .if1 .left)
+    (c .before .before .before .before .before .before .before .before .if2 .left) (c .before .before .before .before .before .before .put-head .last .1 .1 .1 .0) (c .before .before .clear .last .0) (c .before .before .before .before .before .before .before .before .before .before .before .before .before .before .at-most .ensures .1 (omega arith)) (c .before .before .before .before .before .before .before .before .before .before .before .before .before .before .before .before .pre .2) (c .before .before .before .before .before .before .before .before .before .before .before .before .before .before .before .before .pre .1) refl (c .before .before .before .before .before .before .put-head .ensures) (c .before .before .clear .ensures)
+>>>>>>> b8e7a93 (prototype: held, on the base)
 
 pub build-by-spec : {M : Type 1} → statement M
 build-by-spec =
@@ -108,8 +128,9 @@ build-by-spec =
     same-length
     returns
     add-size
-    mul-size
     add-size-2
+    mul-size
+    add-size-3
     refuse-requires-2
     same-length-2
     returns-2
