@@ -2,29 +2,21 @@
 use Prim.Native.Nat.{ℕ, _<_}
 use mathlib.Core.Path.{_≡_, refl, sym, ap, subst, _∙_}
 use mathlib.Core.Logic.{_⊎_, inl, inr}
-<<<<<<< HEAD
-use mathlib.Core.Bool.{Bool, true, false, not, _&&_, _||_, true≢false}
-=======
-use mathlib.Core.Bool.{Bool, true, false, not, _&&_, true≢false, and-eq-true-iff}
->>>>>>> b8e7a93 (prototype: held, on the base)
+use mathlib.Core.Bool.{Bool, true, false, not, _&&_, _||_, true≢false, and-eq-true-iff}
 use mathlib.Core.Option.{Option, none, some}
 use mathlib.Core.List.{List, [], _∷_, foldl, append-nil, List·Memᴰ, List·Memᴰ·head, List·Memᴰ·tail}
 use lib.ListN.{getD, set}
 use lib.Seq.{getD-set-same, getD-set-other}
 use native.Mathlib.Decide.{ℕ-discrete}
-<<<<<<< HEAD
-use Rattle.resolution.specs.Names.{Parts, sameParts, below, candidates}
-use Rattle.resolution.proofs.Lists.{or-true}
-=======
 use Rattle.resolution.specs.Names.{Parts, sameParts, below, properAncestor, candidates}
->>>>>>> b8e7a93 (prototype: held, on the base)
+use Rattle.resolution.proofs.Lists.{or-true}
 use Rattle.resolution.proofs.Names.{parts-exact, below-to}
 use Rattle.resolution.specs.Table.{Urn}
-use Rattle.resolution.specs.Nodes.{isBranch, leaf, deepest}
+use Rattle.resolution.specs.Nodes.{isInner, leaf, deepest}
 use Rattle.resolution.specs.Direct.{Status, Open, Held, Shut, State, Env, Hit, firstHit, heldIf, openOr, statusFits, step}
 use Rattle.resolution.proofs.Direct.{search-hit}
 use Rattle.resolution.specs.Symbols.{isOther, symbolOf, stepsAs}
-use Rattle.resolution.proofs.Deepest.{leaf-no-branch, branch-no-leaf}
+use Rattle.resolution.proofs.Deepest.{leaf-no-inner, inner-no-leaf}
 use Rattle.resolution.proofs.Step.{EnvLaws, Valid, valid-step, leaf-stays, status-other}
 use Rattle.resolution.specs.NodeStep.{nodeUnder, nodeTakes, nodeMove, nodeIfTaken, nodeStep}
 use Rattle.resolution.proofs.NodeStep.{direct-at-node, symbol-at-node}
@@ -95,13 +87,13 @@ module _ (env : Env) (cats : ℕ) (ns : List Urn) where
 
           takes : (o : Status) → statusFits ns c q o ≡ true → nodeTakes o q d a ≡ nodeTakes o q d b
           takes Open ok = under q l (below q d) refl w
-          takes (Held v) ok = under v (branch-no-leaf ns c v (and-eq-true-iff (properAncestor q v) (isBranch ns c v) .0 ok .1)) (below v d) refl w
+          takes (Held v) ok = under v (inner-no-leaf ns c v (and-eq-true-iff (properAncestor q v) (isInner ns c v) .0 ok .1)) (below v d) refl w
           takes Shut ok = refl
 
           settles : (h : Hit) → (a ≡ b) ⊎ ((a ≡ false) × (b ≡ true) × (leaf ns c d ≡ true))
-              → (openOr (a && sameParts (h .at) d) (heldIf (a && env .branch c d) d) ≡ openOr (b && sameParts (h .at) d) (heldIf (b && env .branch c d) d)) ⊎ (leaf ns c (h .at) ≡ true)
+              → (openOr (a && sameParts (h .at) d) (heldIf (a && env .inner c d) d) ≡ openOr (b && sameParts (h .at) d) (heldIf (b && env .inner c d) d)) ⊎ (leaf ns c (h .at) ≡ true)
           settles h (inl w) = inl (rw w)
-          settles h (inr w) = rw (w .0, w .1, laws .branches c d, leaf-no-branch ns c d (w .2)) (to (sameParts (h .at) d) refl)
+          settles h (inr w) = rw (w .0, w .1, laws .inners c d, leaf-no-inner ns c d (w .2)) (to (sameParts (h .at) d) refl)
             where
               to : (z : Bool) → sameParts (h .at) d ≡ z → (Shut ≡ openOr z Shut) ⊎ (leaf ns c (h .at) ≡ true)
               to true i = inr (ap (leaf ns c) (parts-exact .to (h .at) d i) ∙ w .2)

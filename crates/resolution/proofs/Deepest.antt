@@ -9,11 +9,12 @@ use lib.ListN.{length, length-append}
 use native.Mathlib.Omega.{arith}
 use borrow.Author.Tests.{eqb-true, eq-eqb, not-true}
 use Rattle.resolution.specs.Names.{Name, Parts, sameParts, properAncestor, longer, candidates, Above}
-use Rattle.resolution.proofs.Lists.{or-true}
-use Rattle.resolution.proofs.Names.{parts-exact, below-self, longer-append, longer-first, in-longer}
+use Rattle.resolution.proofs.Lists.{or-true, member-of, member-to}
+use Rattle.resolution.proofs.Names.{parts-exact, below-self, longer-append, longer-first, in-longer, proper-to}
 use Rattle.resolution.specs.Table.{Urn, urn}
-use Rattle.resolution.specs.Nodes.{sameUrn, member, isNode, RootOrNode, hasUnder, isBranch, isRoot, leaf, firstNode, deepest}
+use Rattle.resolution.specs.Nodes.{sameUrn, member, isNode, RootOrNode, hasUnder, isInner, isRoot, leaf, firstNode, deepest}
 use Rattle.resolution.proofs.Names.{above-self, above-root, between}
+use Rattle.resolution.proofs.Nodes.{urn-exact}
 
 module _ (ns : List Urn) (c : ℕ) where
   first-in : (ps : List Parts) → (firstNode ns c ps ≡ []) ⊎ List·Memᴰ (firstNode ns c ps) ps
@@ -55,7 +56,7 @@ module _ (ns : List Urn) (c : ℕ) where
       let m : List·Memᴰ (deepest ns c u) (candidates (x ∷ p) (a .rest)) = rw k (first-stop (longer (x ∷ p) (a .rest)) (x ∷ p) (f .0) h) in
       between (x ∷ p) (a .rest) (deepest ns c u) m .0
 
-  -- a path with a node under it, and back
+  -- some node lies under a path, and back
   pub under-of : (ms : List Urn) (q : Parts) (x : Name) (r : Parts) → member (urn c (q ++ x ∷ r)) ms ≡ true → hasUnder ms c q ≡ true
   under-of [] q x r h = absurd (false≢true h)
   under-of (n ∷ ms) q x r h = go (sameUrn (urn c (q ++ x ∷ r)) n) refl (λ h′. under-of ms q x r h′)
@@ -66,19 +67,20 @@ module _ (ns : List Urn) (c : ℕ) where
           rw (← eqb-true c (n .cat) (k .0), eq-eqb c c refl, ← parts-exact .to (q ++ x ∷ r) (n .path) (k .1), below-self q (x ∷ r))
       go false e ih = rw (ih (rw e at h)) (or-true (eqb (n .cat) c && properAncestor q (n .path)))
 
-  pub under-to : (ms : List Urn) (p : Parts) → hasUnder ms c p ≡ true → (v : Urn) × List·Memᴰ v ms × (v .cat ≡ c) × (properAncestor p (v .path) ≡ true)
-  under-to [] p e = absurd (false≢true e)
-  under-to (u ∷ ms) p e = go (eqb (u .cat) c) refl (properAncestor p (u .path)) refl (under-to ms p)
+  pub under-to : (ms : List Urn) (p : Parts) → hasUnder ms c p ≡ true → (x : Name) × (r : Parts) × (isNode ms c (p ++ x ∷ r) ≡ true)
+  under-to [] p h = absurd (false≢true h)
+  under-to (v ∷ ms) p h = go (eqb (v .cat) c && properAncestor p (v .path)) refl (under-to ms p)
     where
-      more : (v : Urn) × List·Memᴰ v ms × (v .cat ≡ c) × (properAncestor p (v .path) ≡ true) → (v : Urn) × List·Memᴰ v (u ∷ ms) × (v .cat ≡ c) × (properAncestor p (v .path) ≡ true)
-      more w = (w .0, List·Memᴰ·tail (w .1), w .2, w .3)
-
-      go : (a : Bool) → eqb (u .cat) c ≡ a → (b : Bool) → properAncestor p (u .path) ≡ b
-          → (hasUnder ms c p ≡ true → (v : Urn) × List·Memᴰ v ms × (v .cat ≡ c) × (properAncestor p (v .path) ≡ true))
-          → (v : Urn) × List·Memᴰ v (u ∷ ms) × (v .cat ≡ c) × (properAncestor p (v .path) ≡ true)
-      go true f true g ih = (u, List·Memᴰ·head refl, eqb-true (u .cat) c f, g)
-      go true f false g ih = more (ih (rw (f, g) at e))
-      go false f b g ih = more (ih (rw f at e))
+      go : (b : Bool) → eqb (v .cat) c && properAncestor p (v .path) ≡ b → (hasUnder ms c p ≡ true → (x : Name) × (r : Parts) × (isNode ms c (p ++ x ∷ r) ≡ true))
+          → (x : Name) × (r : Parts) × (isNode (v ∷ ms) c (p ++ x ∷ r) ≡ true)
+      go false e ih =
+          let w = ih (rw e at h) in
+          (w .0, w .1, member-of sameUrn urn-exact (urn c (p ++ w .0 ∷ w .1)) (v ∷ ms) (List·Memᴰ·tail (member-to sameUrn urn-exact (urn c (p ++ w .0 ∷ w .1)) ms (w .2))))
+      go true e ih =
+          let k = and-eq-true-iff (eqb (v .cat) c) (properAncestor p (v .path)) .0 e in
+          let w = proper-to p (v .path) (k .1) in
+          let i : urn c (p ++ w .0 ∷ w .1) ≡ v = λ z. record { cat = sym (eqb-true (v .cat) c (k .0)) z; path = w .2 z } in
+          (w .0, w .1, member-of sameUrn urn-exact (urn c (p ++ w .0 ∷ w .1)) (v ∷ ms) (List·Memᴰ·head i))
 
   -- no node lies under a leaf
   pub leaf-ends : (q : Parts) (x : Name) (r : Parts) → leaf ns c q ≡ true → isNode ns c (q ++ x ∷ r) ≡ true → ⊥
@@ -120,16 +122,30 @@ and-false : (b : Bool) → b && false ≡ false
 and-false true = refl
 and-false false = refl
 
--- a node with nodes under it is a node, and no leaf
-pub branch-node : (ns : List Urn) (c : ℕ) (p : Parts) → isBranch ns c p ≡ true → isNode ns c p ≡ true
-branch-node ns c p h = and-eq-true-iff (isNode ns c p) (hasUnder ns c p) .0 h .0
+-- a node with a node under it, by its path
+pub inner-of : (ns : List Urn) (c : ℕ) (p : Parts) → isNode ns c p ≡ true → (x : Name) (r : Parts) → isNode ns c (p ++ x ∷ r) ≡ true → isInner ns c p ≡ true
+inner-of ns c p n x r m = and-eq-true-iff (isNode ns c p) (hasUnder ns c p) .1 (n, under-of ns c ns p x r m)
 
-pub branch-no-leaf : (ns : List Urn) (c : ℕ) (p : Parts) → isBranch ns c p ≡ true → leaf ns c p ≡ false
-unfolding leaf
-branch-no-leaf ns c p h = rw (and-eq-true-iff (isNode ns c p) (hasUnder ns c p) .0 h .1) (and-false (not (isRoot p)))
+pub inner-none : (ns : List Urn) (c : ℕ) (p : Parts) → (isNode ns c p ≡ true → (x : Name) (r : Parts) → isNode ns c (p ++ x ∷ r) ≡ false) → isInner ns c p ≡ false
+inner-none ns c p none = go (isInner ns c p) refl
+  where
+    go : (b : Bool) → isInner ns c p ≡ b → b ≡ false
+    go false e = refl
+    go true e =
+        let k = and-eq-true-iff (isNode ns c p) (hasUnder ns c p) .0 e in
+        let w = under-to ns c ns p (k .1) in
+        absurd (false≢true (sym (none (k .0) (w .0) (w .1)) ∙ w .2))
 
-pub leaf-no-branch : (ns : List Urn) (c : ℕ) (p : Parts) → leaf ns c p ≡ true → isBranch ns c p ≡ false
+-- it is a node, and no leaf
+pub inner-node : (ns : List Urn) (c : ℕ) (p : Parts) → isInner ns c p ≡ true → isNode ns c p ≡ true
+inner-node ns c p h = and-eq-true-iff (isNode ns c p) (hasUnder ns c p) .0 h .0
+
+pub inner-no-leaf : (ns : List Urn) (c : ℕ) (p : Parts) → isInner ns c p ≡ true → leaf ns c p ≡ false
 unfolding leaf
-leaf-no-branch ns c p h =
+inner-no-leaf ns c p h = rw (and-eq-true-iff (isNode ns c p) (hasUnder ns c p) .0 h .1) (and-false (not (isRoot p)))
+
+pub leaf-no-inner : (ns : List Urn) (c : ℕ) (p : Parts) → leaf ns c p ≡ true → isInner ns c p ≡ false
+unfolding leaf
+leaf-no-inner ns c p h =
     let a = and-eq-true-iff (not (isRoot p)) (not (hasUnder ns c p)) .0 h in
     rw (not-true (hasUnder ns c p) (a .1)) (and-false (isNode ns c p))

@@ -11,11 +11,11 @@ use native.Mathlib.Omega.{arith}
 use Rattle.resolution.specs.Names.{Name, Parts, sameParts, below, properAncestor, longer, candidates, Above}
 use Rattle.resolution.proofs.Names.{parts-exact, below-to, below-self, above-self, above-root, above-trans, between, not-past, snoc-split, proper-to, proper-of, proper-above}
 use Rattle.resolution.specs.Table.{Urn, urn}
-use Rattle.resolution.specs.Nodes.{isNode, RootOrNode, isBranch, isRoot, deepest}
+use Rattle.resolution.specs.Nodes.{isNode, RootOrNode, isInner, isRoot, deepest}
 use Rattle.resolution.specs.Direct.{Status, Open, Held, Shut, State, Env, Hit, firstHit, heldIf, openOr, statusFits, takesUrn, move, step}
 use Rattle.resolution.proofs.Direct.{search-hit, search-last}
 use Rattle.resolution.specs.Symbols.{Symbol, stepsAsPath, stepsAs}
-use Rattle.resolution.proofs.Deepest.{deep-above, above-deep, past-no-node, branch-node}
+use Rattle.resolution.proofs.Deepest.{deep-above, above-deep, past-no-node, inner-node}
 use Rattle.resolution.proofs.Step.{EnvLaws, Valid, step-still, step-takes, seek, hit-node, beyond}
 use Rattle.resolution.specs.NodeStep.{nodeUnder, nodeTakes, nodeIfTaken, nodeStep}
 
@@ -57,8 +57,8 @@ module _ (env : Env) (cats : ℕ) (ns : List Urn) (laws : EnvLaws env cats ns) w
     -- where a category is held: a node below the place
     held-node : (w : Parts) → statusFits ns c q (Held w) ≡ true → RootOrNode ns c w × Above q w
     held-node w e =
-        let k = and-eq-true-iff (properAncestor q w) (isBranch ns c w) .0 e in
-        (inr (branch-node ns c w (k .1)), proper-above q w (k .0))
+        let k = and-eq-true-iff (properAncestor q w) (isInner ns c w) .0 e in
+        (inr (inner-node ns c w (k .1)), proper-above q w (k .0))
 
     same-takes : (o : Status) → statusFits ns c q o ≡ true → nodeTakes o q d (isRoot f) ≡ takesUrn o q (d ++ f)
     same-takes Open ok = same-under q q-node
@@ -78,9 +78,9 @@ module _ (env : Env) (cats : ℕ) (ns : List Urn) (laws : EnvLaws env cats ns) w
         taken Shut ok e = absurd (false≢true e)
 
         settles : (p h : Parts) → f ≡ h → Above p d
-            → openOr (sameParts p (d ++ f)) (heldIf (env .branch c (d ++ f)) (d ++ f)) ≡ openOr (isRoot h && sameParts p d) (heldIf (isRoot h && env .branch c d) d)
-        settles p [] i a = ap (λ z. openOr (sameParts p z) (heldIf (env .branch c z) z)) (ap (λ z. d ++ z) i ∙ append-nil d)
-        settles p (x ∷ h) i a = rw (not-past p d x h (d ++ f) a (ap (λ z. d ++ z) (sym i)), laws .branches c (d ++ f), no-node x h i)
+            → openOr (sameParts p (d ++ f)) (heldIf (env .inner c (d ++ f)) (d ++ f)) ≡ openOr (isRoot h && sameParts p d) (heldIf (isRoot h && env .inner c d) d)
+        settles p [] i a = ap (λ z. openOr (sameParts p z) (heldIf (env .inner c z) z)) (ap (λ z. d ++ z) i ∙ append-nil d)
+        settles p (x ∷ h) i a = rw (not-past p d x h (d ++ f) a (ap (λ z. d ++ z) (sym i)), laws .inners c (d ++ f), no-node x h i)
 
         go : (b : Bool) → takesUrn (getD (st .status) c Open) q (d ++ f) ≡ b
             → step env st (urn c (d ++ f)) ≡ nodeIfTaken env st c d (isRoot f) (nodeTakes (getD (st .status) c Open) q d (isRoot f)) (below q d)
@@ -126,7 +126,7 @@ module _ (env : Env) (cats : ℕ) (ns : List Urn) (laws : EnvLaws env cats ns) w
   -- the step by a path with one more part that no node has there, whichever it is
   pub fresh-at-node : (st : State) → Valid env cats ns st → (c : ℕ) → c < cats → (d : Parts) (x : Name) → isNode ns c (d ++ x ∷ []) ≡ false
       → step env st (urn c (d ++ x ∷ [])) ≡ nodeStep env st c d false
-  fresh-at-node st g c known d x fresh = step-at-node st g c known d (x ∷ []) quiet (λ p n b. lies p n (b .rest) (b .joined))
+  fresh-at-node st g c known d x fresh = step-at-node st g c known d (x ∷ []) quiet (λ p n b. lies p n (b .rest) (b .joined)) (λ y h e. fresh)
     where
       quiet : (p : Parts) → List·Memᴰ p (longer d (x ∷ [])) → env .finder (set (env .rows (st .signal)) c p) ≡ none
       quiet p m = by (env .finder (set (env .rows (st .signal)) c p)) refl
@@ -157,9 +157,5 @@ module _ (env : Env) (cats : ℕ) (ns : List Urn) (laws : EnvLaws env cats ns) w
       go false =
           ap (λ z. step env st (urn (s .cat) z)) (sym (append-nil (s .path)))
           ∙ step-at-node st g (s .cat) known (s .path) [] (λ p m. absurd (List·Memᴰ·not-nil m)) (λ p n b. rw append-nil at b)
-<<<<<<< HEAD
-      go true = fresh-at-node st g (s .cat) known (s .path) [] (laws .fresh-node (s .cat) (s .path))
-=======
           (λ x h e. let z : _≡_ {A = ℕ} 0 1 = cc in absurd (omega arith))
-      go true = step-at-node st g (s .cat) known (s .path) ([] ∷ []) quiet-fresh (λ p n b. lies p n (b .rest) (b .joined)) (λ x h e. laws .fresh-node (s .cat) (s .path))
->>>>>>> b8e7a93 (prototype: held, on the base)
+      go true = fresh-at-node st g (s .cat) known (s .path) [] (laws .fresh-node (s .cat) (s .path))

@@ -3,23 +3,19 @@
 use Prim.Native.Nat.{ℕ, _<_}
 use mathlib.Core.Path.{_≡_, refl, sym, ap, _∙_}
 use mathlib.Core.Logic.{_⊎_, inl, inr, _≢_}
-use mathlib.Core.Bool.{Bool, true, false}
+use mathlib.Core.Bool.{Bool, true, false, and-eq-true-iff}
 use mathlib.Core.Option.{Option, none, some}
 use mathlib.Core.List.{List, [], _∷_, _++_, append-assoc, append-nil, List·Memᴰ}
 use lib.ListN.{length, getD, set, length-append, length-set}
 use lib.Seq.{set-getD, getD-set-same, getD-set-other}
 use native.Mathlib.Omega.{arith}
 use native.Mathlib.Decide.{ℕ-discrete}
-use Rattle.resolution.specs.Names.{Parts, sameParts, below, longer, candidates, Above}
+use Rattle.resolution.specs.Names.{Parts, sameParts, below, properAncestor, longer, candidates, Above}
 use Rattle.resolution.proofs.Names.{below-self, longer-append, Strict, in-longer, proper-rest}
 use Rattle.resolution.specs.Table.{Urn, Row}
-<<<<<<< HEAD
-use Rattle.resolution.specs.Direct.{Status, Open, Shut, State, firstHit, statusAfter, takesUrn, move, step, Env}
-=======
-use Rattle.resolution.specs.Direct.{Status, Open, State, firstHit, heldIf, openOr, statusAfter, statusFits, takesUrn, move, step, Env}
->>>>>>> b8e7a93 (prototype: held, on the base)
+use Rattle.resolution.specs.Direct.{Status, Open, Shut, State, firstHit, heldIf, openOr, statusAfter, statusFits, takesUrn, move, step, Env}
 use Rattle.resolution.proofs.Direct.{search-skip, Moved, step-view, live-step, same-signal, moved-row}
-use Rattle.resolution.specs.Nodes.{isNode, RootOrNode, isBranch, leaf, deepest}
+use Rattle.resolution.specs.Nodes.{isNode, RootOrNode, isInner, leaf, deepest}
 use Rattle.resolution.proofs.Deepest.{deep-most, leaf-ends}
 
 module _ (env : Env) where
@@ -70,7 +66,7 @@ module _ (env : Env) where
 pub record EnvLaws (env : Env) (cats : ℕ) (ns : List Urn) : Type 0 where
   pub sound : (r : Row) (s : ℕ) → env .finder r ≡ some s → env .rows s ≡ r
   pub noded : (r : Row) (s c : ℕ) → env .finder r ≡ some s → RootOrNode ns c (getD r c [])
-  pub branches : (c : ℕ) (p : Parts) → env .branch c p ≡ isBranch ns c p
+  pub inners : (c : ℕ) (p : Parts) → env .inner c p ≡ isInner ns c p
   pub fresh-node : (c : ℕ) (d : Parts) → isNode ns c (d ++ [] ∷ []) ≡ false
 
 module _ (env : Env) (cats : ℕ) (ns : List Urn) where
@@ -96,10 +92,10 @@ module _ (env : Env) (cats : ℕ) (ns : List Urn) where
         }
       where
         -- the status after a hit at or above u fits the place that was hit
-        settles : (c : ℕ) (p w : Parts) → Above p w → (s : Bool) → sameParts p w ≡ s → (b : Bool) → isBranch ns c w ≡ b
+        settles : (c : ℕ) (p w : Parts) → Above p w → (s : Bool) → sameParts p w ≡ s → (b : Bool) → env .inner c w ≡ b
             → statusFits ns c p (openOr s (heldIf b w)) ≡ true
         settles c p w a true e b i = refl
-        settles c p w a false e true i = rw (proper-rest p w a e, i)
+        settles c p w a false e true i = and-eq-true-iff (properAncestor p w) (isInner ns c w) .1 (proper-rest p w a e, sym (laws .inners c w) ∙ i)
         settles c p w a false e false i = refl
 
         after : (k : ℕ) → k < cats → (m : Moved env st u) → Dec (k ≡ u .cat)
@@ -111,9 +107,8 @@ module _ (env : Env) (cats : ℕ) (ns : List Urn) where
               e,
               getD-set-same (env .rows (st .signal)) (u .cat) (m .hit .at) [] (rw (g .wide) b),
               getD-set-same (st .status) (u .cat) (statusAfter env (u .cat) (u .path) (m .hit)) Open (rw (g .sized) b),
-              laws .branches (u .cat) (u .path),
             )
-            (settles (u .cat) (m .hit .at) (u .path) (m .down) (sameParts (m .hit .at) (u .path)) refl (isBranch ns (u .cat) (u .path)) refl)
+            (settles (u .cat) (m .hit .at) (u .path) (m .down) (sameParts (m .hit .at) (u .path)) refl (env .inner (u .cat) (u .path)) refl)
         after k h m (no n) =
             rw (
               getD-set-other (env .rows (st .signal)) (u .cat) k (m .hit .at) [] n,
