@@ -23,13 +23,13 @@ use Rattle.resolution.proofs.Numbers.{number-at, number-positive}
 use Rattle.resolution.proofs.TableStep.{state-of, state-start, state-step}
 use Rattle.node_step.specs.Arrays.{NodesIn, Numbers, InnerIn}
 use Rattle.node_step.specs.Step.{coded, codedStatus, digit, rowAt, extends, statusIn}
-use Rattle.node_step.specs.StatusByte.{byteOf, packed, packedOf, samePacked, fitsBy}
+use Rattle.node_step.specs.StatusByte.{byteOf, packed, samePacked, fitsBy}
 use Rattle.node_step.specs.Uses.{fewer}
 use Rattle.node_step.specs.declared.Progress.{Progress}
 use Rattle.node_step.specs.declared.stored.Packed.{Packed}
 use Rattle.node_step.proofs.StepRight.{place-extends}
 use Rattle.node_step.proofs.Both.{packed-test, coded-at}
-use Rattle.machine_image.specs.Image.{symbolCount, stateCount, placeOf, signalIn, byteIn, targetIn, statusByte, machineIn}
+use Rattle.machine_image.specs.Image.{symbolCount, stateCount, placeOf, signalIn, byteIn, targetIn, machineIn}
 use Rattle.machine_image.specs.Image as image
 use Rattle.machine_image.specs.Refusals.{byteFits, statusFormed, targetBelow, stateFormed, formOf, checkOf}
 use Rattle.machine_image.proofs.Statuses.{status-coded, byte-again, byte-fits}
@@ -38,7 +38,7 @@ use Rattle.machine_image.proofs.Check.{machine-states}
 use Rattle.machine_image.proofs.Walk.{machine-state-in, machine-target}
 use Rattle.signal_table.specs.Listed.{SymbolsIn}
 use Rattle.signal_table.specs.States.{begin, nextState}
-use Rattle.signal_table.specs.Checks.{packFrom, packedIn, statusFormedBy, belowBy, stateFormedBy, formBy, targetRightBy, rowRightBy, checkBy}
+use Rattle.signal_table.specs.Checks.{packFrom, packedIn, statusFormedBy, stateFormedBy, formBy, targetRightBy, rowRightBy, checkBy}
 use Rattle.signal_table.proofs.PairsRight.{code, code-start, next-code}
 
 all-same : (n : ℕ) (f g : ℕ → Bool) → ((k : ℕ) → k < n → f k ≡ g k) → all n f ≡ all n g

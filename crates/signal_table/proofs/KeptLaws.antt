@@ -9,7 +9,6 @@ use lib.ListN.{length, getD, set, length-append, length-set}
 use lib.Seq.{getD-set-same, getD-set-other}
 use native.Mathlib.Omega.{arith}
 use native.Mathlib.Decide.{ℕ-discrete, decLt}
-use native.Mathlib.Numerals.{add-one}
 use Rattle.resolution.specs.Lists.{memberBy, addBy, indexBy, Distinct}
 use Rattle.resolution.proofs.Lists.{Extends, at-extends, index-member, index-at, distinct-add}
 use Rattle.node_step.specs.StatusByte.{samePacked}

@@ -346,15 +346,25 @@ fn rows_right<'a>(
     let mut statuses = [0u64; 256];
     let read = node_step::uses::at_most(n, 256);
     read_states(im, categories, read, &mut signal, &mut statuses);
-    let mut j = 0;
-    while j < n {
+    let mut from = 0;
+    while from < n {
         if !row_right(
-            rows, parents, inner, signals, categories, symbols, count, im, &signal, &statuses,
-            read, j,
+            rows,
+            parents,
+            inner,
+            signals,
+            categories,
+            symbols,
+            count,
+            im,
+            &signal,
+            &statuses,
+            read,
+            from,
         ) {
             return false;
         }
-        j += 1;
+        from += 1;
     }
     true
 }

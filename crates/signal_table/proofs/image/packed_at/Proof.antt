@@ -6,9 +6,6 @@ use Rattle.signal_table.proofs.ImageLaws.{pack-more, pack-end, pack-non
 use borrow.Author.Needs.{needs}
 use Rattle.signal_table.proofs.image.packed_at.Statement.{statement}
 use Rattle.signal_table.proofs.image.packed_at.Tie as tie
-use Rattle.signal_table.proofs.image.packed_at.Reads as reads
-use Rattle.signal_table.proofs.image.packed_at.Lts as lts
-use Rattle.signal_table.proofs.image.byte.Reads as byte-reads
 
 abbrev Inv-loop : tie.InvT-loop
 Inv-loop im i n x₀ c₀ x c = (c ≤ n) × (x < 256 ^ (n - c)) × (x ≡ packFrom im (i + c) (n - c))
@@ -16,44 +13,34 @@ Inv-loop im i n x₀ c₀ x c = (c ≤ n) × (x < 256 ^ (n - c)) × (x ≡ packF
 abbrev μ-loop : tie.MeasureT-loop
 μ-loop im i n x₀ c₀ x c = c
 
--- src/image.rt:56:5
 loop-holds : tie.Need-loop-holds Inv-loop μ-loop
 loop-holds c = let a = c .before .args in let z : a .n - a .n ≡ 0 = omega arith in (omega arith, rw z (omega arith), pack-none (a .im .now) (a .i) (a .n))
 
--- src/image.rt:57:9
 sub-c : tie.Need-sub-c Inv-loop μ-loop
 sub-c c = search needs
 
--- src/image.rt:58:26
 add-byte : tie.Need-add-byte Inv-loop μ-loop
 add-byte c = omega (arith, c .before .loop .inv .0, c .loop-test .taken, c .before .before .before .pre .0, c .before .before .before .pre .1)
 
--- src/image.rt:58:17
 byte-requires : tie.Need-byte-requires Inv-loop μ-loop
 byte-requires c κs = search needs
 
--- src/image.rt:58:17
 cast-b : tie.Need-cast-b Inv-loop μ-loop
 cast-b c = search needs
 
--- src/image.rt:59:13
 mul-x : tie.Need-mul-x Inv-loop μ-loop
 mul-x c = let a = c .before .before .before .before .args in let o = c .before .before .loop in omega (arith, pack-fits (a .n) (o .c) (o .x) 0 (c .before .loop-test .taken) (o .inv .0) (c .before .before .before .before .pre .0) (o .inv .1) (omega arith) .1)
 
--- src/image.rt:59:13
 add-x : tie.Need-add-x Inv-loop μ-loop
 add-x c = let a = c .before .before .before .before .args in let o = c .before .before .loop in omega (arith, pack-fits (a .n) (o .c) (o .x) (c .byte .result) (c .before .loop-test .taken) (o .inv .0) (c .before .before .before .before .pre .0) (o .inv .1) (omega arith) .1)
 
--- src/image.rt:56:5
 loop-less : tie.Need-loop-less Inv-loop μ-loop
 loop-less c = omega (arith, c .before .loop-test .taken)
 
--- src/image.rt:56:5
 loop-again : tie.Need-loop-again Inv-loop μ-loop
 loop-again c = let a = c .before .before .before .before .args in let o = c .before .before .loop in
     (omega (arith, o .inv .0), pack-fits (a .n) (o .c) (o .x) (c .byte .result) (c .before .loop-test .taken) (o .inv .0) (c .before .before .before .before .pre .0) (o .inv .1) (omega arith) .0, pack-more (a .im .now) (a .i) (a .n) (o .c) (o .x) (c .byte .result) (c .before .loop-test .taken) (o .inv .0) (o .inv .2) (c .byte .ensures))
 
--- src/image.rt:50:1
 returns : tie.Need-returns Inv-loop μ-loop
 returns c = let a = c .before .before .before .args in let o = c .before .loop in pack-end (a .im .now) (a .i) (a .n) (o .c) (o .x) (c .loop-test .left) (o .inv .2)
 

@@ -3,39 +3,28 @@ use Rattle.signal_table.proofs.ImageLaws.{place-is, place-fits}
 use borrow.Author.Needs.{needs}
 use Rattle.signal_table.proofs.image.place.Statement.{statement}
 use Rattle.signal_table.proofs.image.place.Tie as tie
-use Rattle.signal_table.proofs.image.place.Reads as reads
-use Rattle.signal_table.proofs.image.place.Lts as lts
-use Rattle.signal_table.proofs.image.at.Reads as at-reads
 
--- src/image.rt:45:9
 at-requires : tie.Need-at-requires
 at-requires c κs = search needs
 
--- src/image.rt:46:9
 mul-result : tie.Need-mul-result
 mul-result c = search needs
 
--- src/image.rt:46:5
 add-result : tie.Need-add-result
 add-result c = search needs
 
--- src/image.rt:46:22
 add-result-2 : tie.Need-add-result-2
 add-result-2 c = search needs
 
--- src/image.rt:46:22
 add-result-3 : tie.Need-add-result-3
 add-result-3 c = search needs
 
--- src/image.rt:46:17
 mul-result-2 : tie.Need-mul-result-2
 mul-result-2 c = let a = c .before .before .args in omega (arith, place-fits (a .j) (c .at .result) (a .categories) (c .before .before .pre .1) (c .at .ensures .1) (c .before .before .pre .0))
 
--- src/image.rt:46:5
 add-result-4 : tie.Need-add-result-4
 add-result-4 c = let a = c .before .before .args in omega (arith, place-fits (a .j) (c .at .result) (a .categories) (c .before .before .pre .1) (c .at .ensures .1) (c .before .before .pre .0))
 
--- src/image.rt:41:1
 returns : tie.Need-returns
 returns c = let a = c .before .before .args in (place-is (a .im .now) (a .categories) (a .j) (c .at .ensures .0), omega (arith, place-fits (a .j) (c .at .result) (a .categories) (c .before .before .pre .1) (c .at .ensures .1) (c .before .before .pre .0)))
 

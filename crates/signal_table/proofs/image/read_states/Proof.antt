@@ -4,7 +4,6 @@ use mathlib.Core.Path.{_≡_, _∙_}
 use lib.ListN.{length, length-set}
 use Rattle.signal_table.specs.Checks.{Read}
 use Rattle.signal_table.proofs.ImageLaws.{read-none, read-more, read-all}
-use borrow.Author.Needs.{needs}
 use Rattle.signal_table.proofs.image.read_states.Statement.{statement}
 use Rattle.signal_table.proofs.image.read_states.Tie as tie
 
@@ -37,11 +36,11 @@ loop-less c = omega (arith, c .before .loop-test .taken)
 
 loop-again : tie.Need-loop-again Inv-loop μ-loop
 loop-again c = let a = c .before .before .before .before .args in let o = c .before .before .loop in (
-      omega (arith, c .before .loop-test .taken),
-      length-set (o .signal) (o .j) (c .state .result .signal) ∙ o .inv .1,
-      length-set (o .statuses) (o .j) (c .state .result .statuses) ∙ o .inv .2,
-      read-more (a .im .now) (a .categories) (o .signal) (o .statuses) (o .j) (o .inv .3) (omega (arith, c .before .loop-test .taken, o .inv .1, c .before .before .before .before .pre .1)) (omega (arith, c .before .loop-test .taken, o .inv .2, c .before .before .before .before .pre .1)) (c .state .ensures),
-    )
+  omega (arith, c .before .loop-test .taken),
+  length-set (o .signal) (o .j) (c .state .result .signal) ∙ o .inv .1,
+  length-set (o .statuses) (o .j) (c .state .result .statuses) ∙ o .inv .2,
+  read-more (a .im .now) (a .categories) (o .signal) (o .statuses) (o .j) (o .inv .3) (omega (arith, c .before .loop-test .taken, o .inv .1, c .before .before .before .before .pre .1)) (omega (arith, c .before .loop-test .taken, o .inv .2, c .before .before .before .before .pre .1)) (c .state .ensures),
+)
 
 returns : tie.Need-returns Inv-loop μ-loop
 returns c = let a = c .before .before .before .args in let o = c .before .loop in read-all (a .im .now) (a .categories) (o .signal) (o .statuses) (o .j) (a .n) (o .inv .0) (c .loop-test .left) (o .inv .3)

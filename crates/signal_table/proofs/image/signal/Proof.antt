@@ -1,32 +1,22 @@
-use mathlib.Core.Path.{ap, ap₂, _∙_}
+use mathlib.Core.Path.{ap, _∙_}
 use Rattle.machine_image.specs.Image.{placeOf, signalIn}
 use Rattle.signal_table.proofs.ImageLaws.{signal-is}
 use borrow.Author.Needs.{needs}
 use Rattle.signal_table.proofs.image.signal.Statement.{statement}
 use Rattle.signal_table.proofs.image.signal.Tie as tie
-use Rattle.signal_table.proofs.image.signal.Reads as reads
-use Rattle.signal_table.proofs.image.signal.Lts as lts
-use Rattle.signal_table.proofs.image.byte.Reads as byte-reads
-use Rattle.signal_table.proofs.image.place.Reads as place-reads
-use Rattle.signal_table.proofs.states.wide.Reads as wide-reads
 
--- src/image.rt:392:9
 at-most-requires : tie.Need-at-most-requires
 at-most-requires c κs = search needs
 
--- src/image.rt:393:9
 wide-requires : tie.Need-wide-requires
 wide-requires c κs = search needs
 
--- src/image.rt:394:9
 place-requires : tie.Need-place-requires
 place-requires c κs = search needs
 
--- src/image.rt:395:5
 byte-requires : tie.Need-byte-requires
 byte-requires c κs = search needs
 
--- src/image.rt:389:1
 returns : tie.Need-returns
 returns c = let a = c .before .before .before .before .before .args in
     signal-is (a .im .now) (c .before .before .before .at-most .result) (a .j) (c .before .place .ensures .0 ∙ ap (placeOf (c .before .before .before .at-most .result) (a .im .now)) (c .before .before .wide .ensures .0)) (c .byte .ensures)

@@ -2,29 +2,19 @@ use Rattle.signal_table.proofs.ImageLaws.{state-is}
 use borrow.Author.Needs.{needs}
 use Rattle.signal_table.proofs.image.state.Statement.{statement}
 use Rattle.signal_table.proofs.image.state.Tie as tie
-use Rattle.signal_table.proofs.image.state.Reads as reads
-use Rattle.signal_table.proofs.image.state.Lts as lts
-use Rattle.signal_table.proofs.image.byte.Reads as byte-reads
-use Rattle.signal_table.proofs.image.packed_at.Reads as packed-at-reads
-use Rattle.signal_table.proofs.image.place.Reads as place-reads
 
--- src/image.rt:69:9
 place-requires : tie.Need-place-requires
 place-requires c κs = search needs
 
--- src/image.rt:70:9
 byte-requires : tie.Need-byte-requires
 byte-requires c κs = search needs
 
--- src/image.rt:71:34
 add-packed-at : tie.Need-add-packed-at
 add-packed-at c = search needs
 
--- src/image.rt:71:9
 packed-at-requires : tie.Need-packed-at-requires
 packed-at-requires c κs = search needs
 
--- src/image.rt:65:1
 returns : tie.Need-returns
 returns c = let a = c .before .before .before .before .args in state-is (a .im .now) (a .categories) (a .j) (c .before .before .place .ensures .0) (c .before .byte .ensures) (c .packed-at .ensures)
 

@@ -1,48 +1,32 @@
 use Rattle.node_step.specs.StatusByte.{fitsBy}
-use mathlib.Core.Path.{_∙_}
 use borrow.Author.Tests.{not-true, not-false}
 use native.Mathlib.Omega.{arith}
 use Rattle.signal_table.proofs.ImageLaws.{signal-is, state-signal, state-status, state-rest}
 use borrow.Author.Needs.{needs}
 use Rattle.signal_table.proofs.image.state_formed.Statement.{statement}
 use Rattle.signal_table.proofs.image.state_formed.Tie as tie
-use Rattle.signal_table.proofs.image.state_formed.Reads as reads
-use Rattle.signal_table.proofs.image.state_formed.Lts as lts
-use Rattle.signal_table.proofs.image.byte.Reads as byte-reads
-use Rattle.signal_table.proofs.image.place.Reads as place-reads
-use Rattle.signal_table.proofs.image.statuses_formed.Reads as statuses-formed-reads
-use Rattle.signal_table.proofs.image.targets_below.Reads as targets-below-reads
-use Rattle.signal_table.proofs.states.wide.Reads as wide-reads
 
--- src/image.rt:148:9
 place-requires : tie.Need-place-requires
 place-requires c κs = search needs
 
--- src/image.rt:149:9
 byte-requires : tie.Need-byte-requires
 byte-requires c κs = search needs
 
--- src/image.rt:150:19
 wide-requires : tie.Need-wide-requires
 wide-requires c κs = search needs
 
--- src/image.rt:151:9
 returns : tie.Need-returns
 returns c = let a = c .before .before .before .before .before .args in state-signal (a .im .now) (a .categories) (a .j) (c .before .before .before .place .ensures .0) (fitsBy (a .rows .now) (a .parents .now) (a .inner .now) (a .category .now) (a .nodes)) (a .signals) (c .before .before .byte .ensures) (omega (arith, c .before .wide .ensures .0, c .if1 .taken))
 
--- src/image.rt:153:9
 statuses-formed-requires : tie.Need-statuses-formed-requires
 statuses-formed-requires c κs = let a = c .before .before .before .before .before .args in (c .before .before .before .before .before .pre .0, c .before .before .before .place .ensures .1, c .before .before .before .place .ensures .0, signal-is (a .im .now) (a .categories) (a .j) (c .before .before .before .place .ensures .0) (c .before .before .byte .ensures))
 
--- src/image.rt:165:9
 returns-2 : tie.Need-returns-2
 returns-2 c = let a = c .before .before .before .before .before .before .before .args in state-status (a .im .now) (a .categories) (a .j) (c .before .before .before .before .before .place .ensures .0) (fitsBy (a .rows .now) (a .parents .now) (a .inner .now) (a .category .now) (a .nodes)) (a .signals) (c .before .before .before .before .byte .ensures) (omega (arith, c .before .before .before .wide .ensures .0, c .before .before .if1 .left)) (c .before .statuses-formed .ensures) (not-true _ (c .if2 .taken))
 
--- src/image.rt:167:5
 targets-below-requires : tie.Need-targets-below-requires
 targets-below-requires c κs = search needs
 
--- src/image.rt:133:1
 returns-3 : tie.Need-returns-3
 returns-3 c = let a = c .before .before .before .before .before .before .before .before .args in state-rest (a .im .now) (a .categories) (a .j) (c .before .before .before .before .before .before .place .ensures .0) (fitsBy (a .rows .now) (a .parents .now) (a .inner .now) (a .category .now) (a .nodes)) (a .signals) (c .before .before .before .before .before .byte .ensures) (omega (arith, c .before .before .before .before .wide .ensures .0, c .before .before .before .if1 .left)) (c .before .before .statuses-formed .ensures) (not-false _ (c .before .if2 .left)) (c .targets-below .ensures)
 

@@ -1,6 +1,6 @@
 use native.Mathlib.Omega.{arith}
 use Prim.Native.Nat.{_≤_, _-_}
-use mathlib.Core.Path.{_≡_, refl, sym, ap, _∙_}
+use mathlib.Core.Path.{_≡_, refl, sym, _∙_}
 use mathlib.Core.Bool.{true}
 use Rattle.resolution.specs.Lists.{all}
 use Rattle.node_step.specs.StatusByte.{fitsBy}
@@ -12,9 +12,6 @@ use Rattle.signal_table.proofs.ImageLaws.{all-more, all-done}
 use borrow.Author.Needs.{needs}
 use Rattle.signal_table.proofs.image.states_formed.Statement.{statement}
 use Rattle.signal_table.proofs.image.states_formed.Tie as tie
-use Rattle.signal_table.proofs.image.states_formed.Reads as reads
-use Rattle.signal_table.proofs.image.states_formed.Lts as lts
-use Rattle.signal_table.proofs.image.state_formed.Reads as state-formed-reads
 
 abbrev Inv-loop : tie.InvT-loop
 Inv-loop rows parents inner category nodes signals categories im n j₀ j = (j ≤ n) × (all j (stateFormedBy (fitsBy rows parents inner category nodes) signals categories im) ≡ true)
@@ -22,35 +19,28 @@ Inv-loop rows parents inner category nodes signals categories im n j₀ j = (j �
 abbrev μ-loop : tie.MeasureT-loop
 μ-loop rows parents inner category nodes signals categories im n j₀ j = n - j
 
--- src/image.rt:185:5
 loop-holds : tie.Need-loop-holds Inv-loop μ-loop
 unfolding all
 loop-holds c = (omega arith, refl)
 
--- src/image.rt:186:13
 state-formed-requires : tie.Need-state-formed-requires Inv-loop μ-loop
 state-formed-requires c κs = search needs
 
--- src/image.rt:198:13
 returns : tie.Need-returns Inv-loop μ-loop
 returns c = let a = c .before .before .before .before .before .args in
     sym (all-stop (stateCount (a .im .now)) (stateFormedBy (fitsBy (a .rows .now) (a .parents .now) (a .inner .now) (a .category .now) (a .nodes)) (a .signals) (a .categories) (a .im .now)) (c .before .before .before .loop .j) (omega (arith, c .before .before .before .before .before .pre .2, c .before .before .loop-test .taken))
     (sym (c .before .state-formed .ensures) ∙ not-true _ (c .if1 .taken)))
 
--- src/image.rt:200:9
 add-j : tie.Need-add-j Inv-loop μ-loop
 add-j c = search needs
 
--- src/image.rt:185:5
 loop-less : tie.Need-loop-less Inv-loop μ-loop
 loop-less c = omega arith
 
--- src/image.rt:185:5
 loop-again : tie.Need-loop-again Inv-loop μ-loop
 loop-again c = let a = c .before .before .before .before .before .args in
     (omega arith, all-more (stateFormedBy (fitsBy (a .rows .now) (a .parents .now) (a .inner .now) (a .category .now) (a .nodes)) (a .signals) (a .categories) (a .im .now)) (c .before .before .before .loop .j) (c .before .before .before .loop .inv .1) (sym (c .before .state-formed .ensures) ∙ not-false _ (c .if1 .left)))
 
--- src/image.rt:170:1
 returns-2 : tie.Need-returns-2 Inv-loop μ-loop
 returns-2 c = let a = c .before .before .before .args in
     all-done (stateFormedBy (fitsBy (a .rows .now) (a .parents .now) (a .inner .now) (a .category .now) (a .nodes)) (a .signals) (a .categories) (a .im .now)) (stateCount (a .im .now)) (c .before .loop .j) (omega (arith, c .before .before .before .pre .2)) (omega (arith, c .before .before .before .pre .2, c .loop-test .left)) (c .before .loop .inv .1)

@@ -6,45 +6,31 @@ use Rattle.signal_table.proofs.ImageLaws.{target-is}
 use borrow.Author.Needs.{needs}
 use Rattle.signal_table.proofs.image.target.Statement.{statement}
 use Rattle.signal_table.proofs.image.target.Tie as tie
-use Rattle.signal_table.proofs.image.target.Reads as reads
-use Rattle.signal_table.proofs.image.target.Lts as lts
-use Rattle.signal_table.proofs.image.byte.Reads as byte-reads
-use Rattle.signal_table.proofs.image.place.Reads as place-reads
-use Rattle.signal_table.proofs.states.wide.Reads as wide-reads
 
--- src/image.rt:381:9
 at-most-requires : tie.Need-at-most-requires
 at-most-requires c κs = search needs
 
--- src/image.rt:382:9
 wide-requires : tie.Need-wide-requires
 wide-requires c κs = search needs
 
--- src/image.rt:383:9
 wide-requires-2 : tie.Need-wide-requires-2
 wide-requires-2 c κs = search needs
 
--- src/image.rt:384:13
 place-requires : tie.Need-place-requires
 place-requires c κs = search needs
 
--- src/image.rt:384:13
 add-i : tie.Need-add-i
 add-i c = search needs
 
--- src/image.rt:384:13
 add-i-2 : tie.Need-add-i-2
 add-i-2 c = search needs
 
--- src/image.rt:385:14
 add-byte : tie.Need-add-byte
 add-byte c = search needs
 
--- src/image.rt:385:5
 byte-requires : tie.Need-byte-requires
 byte-requires c κs = search needs
 
--- src/image.rt:378:1
 returns : tie.Need-returns
 returns c = let a = c .before .before .before .before .before .before .args in
     target-is (a .im .now) (c .before .before .before .before .at-most .result) (a .j) (c .before .place .ensures .0 ∙ ap (placeOf (c .before .before .before .before .at-most .result) (a .im .now)) (c .before .before .before .wide .ensures .0)) (a .k)

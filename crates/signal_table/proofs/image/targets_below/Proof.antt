@@ -10,13 +10,6 @@ use Rattle.signal_table.proofs.ImageLaws.{below-all, most-more, most-en
 use borrow.Author.Needs.{needs}
 use Rattle.signal_table.proofs.image.targets_below.Statement.{statement}
 use Rattle.signal_table.proofs.image.targets_below.Tie as tie
-use Rattle.signal_table.proofs.image.targets_below.Reads as reads
-use Rattle.signal_table.proofs.image.targets_below.Lts as lts
-use Rattle.alert_urn.proofs.text.part.Reads as part-reads
-use Rattle.signal_table.proofs.image.at.Reads as at-reads
-use Rattle.signal_table.proofs.image.larger.Reads as larger-reads
-use Rattle.signal_table.proofs.image.place.Reads as place-reads
-use Rattle.signal_table.proofs.states.wide.Reads as wide-reads
 
 abbrev Inv-loop : tie.InvT-loop
 Inv-loop im categories n j m i row most₀ k₀ most k = (k ≤ length row) × (ltb most n ≡ all k (belowBy categories im j))
@@ -24,61 +17,47 @@ Inv-loop im categories n j m i row most₀ k₀ most k = (k ≤ length row) × (
 abbrev μ-loop : tie.MeasureT-loop
 μ-loop im categories n j m i row most₀ k₀ most k = length row - k
 
--- src/image.rt:92:9
 returns : tie.Need-returns Inv-loop μ-loop
 returns c = let a = c .before .before .args in below-all (a .im .now) (a .categories) (a .j) (λ k. omega (arith, c .before .shared-slice-known .given k)) (c .if1 .taken) (c .before .before .pre .3)
 
--- src/image.rt:94:9
 at-requires : tie.Need-at-requires Inv-loop μ-loop
 at-requires c κs = search needs
 
--- src/image.rt:95:13
 place-requires : tie.Need-place-requires Inv-loop μ-loop
 place-requires c κs = search needs
 
--- src/image.rt:95:13
 add-i : tie.Need-add-i Inv-loop μ-loop
 add-i c = search needs
 
--- src/image.rt:95:13
 add-i-2 : tie.Need-add-i-2 Inv-loop μ-loop
 add-i-2 c = search needs
 
--- src/image.rt:96:9
 part-requires : tie.Need-part-requires Inv-loop μ-loop
 part-requires c κs = search needs
 
--- src/image.rt:99:5
 loop-holds : tie.Need-loop-holds Inv-loop μ-loop
 unfolding all
 loop-holds c = (omega arith, lt-ltb 0 (c .before .before .before .before .before .args .n) (omega arith))
 
--- src/image.rt:100:29
 shared-slice-read-larger : tie.Need-shared-slice-read-larger Inv-loop μ-loop
 shared-slice-read-larger c = search needs
 
--- src/image.rt:100:9
 larger-requires : tie.Need-larger-requires Inv-loop μ-loop
 larger-requires c κs = search needs
 
--- src/image.rt:101:9
 add-k : tie.Need-add-k Inv-loop μ-loop
 add-k c = search needs
 
--- src/image.rt:99:5
 loop-less : tie.Need-loop-less Inv-loop μ-loop
 loop-less c = omega arith
 
--- src/image.rt:99:5
 loop-again : tie.Need-loop-again Inv-loop μ-loop
 loop-again c = let a = c .before .before .before .before .before .before .before .before .before .args in
     (omega arith, most-more (a .im .now) (a .categories) (a .j) (a .n) (c .before .before .before .before .before .place .ensures .0) (c .before .before .before .before .before .before .at .ensures .0) (c .before .before .before .before .before .before .before .before .before .pre .3) (c .before .before .before .before .part .ensures) (c .before .before .before .loop .k) (c .before .before .before .loop .most) (c .before .before .before .loop .inv .1) (c .before .before .loop-test .taken) (c .larger .ensures))
 
--- src/image.rt:103:5
 wide-requires : tie.Need-wide-requires Inv-loop μ-loop
 wide-requires c κs = search needs
 
--- src/image.rt:87:1
 returns-2 : tie.Need-returns-2 Inv-loop μ-loop
 returns-2 c = let a = c .before .before .before .before .before .before .before .before .args in
     most-end (a .im .now) (a .categories) (a .j) (a .n) (c .before .before .before .before .place .ensures .0) (c .before .before .before .before .before .at .ensures .0) (c .before .before .before .before .before .before .before .before .pre .3) (c .before .before .before .part .ensures) (c .before .before .loop .k) (c .before .before .loop .most) (c .before .before .loop .inv .1) (c .before .before .loop .inv .0) (c .before .loop-test .left) (omega arith) (c .wide .ensures .0)

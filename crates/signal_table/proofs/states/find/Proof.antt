@@ -5,9 +5,6 @@ use mathlib.Core.Path.{sym, _∙_}
 use borrow.Author.Needs.{needs}
 use Rattle.signal_table.proofs.states.find.Statement.{statement}
 use Rattle.signal_table.proofs.states.find.Tie as tie
-use Rattle.signal_table.proofs.states.find.Reads as reads
-use Rattle.signal_table.proofs.states.find.Lts as lts
-use Rattle.signal_table.proofs.states.is_state.Reads as is-state-reads
 
 abbrev Inv-loop : tie.InvT-loop
 Inv-loop signal statuses n st j₀ j = (j ≤ n) × Passed signal statuses st j
@@ -15,31 +12,24 @@ Inv-loop signal statuses n st j₀ j = (j ≤ n) × Passed signal statuses st j
 abbrev μ-loop : tie.MeasureT-loop
 μ-loop signal statuses n st j₀ j = n - j
 
--- src/states.rt:65:5
 loop-holds : tie.Need-loop-holds Inv-loop μ-loop
 loop-holds c = (omega arith, λ i h. absurd (omega arith))
 
--- src/states.rt:66:12
 is-state-requires : tie.Need-is-state-requires Inv-loop μ-loop
 is-state-requires c κs = search needs
 
--- src/states.rt:67:13
 returns : tie.Need-returns Inv-loop μ-loop
 returns c = let a = c .before .before .before .before .args in λ hints l k. found-at (a .signal .now) (a .statuses .now) hints (a .n) l k (a .st) (c .before .before .before .loop .j) (c .before .before .loop-test .taken) (sym (c .before .is-state .ensures) ∙ c .if1 .taken)
 
--- src/states.rt:69:9
 add-j : tie.Need-add-j Inv-loop μ-loop
 add-j c = search needs
 
--- src/states.rt:65:5
 loop-less : tie.Need-loop-less Inv-loop μ-loop
 loop-less c = omega arith
 
--- src/states.rt:65:5
 loop-again : tie.Need-loop-again Inv-loop μ-loop
 loop-again c = let a = c .before .before .before .before .args in (omega arith, passed-more (a .signal .now) (a .statuses .now) (a .st) (c .before .before .before .loop .j) (c .before .before .before .loop .inv .1) (c .before .is-state .ensures) (c .if1 .left))
 
--- src/states.rt:60:1
 returns-2 : tie.Need-returns-2 Inv-loop μ-loop
 returns-2 c = let a = c .before .before .args in passed-all (a .signal .now) (a .statuses .now) (a .st) (c .before .loop .j) (a .n) (c .before .loop .inv .0) (c .loop-test .left) (c .before .loop .inv .1)
 

@@ -3,48 +3,34 @@ use Rattle.signal_table.proofs.KeptLaws.{keep-old, keep-new, keep-full}
 use borrow.Author.Needs.{needs}
 use Rattle.signal_table.proofs.states.keep.Statement.{statement}
 use Rattle.signal_table.proofs.states.keep.Tie as tie
-use Rattle.signal_table.proofs.states.keep.Reads as reads
-use Rattle.signal_table.proofs.states.keep.Lts as lts
-use Rattle.signal_table.proofs.states.hint_at.Reads as hint-at-reads
-use Rattle.signal_table.proofs.states.number_of.Reads as number-of-reads
 
--- src/states.rt:117:9
 number-of-requires : tie.Need-number-of-requires
 number-of-requires c κs = search needs
 
--- src/states.rt:119:9
 returns : tie.Need-returns
 returns c = let a = c .before .before .before .before .before .args in (omega arith, λ l k. keep-old (a .signal .now) (a .statuses .now) (a .hints .now) (a .n) l k (a .st) (c .before .number-of .ensures l k) (c .if1 .taken))
 
--- src/states.rt:122:9
 element-write-signal : tie.Need-element-write-signal
 element-write-signal c = search needs
 
--- src/states.rt:123:9
 mul-statuses : tie.Need-mul-statuses
 mul-statuses c = search needs
 
--- src/states.rt:123:9
 element-write-statuses : tie.Need-element-write-statuses
 element-write-statuses c = search needs
 
--- src/states.rt:124:13
 hint-at-requires : tie.Need-hint-at-requires
 hint-at-requires c κs = search needs
 
--- src/states.rt:125:21
 cast-hints : tie.Need-cast-hints
 cast-hints c = search needs
 
--- src/states.rt:125:9
 element-write-hints : tie.Need-element-write-hints
 element-write-hints c = search needs
 
--- src/states.rt:103:1
 returns-2 : tie.Need-returns-2
 returns-2 c = let a = c .before .before .before .before .before .before .before .args in (omega arith, λ l k. keep-new (a .signal .now) (a .statuses .now) (a .hints .now) (a .n) l k (a .st) (c .before .before .before .number-of .ensures l k) (c .hint-at .ensures .0) (c .hint-at .ensures .1) (c .before .before .if1 .left) (c .before .if2 .taken))
 
--- src/states.rt:103:1
 returns-3 : tie.Need-returns-3
 returns-3 c = let a = c .before .before .before .before .before .before .args in (c .before .before .before .before .before .before .pre, λ l k. keep-full (a .signal .now) (a .statuses .now) (a .hints .now) (a .n) l k (a .st) (c .before .before .number-of .ensures l k) (c .before .if1 .left) (c .if2 .left))
 

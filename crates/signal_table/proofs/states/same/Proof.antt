@@ -1,15 +1,10 @@
 use Rattle.signal_table.proofs.PairLaws.{same-no, same-rest}
-use borrow.Author.Needs.{needs}
 use Rattle.signal_table.proofs.states.same.Statement.{statement}
 use Rattle.signal_table.proofs.states.same.Tie as tie
-use Rattle.signal_table.proofs.states.same.Reads as reads
-use Rattle.signal_table.proofs.states.same.Lts as lts
 
--- src/states.rt:42:9
 returns : tie.Need-returns
 returns c = let a = c .before .before .before .args in same-no (a .a) (a .b) (c .if1 .taken)
 
--- src/states.rt:38:1
 returns-2 : tie.Need-returns-2
 returns-2 c = let a = c .before .before .before .before .before .args in same-rest (a .a) (a .b) (c .before .before .if1 .left)
 

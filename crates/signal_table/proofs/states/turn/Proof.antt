@@ -1,6 +1,6 @@
 use native.Mathlib.Omega.{arith}
 use Prim.Native.Nat.{_≤_, _-_}
-use mathlib.Core.Path.{_≡_, refl, _∙_}
+use mathlib.Core.Path.{_≡_, _∙_}
 use mathlib.Core.List.{List}
 use lib.ListN.{length, length-set}
 use Rattle.node_step.specs.declared.stored.Packed.{Packed}
@@ -10,11 +10,6 @@ use Rattle.signal_table.proofs.TurnLaws.{Turning, turning-start, turnin
 use borrow.Author.Needs.{needs}
 use Rattle.signal_table.proofs.states.turn.Statement.{statement}
 use Rattle.signal_table.proofs.states.turn.Tie as tie
-use Rattle.signal_table.proofs.states.turn.Reads as reads
-use Rattle.signal_table.proofs.states.turn.Lts as lts
-use Rattle.signal_table.proofs.states.keep.Reads as keep-reads
-use Rattle.signal_table.proofs.states.longer_by.Reads as longer-by-reads
-use Rattle.signal_table.proofs.states.next.Reads as next-reads
 
 abbrev Inv-loop : tie.InvT-loop
 Inv-loop rows parents inner signals symbols count signal₀ statuses₀ hints₀ n st numbers₀ m₀ k₀ signal statuses hints numbers m k = (k ≤ count) × (m ≤ 256) × (length numbers ≡ 128)
@@ -23,19 +18,15 @@ Inv-loop rows parents inner signals symbols count signal₀ statuses₀ hints₀
 abbrev μ-loop : tie.MeasureT-loop
 μ-loop rows parents inner signals symbols count signal₀ statuses₀ hints₀ n st numbers₀ m₀ k₀ signal statuses hints numbers m k = count - k
 
--- src/states.rt:165:5
 loop-holds : tie.Need-loop-holds Inv-loop μ-loop
 loop-holds c = let a = c .args in (omega arith, c .pre .1, c .pre .2, λ l k. turning-start (nextState (a .rows .now) (a .parents .now) (a .inner .now) (a .signals) (a .symbols .now)) (a .st) l (a .numbers .now) (a .signal .now) (a .statuses .now) (a .hints .now) (a .n) k)
 
--- src/states.rt:166:13
 next-requires : tie.Need-next-requires Inv-loop μ-loop
 next-requires c κs = search needs
 
--- src/states.rt:167:13
 keep-requires : tie.Need-keep-requires Inv-loop μ-loop
 keep-requires c κs = c .before .before .before .before .before .loop .inv .1
 
--- src/states.rt:169:13
 returns : tie.Need-returns Inv-loop μ-loop
 returns c = let a = c .before .before .before .before .before .before .before .before .args in let o = c .before .before .before .before .before .before .before .loop in (
   (omega arith, o .inv .2),
@@ -43,27 +34,21 @@ returns c = let a = c .before .before .before .before .before .before .before .b
       (c .before .keep .last .0) (c .before .keep .last .1 .0) (c .before .keep .last .1 .1 .0) (o .numbers) (c .before .before .before .before .before .before .loop-test .taken) (c .before .before .before .before .before .next .ensures) (c .before .keep .ensures .1) (c .if1 .taken),
 )
 
--- src/states.rt:171:9
 longer-by-requires : tie.Need-longer-by-requires Inv-loop μ-loop
 longer-by-requires c κs = c .before .before .before .before .before .before .before .loop .inv .1
 
--- src/states.rt:172:22
 cast-numbers : tie.Need-cast-numbers Inv-loop μ-loop
 cast-numbers c = search needs
 
--- src/states.rt:172:9
 element-write-numbers : tie.Need-element-write-numbers Inv-loop μ-loop
 element-write-numbers c = omega (arith, c .before .before .before .before .before .before .before .before .loop .inv .2, c .before .before .before .before .before .before .before .loop-test .taken, c .before .before .before .before .before .before .before .before .before .pre .0)
 
--- src/states.rt:173:9
 add-k : tie.Need-add-k Inv-loop μ-loop
 add-k c = search needs
 
--- src/states.rt:165:5
 loop-less : tie.Need-loop-less Inv-loop μ-loop
 loop-less c = omega (arith, c .before .before .before .before .before .before .before .loop-test .taken)
 
--- src/states.rt:165:5
 loop-again : tie.Need-loop-again Inv-loop μ-loop
 loop-again c = let a = c .before .before .before .before .before .before .before .before .before .args in let o = c .before .before .before .before .before .before .before .before .loop in (
   omega (arith, c .before .before .before .before .before .before .before .loop-test .taken),
@@ -73,7 +58,6 @@ loop-again c = let a = c .before .before .before .before .before .before .before
       (c .before .before .keep .last .0) (c .before .before .keep .last .1 .0) (c .before .before .keep .last .1 .1 .0) (omega (arith, c .before .before .before .before .before .before .before .loop-test .taken, c .before .before .before .before .before .before .before .before .before .pre .0, c .before .before .before .before .before .before .before .before .before .pre .2)) (c .before .before .before .before .before .before .next .ensures) (c .before .before .keep .ensures .1) (c .before .if1 .left) (c .longer-by .ensures),
 )
 
--- src/states.rt:142:1
 returns-2 : tie.Need-returns-2 Inv-loop μ-loop
 returns-2 c = let a = c .before .before .args in let o = c .before .loop in (
   (omega (arith, o .inv .1), o .inv .2),

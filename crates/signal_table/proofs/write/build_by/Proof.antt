@@ -4,28 +4,19 @@ use Rattle.signal_table.specs.States.{nextState, builtBy, bufferBy}
 use borrow.Author.Needs.{needs}
 use Rattle.signal_table.proofs.write.build_by.Statement.{statement}
 use Rattle.signal_table.proofs.write.build_by.Tie as tie
-use Rattle.signal_table.proofs.write.build_by.Reads as reads
-use Rattle.signal_table.proofs.write.build_by.Lts as lts
-use Rattle.node_step.proofs.uses.at_most.Reads as at-most-reads
-use Rattle.signal_table.proofs.write.write_image.Reads as write-image-reads
 
--- src/write.rt:109:9
 at-most-requires : tie.Need-at-most-requires
 at-most-requires c κs = search needs
 
--- src/write.rt:110:9
 at-most-requires-2 : tie.Need-at-most-requires-2
 at-most-requires-2 c κs = search needs
 
--- src/write.rt:111:5
 write-image-requires : tie.Need-write-image-requires
 write-image-requires c κs = search needs
 
--- src/write.rt:96:1
 same-length : tie.Need-same-length
 same-length c = search needs
 
--- src/write.rt:96:1
 returns : tie.Need-returns
 returns c = let a = c .before .before .before .before .before .before .before .args in
     let next = nextState (a .rows .now) (a .parents .now) (a .inner .now) (a .signals) (a .symbols .now) in (
