@@ -20,14 +20,5 @@ pub fn plain(t: &[u8], d: Decoded, v: &[u8]) -> Resolution
     }
     let no_index = [0u8; 136];
     let no_symbols = [0u8; 384];
-    answer::resolved(
-        t,
-        d,
-        &no_index,
-        &no_symbols,
-        0,
-        t,
-        at_start(),
-        v,
-    )
+    answer::resolved(t, d, &no_index, &no_symbols, 0, t, at_start(), v)
 }

@@ -110,9 +110,7 @@ fn moved_by<'a>(
     }
     let category = c as usize;
     let st = current.state;
-    at_state(node_step::step(
-        rows, parent, inner, signals, st, category, k, w,
-    ))
+    at_state(node_step::step(rows, parent, inner, signals, st, category, k, w))
 }
 
 // One URI more, by what it is to the table.

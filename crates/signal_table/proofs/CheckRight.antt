@@ -1,38 +1,34 @@
 -- What the checker says over the arrays is what it should say of the image.
-use Prim.Native.Nat.{ℕ, zero, suc, _+_, _-_, _*_, _≤_, _<_}
+use Prim.Native.Nat.{ℕ, zero, suc, _+_, _*_, _≤_, _<_}
 use mathlib.Core.Path.{_≡_, refl, sym, ap, ap₂, subst, _∙_}
 use mathlib.Core.Bool.{Bool, true, false, cond, _&&_}
 use mathlib.Core.List.{List, []}
 use lib.Dec.{eqb, ltb, leb}
-use borrow.Author.Tests.{le-leb, lt-leb, lt-ltb, le-ltb, eqb-true, ltb-true}
+use borrow.Author.Tests.{le-leb, lt-ltb, ltb-true}
 use lib.ListN.{length, getD, take, drop, List·getD-eq-default}
 use native.Mathlib.Omega.{arith}
 use native.Mathlib.Nat.{add-zero, zero-add}
-use native.Mathlib.Decide.{decLt}
 use Rattle.resolution.specs.Lists.{all, tabulate}
-use Rattle.resolution.specs.Names.{Parts, sameName, properAncestor}
-use Rattle.resolution.specs.Table.{Urn, Table, WellFormed, rowOf, place}
-use Rattle.resolution.specs.Nodes.{nodes, nodeAt, number, isNode, hasUnder}
+use Rattle.resolution.specs.Names.{sameName}
+use Rattle.resolution.specs.Table.{Table, WellFormed, rowOf, place}
+use Rattle.resolution.specs.Nodes.{nodes}
 use Rattle.resolution.specs.Direct.{start, sameState, statusFits, StateOf}
 use Rattle.resolution.specs.Direct as direct
 use Rattle.resolution.specs.Symbols.{symbolAt, stepsAs, stepAt}
 use Rattle.resolution.specs.Machine.{machineState, target, targetRight, rowRight}
 use Rattle.resolution.proofs.Lists.{tabulate-length, tabulate-at}
 use Rattle.resolution.proofs.Table.{row-place}
-use Rattle.resolution.proofs.Numbers.{number-at, number-positive}
 use Rattle.resolution.proofs.TableStep.{state-of, state-start, state-step}
 use Rattle.node_step.specs.Arrays.{NodesIn, Numbers, InnerIn}
-use Rattle.node_step.specs.Step.{coded, codedStatus, digit, rowAt, extends, statusIn}
+use Rattle.node_step.specs.Step.{coded, codedStatus, statusIn}
 use Rattle.node_step.specs.StatusByte.{byteOf, packed, samePacked, fitsBy}
-use Rattle.node_step.specs.Uses.{fewer}
 use Rattle.node_step.specs.declared.Progress.{Progress}
 use Rattle.node_step.specs.declared.stored.Packed.{Packed}
-use Rattle.node_step.proofs.StepRight.{place-extends}
 use Rattle.node_step.proofs.Both.{packed-test, coded-at}
 use Rattle.machine_image.specs.Image.{symbolCount, stateCount, placeOf, signalIn, byteIn, targetIn, machineIn}
 use Rattle.machine_image.specs.Image as image
-use Rattle.machine_image.specs.Refusals.{byteFits, statusFormed, targetBelow, stateFormed, formOf, checkOf}
-use Rattle.machine_image.proofs.Statuses.{status-coded, byte-again, byte-fits}
+use Rattle.machine_image.specs.Refusals.{statusFormed, targetBelow, stateFormed, formOf, checkOf}
+use Rattle.machine_image.proofs.Statuses.{status-coded, byte-again, byte-fits, fits-right}
 use Rattle.machine_image.proofs.Form.{Formed, form-to, form-symbols}
 use Rattle.machine_image.proofs.Check.{machine-states}
 use Rattle.machine_image.proofs.Walk.{machine-state-in, machine-target}
@@ -71,48 +67,6 @@ packed-from im l (suc m) (suc n) i c a h o =
   where
     the : (A : Type 0) → A → A
     the A x = x
-
--- a byte that a category can have
-module _ (t ca pos len : List ℕ) (n : ℕ) (T : Table) (ni : NodesIn t ca pos len n T) (wf : WellFormed T) (rows ps : List ℕ) (signals : ℕ) (nu : Numbers rows ps signals T)
-    (inner : List Bool) (ii : InnerIn inner T) (s c : ℕ) (hs : s < signals) (hc : c < T .cats) where
-  abbrev ns : List Urn
-  ns = nodes T
-
-  node-fits : (k : ℕ) → k < length ns
-      → eqb (getD ca k 0) c && (getD inner k false && extends ps (digit (rowAt rows s) c) (suc k) true)
-      ≡ (eqb (nodeAt ns k .cat) c && (hasUnder ns c (nodeAt ns k .path) && properAncestor (place T s c) (nodeAt ns k .path)))
-  node-fits k h =
-      ap (λ z. eqb z c && (getD inner k false && extends ps (digit (rowAt rows s) c) (suc k) true)) (ni .cat-at k (omega (arith, ni .all-nodes)))
-      ∙ go (eqb (nodeAt ns k .cat) c) refl
-    where
-      p : Parts
-      p = nodeAt ns k .path
-
-      go : (b : Bool) → eqb (nodeAt ns k .cat) c ≡ b
-          → (b && (getD inner k false && extends ps (digit (rowAt rows s) c) (suc k) true)) ≡ (b && (hasUnder ns c p && properAncestor (place T s c) p))
-      go false e = refl
-      go true e =
-          let q : nodeAt ns k .cat ≡ c = eqb-true (nodeAt ns k .cat) c e in
-          let m : number ns c p ≡ suc k = ap (λ z. number ns z p) (sym q) ∙ number-at T k h in
-          let i : isNode ns c p ≡ true = number-positive ns c p k m in
-          ap₂ _&&_ (ii k h ∙ ap (λ z. hasUnder ns z p) q)
-          (ap (λ z. extends ps (digit (rowAt rows s) c) z true) (sym m) ∙ place-extends rows ps signals T wf nu c hc s hs p i ∙ ap (λ z. properAncestor z p) (row-place T s c hc))
-
-  pub fits-right : (b : ℕ) → fitsBy rows ps inner ca n s c b ≡ byteFits ns c (place T s c) b
-  unfolding fitsBy
-  fits-right zero = refl
-  fits-right (suc zero) = refl
-  fits-right (suc (suc k)) =
-      let e : suc (suc k) - 2 ≡ k = omega arith in
-      let f : suc (suc k) - 1 ≡ suc k = omega arith in
-      let m : fewer n 64 ≡ length ns = ap (λ z. cond z n 64) (le-leb n 64 (ni .few-nodes)) ∙ sym (ni .all-nodes) in
-      rw (lt-leb (suc (suc k)) 1 (omega arith), lt-leb 8 c (omega (arith, nu .few-cats)), e, f, m) (go (decLt k (length ns)))
-    where
-      go : Dec (k < length ns)
-          → cond (ltb k (length ns)) (eqb (getD ca k 0) c && (getD inner k false && extends ps (digit (rowAt rows s) c) (suc k) true)) false
-          ≡ (ltb k (length ns) && (eqb (nodeAt ns k .cat) c && (hasUnder ns c (nodeAt ns k .path) && properAncestor (place T s c) (nodeAt ns k .path))))
-      go (yes h) = rw (lt-ltb k (length ns) h) (node-fits k h)
-      go (no h) = rw (le-ltb k (length ns) (omega arith))
 
 module _ (t ca pos len : List ℕ) (n : ℕ) (T : Table) (ni : NodesIn t ca pos len n T) (wf : WellFormed T)
     (apart : (i j : ℕ) → i < length (T .signals) → j < length (T .signals) → rowOf T i ≡ rowOf T j → i ≡ j)
