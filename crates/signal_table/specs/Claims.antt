@@ -8,7 +8,8 @@ use Rattle.resolution.specs.Machine.{Accepted}
 use Rattle.stored_table.specs.Tables.{tableOf, tableRefusal}
 use Rattle.machine_image.specs.Image.{storedSymbols, machineImage, symbolCount, stateCount, placeOf, signalIn, byteIn, targetIn, machineIn}
 use Rattle.machine_image.specs.Positions.{ByteOf}
-use Rattle.signal_table.specs.Built.{accepted, builtFrom, bufferFrom, checkFrom}
+use Rattle.machine_builder.specs.Built.{accepted}
+use Rattle.signal_table.specs.Built.{builtFrom, bufferFrom, checkFrom}
 
 -- of a well-formed table with at most 256 reachable states
 pub record Builds (t : List ℕ) : Type 0 where
