@@ -34,10 +34,9 @@ module _ (t : List ℕ) (d : Decoded) (h : Holds t (tableOf t) d) (m : Machine) 
       }
 
   -- from signal 0 with every category open: the plain resolver's answer
-  pub plain-right : (v : List ℕ) → length v ≤ 4096 → tableRefusal t ≡ 0
-      → resolvedFrom t d m (Direct startNow) v ≡ plainOf t v
+  pub plain-right : {x : Current} → x ≡ Direct startNow → (v : List ℕ) → length v ≤ 4096 → tableRefusal t ≡ 0 → resolvedFrom t d m x v ≡ plainOf t v
   unfolding plainOf signalNow
-  plain-right v short formed =
-      ap (λ (x : State). resolvedFrom t d m (Direct x) v) (sym (coded-start (tableOf t) (tableOf t .cats)))
+  plain-right e v short formed =
+      ap (λ (x : Current). resolvedFrom t d m x v) (e ∙ ap Direct (sym (coded-start (tableOf t) (tableOf t .cats))))
       ∙ resolved-right t (tableOf t) d h m v short (Valid (envOf (tableOf t)) (tableOf t .cats) (nodes (tableOf t))) (step (envOf (tableOf t))) (shown (tableOf t))
       direct-steps (start (tableOf t .cats)) (valid-start (tableOf t) (h .well-formed)) formed (λ st. st .signal) (λ st. refl)

@@ -1,23 +1,22 @@
 -- One value fed: the run from the carried state.
 use Prim.Native.Nat.{ℕ, _+_, _≤_, _<_}
-use mathlib.Core.Path.{_≡_, refl, sym, ap, ap₂, _∙_, subst}
-use mathlib.Core.Bool.{true, false, cond, _&&_}
+use mathlib.Core.Path.{_≡_, sym, ap, _∙_, subst}
+use mathlib.Core.Bool.{true, false, cond}
 use mathlib.Core.List.{List, [], _∷_, foldl}
-use lib.Dec.{leb, ltb}
-use lib.ListN.{length, take, length-map, length-take}
+use lib.ListN.{length}
 use borrow.Author.Tests.{eq-eqb, ne-eqb}
 use native.Mathlib.Omega.{arith}
 use Rattle.alert_info.specs.Value.{refusalOf, urisOf}
-use Rattle.resolution.specs.Table.{Urn, Table}
-use Rattle.resolution.specs.Direct.{envOf, step, usedOf, StateOf}
+use Rattle.resolution.specs.Table.{Urn}
+use Rattle.resolution.specs.Direct.{envOf, step, StateOf}
 use Rattle.resolution.specs.Direct as direct
 use Rattle.resolution.specs.Nodes.{nodes}
-use Rattle.resolution.proofs.Step.{Valid, status-length}
+use Rattle.resolution.proofs.Step.{Valid}
 use Rattle.resolution.proofs.TableStep.{state-step, state-valid}
 use Rattle.node_step.specs.Step.{coded}
 use Rattle.node_step.specs.declared.State.{State}
 use Rattle.carried_record.specs.declared.Carried.{Carried}
-use Rattle.carried_record.specs.Record.{stateIn, carriedAs, carriedFits, counted}
+use Rattle.carried_record.specs.Record.{stateIn, carriedFits, counted}
 use Rattle.carried_record.specs.Coded.{Fits, fitsBy, stateWith, carriedWith}
 use Rattle.carried_record.proofs.FitLaws.{record-right}
 use Rattle.carried_record.proofs.StateLaws.{state-coded, carried-state, carried-coded}
@@ -28,7 +27,7 @@ use Rattle.stored_table.proofs.Accepting.{accepted}
 use Rattle.resolver.specs.declared.Resolution.{Resolution}
 use Rattle.resolver.specs.declared.run.Current.{Current}
 use Rattle.resolver.specs.declared.run.Outcome.{Outcome}
-use Rattle.resolver.specs.Resolve.{takenAs, refused, answered}
+use Rattle.resolver.specs.Resolve.{refused, answered}
 use Rattle.resolver.specs.Run.{Direct, Machine, runFrom, answerOf, begin}
 use Rattle.resolver.specs.Feed.{unchanged, onlyCounted, stateAfter, goesOn, readFrom, feedOf}
 use Rattle.resolver.proofs.AnswerLaws.{Ended, run-ends}
@@ -70,13 +69,13 @@ module _ (t : List ℕ) (ok : tableRefusal t ≡ 0) (v : List ℕ) (r : Carried)
 -- the run over a value from what a fitting record carries
 module _ (t : List ℕ) (d : Decoded) (means : Means t d) (ok : tableRefusal t ≡ 0) (r : Carried) (wide : length (r .status) ≡ 8) (fit : Fits (tableOf t) r)
     (m : Machine) (v : List ℕ) (short : length v ≤ 4096) where
-  pub fed-ends : {s : State} → s ≡ stateWith r → {o : Outcome} → o ≡ runFrom t d m v (begin (Direct s)) 0
+  pub fed-ends : {s : State} → s ≡ stateWith r → {x : Current} → x ≡ Direct s → {o : Outcome} → o ≡ runFrom t d m v (begin x) 0
       → Ended t v (Direct (coded (tableOf t) (stateAfter t (stateIn (tableOf t) r) (urisOf v)))) o
-  fed-ends e q =
+  fed-ends e f q =
       let T = tableOf t in
       let st = stateIn T r in
       let c = state-coded T (accepted t ok .few-categories) r wide fit in
-      let z = q ∙ ap (λ (x : State). runFrom t d m v (begin (Direct x)) 0) (e ∙ c) in
+      let z = q ∙ ap (λ (x : Current). runFrom t d m v (begin x) 0) (f ∙ ap Direct (e ∙ c)) in
       subst (Ended t v (Direct (coded T (stateAfter t st (urisOf v))))) (sym z)
       (run-ends t T d (means .holds ok) m v short (Valid (envOf T) (T .cats) (nodes T)) (step (envOf T)) (shown T) (direct-steps t d (means .holds ok) m)
       st (state-valid T st (state-carried t ok r wide fit)))
