@@ -31,11 +31,11 @@ enum {
     MACHINE_NO_ROOM = 14,             /* the image does not fit the buffer */
     MACHINE_BAD_FORM = 15,            /* the image is not of the form that the table asks for: docs/RULES.md, section 6 */
     MACHINE_WRONG_START = 16,         /* state 0 is another than the start */
-    MACHINE_WRONG_ROW = 17            /* a row leads to a state whose signal or shut set is wrong */
+    MACHINE_WRONG_ROW = 17            /* a row leads to a state with a wrong signal or status */
 };
 
 /* No image is longer than this: a buffer of so many bytes has room for every machine. */
-#define MACHINE_LONGEST 33667
+#define MACHINE_LONGEST 35459
 
 /* What a build answers: its refusal number, and how long the image is, which is 0 after a refusal. */
 typedef struct machine_built {

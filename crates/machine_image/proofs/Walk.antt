@@ -22,15 +22,15 @@ use Rattle.machine_image.proofs.Form.{Formed, form-to, form-symbols}
 use Rattle.machine_image.proofs.Check.{check-to}
 
 module _ (T : Table) (im : List ℕ) where
-  pub machine-state-in : (j : ℕ) → j < stateCount im → machineState (machineIn T im) j ≡ stateIn (T .cats) im j
+  pub machine-state-in : (j : ℕ) → j < stateCount im → machineState (machineIn T im) j ≡ stateIn T im j
   unfolding machineIn
-  machine-state-in j h = tabulate-at (stateIn (T .cats) im) (stateCount im) j blank h
+  machine-state-in j h = tabulate-at (stateIn T im) (stateCount im) j blank h
 
-  pub machine-signal : (j : ℕ) → j < stateCount im → signalAt (machineIn T im) j ≡ signalIn im j
+  pub machine-signal : (j : ℕ) → j < stateCount im → signalAt (machineIn T im) j ≡ signalIn (T .cats) im j
   machine-signal j h = ap (λ e. e .pair .signal) (machine-state-in j h)
 
-  pub machine-target : (j k : ℕ) → j < stateCount im → k < symbolCount im → target (machineIn T im) j k ≡ targetIn im j k
-  machine-target j k h i = ap (λ e. getD (e .row) k 0) (machine-state-in j h) ∙ tabulate-at (targetIn im j) (symbolCount im) k 0 i
+  pub machine-target : (j k : ℕ) → j < stateCount im → k < symbolCount im → target (machineIn T im) j k ≡ targetIn (T .cats) im j k
+  machine-target j k h i = ap (λ e. getD (e .row) k 0) (machine-state-in j h) ∙ tabulate-at (targetIn (T .cats) im j) (symbolCount im) k 0 i
 
 -- wherever the form is right, the walk stays among the states and is the walk of the machine in the image
 module _ (T : Table) (im : List ℕ) (ok : Formed T im) where
@@ -61,7 +61,7 @@ module _ (T : Table) (im : List ℕ) (ok : Formed T im) where
   walk-signal l used = ap (signalAt (machineIn T im)) (walk-same l used) ∙ machine-signal T im (walkIn T im l) (walk-below l used)
 
   changes-same : (j : ℕ) → j < stateCount im → (l : List (Option Urn)) → AllUsed T l
-      → changes (signalAt (machineIn T im)) (stepUri (walkStep T (machineIn T im))) j l ≡ changes (signalIn im) (stepUri (stepIn T im)) j l
+      → changes (signalAt (machineIn T im)) (stepUri (walkStep T (machineIn T im))) j l ≡ changes (signalIn (T .cats) im) (stepUri (stepIn T im)) j l
   changes-same j h [] used = refl
   changes-same j h (none ∷ l) used = rw (machine-signal T im j h, changes-same j h l used)
   changes-same j h (some u ∷ l) used =

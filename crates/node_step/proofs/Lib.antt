@@ -1,5 +1,8 @@
 pub mod PackedLaws
 pub mod NumberLaws
+pub mod ProgressLaws
+pub mod ByteLaws
+pub mod PackedStep
 pub mod StepLaws
 pub mod StepRight
 pub mod Leaves

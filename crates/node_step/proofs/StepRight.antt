@@ -2,35 +2,38 @@
 use Prim.Native.Nat.{ℕ, zero, suc, _+_, _-_, _≤_, _<_}
 use mathlib.Core.Path.{_≡_, refl, sym, ap, ap₂, _∙_}
 use mathlib.Core.Logic.{_⊎_, inl, inr, _≢_}
-use mathlib.Core.Bool.{Bool, true, false, cond, not, _&&_, and-false, true≢false}
+use mathlib.Core.Bool.{Bool, true, false, cond, not, _&&_, and-false, true≢false, false≢true, and-eq-true-iff}
 use mathlib.Core.Option.{Option, none, some}
 use mathlib.Core.List.{List, [], _∷_, _++_, append-assoc, append-nil}
 use lib.Dec.{eqb, ltb}
 use borrow.Author.Tests.{eqb-true, eq-eqb, ne-eqb, lt-ltb, le-leb, lt-leb}
 use lib.ListN.{length, getD, set, length-append, length-set}
-use lib.Seq.{set-getD}
 use native.Mathlib.Omega.{arith}
 use native.Mathlib.Nat.{zero-add}
-use Rattle.resolution.specs.Names.{Name, Parts, sameParts, below, candidates}
-use Rattle.resolution.proofs.Names.{parts-exact, row-exact, below-to, below-self, snoc-view, candidates-snoc, someBelow, above-none, above-snoc}
+use Rattle.resolution.specs.Names.{Name, Parts, sameParts, below, somePart, properAncestor, Above, candidates}
+use Rattle.resolution.proofs.Names.{parts-exact, row-exact, below-to, below-self, proper-above, above-trans, snoc-view, candidates-snoc, someBelow, some-above, above-some, above-none, above-snoc}
 use Rattle.resolution.specs.Table.{Table, Row, rowOf, sameRow, find, WellFormed}
 use Rattle.resolution.proofs.Table.{row-length, find-below}
-use Rattle.resolution.specs.Nodes.{nodes, isNode, RootOrNode}
-use Rattle.resolution.proofs.Nodes.{row-nodes}
+use Rattle.resolution.specs.Nodes.{nodes, isNode, RootOrNode, hasUnder, isInner}
+use Rattle.resolution.proofs.Nodes.{root-free, row-nodes}
+use Rattle.resolution.proofs.Deepest.{inner-node}
 use Rattle.resolution.proofs.TableStep.{table-laws}
 use Rattle.resolution.specs.Nodes.{number, nodeAt}
 use Rattle.resolution.proofs.Numbers.{number-node, root-number, number-same, number-test, parent-node}
-use Rattle.resolution.specs.Direct.{Status, Open, Shut, Env, envOf, found, firstHit, openIf}
+use Rattle.resolution.specs.Direct.{Env, envOf, found, firstHit, heldIf, openOr, statusFits}
 use Rattle.resolution.specs.Direct as direct
 use Rattle.resolution.proofs.Direct.{search-hit}
 use Rattle.resolution.proofs.Lists.{same-test, getD-set-cases}
 use Rattle.resolution.proofs.Step.{Valid, hit-node}
 use Rattle.resolution.specs.NodeStep.{nodeUnder, nodeTakes, nodeMove, nodeIfTaken, nodeStep}
+use Rattle.node_step.specs.declared.Status.{Status}
+use Rattle.node_step.specs.declared.Status.the-variants.{Open, Held, Shut}
 use Rattle.node_step.specs.declared.State.{State}
 use Rattle.node_step.specs.declared.Hit.{Hit}
-use Rattle.node_step.specs.Step.{bits, coded, few, withShut, digit, put, rowAt, parentOf, reaches, findRow, noHit, hitAt, seek, takes, moved, stepNumbers}
-use Rattle.node_step.specs.Arrays.{pack, numbersFrom, Numbers}
-use Rattle.node_step.proofs.PackedLaws.{pack-digit, pack-set, pack-same, shutTest, bit-at, bit-set}
+use Rattle.node_step.specs.Step.{codedStatus, progressFrom, coded, few, digit, put, rowAt, parentOf, innerAt, reaches, findRow, noHit, hitAt, seek, extends, statusIn, isShut, lastTaken, takesPast, takes, statusFrom, moved, stepNumbers}
+use Rattle.node_step.specs.Arrays.{pack, numbersFrom, Numbers, InnerIn}
+use Rattle.node_step.proofs.PackedLaws.{pack-digit, pack-set, pack-same}
+use Rattle.node_step.proofs.ProgressLaws.{progress-at, progress-set}
 use Rattle.node_step.proofs.NumberLaws.{numbers-length, numbers-at, numbers-set, numbers-bytes, Anchored, numbers-same, foundRow, finds}
 
 module _ (rows ps : List ℕ) (n : ℕ) (t : Table) (wf : WellFormed t) (nu : Numbers rows ps n t) (c : ℕ) (known : c < t .cats) where
@@ -201,14 +204,10 @@ module _ (rows ps : List ℕ) (n : ℕ) (t : Table) (wf : WellFormed t) (nu : Nu
             rw (w .2, ← append-assoc q (w .0) (w .1 ∷ []))
             (seek-node k (w .0) (w .1) (rw (w .2, ← append-assoc q (w .0) (w .1 ∷ [])) at a) (ih (w .0) (omega (arith, length-append (w .0) (w .1 ∷ []), ap length (w .2)))))
 
--- what a category takes, by its status and what is left below its place
-abbrev takesBy : Status → Option Parts → Bool → Bool
-takesBy Open u whole = nodeUnder u whole
-takesBy Shut u whole = false
-
-takes-by : (o : Status) (q d : Parts) (whole : Bool) → nodeTakes o q d whole ≡ takesBy o (below q d) whole
-takes-by Open q d whole = refl
-takes-by Shut q d whole = refl
+-- what has a proper extension of p has p above it
+some-under : (u : Option Parts) (whole : Bool) → nodeUnder u whole ≡ true → someBelow u ≡ true
+some-under none whole e = absurd (false≢true e)
+some-under (some r) whole e = refl
 
 -- a path no node of the table is longer than
 few-parts-at : {rows ps : List ℕ} {n : ℕ} (t : Table) → Numbers rows ps n t → (c : ℕ) (d : Parts) → RootOrNode (nodes t) c d → length d ≤ 8
@@ -217,12 +216,64 @@ few-parts-at t nu c d (inr e) =
     let w = number-node (nodes t) c d e in
     omega (arith, nu .few-parts (w .0) (w .1), ap (λ u. length (u .path)) (w .3))
 
-openIf-bits : (l : List Status) (c : ℕ) → c < length l → getD l c Open ≡ Open → (b : Bool) → cond b (bits l) (withShut (bits l) c) ≡ bits (set l c (openIf b))
-openIf-bits l c h e true = ap bits (sym (set-getD l c Open) ∙ ap (set l c) e)
-openIf-bits l c h e false = sym (bit-set l c h e)
+-- a node or root's number tells whether it has nodes under it
+pub inner-right : (inner : List Bool) (t : Table) → InnerIn inner t → length (nodes t) ≤ 64 → (c : ℕ) (d : Parts) → RootOrNode (nodes t) c d
+    → innerAt inner (number (nodes t) c d) ≡ isInner (nodes t) c d
+inner-right inner t ii few c d (inl e) =
+    let z : number (nodes t) c d ≡ 0 = ap (number (nodes t) c) e ∙ root-number t c in
+    let n : isNode (nodes t) c d ≡ false = ap (isNode (nodes t) c) e ∙ root-free t c in
+    rw (eq-eqb (number (nodes t) c d) 0 z, n)
+inner-right inner t ii few c d (inr e) =
+    let w = number-node (nodes t) c d e in
+    let i : suc (w .0) - 1 ≡ w .0 = omega arith in
+    ap (innerAt inner) (w .2)
+    ∙ rw (ne-eqb (suc (w .0)) 0 (λ z. omega arith), le-leb (suc (w .0)) 64 (omega (arith, w .1)), i)
+    (ii (w .0) (w .1) ∙ ap (λ u. hasUnder (nodes t) (u .cat) (u .path)) (w .3) ∙ sym (ap (λ b. b && hasUnder (nodes t) c d) e))
 
-module _ (rows ps : List ℕ) (n : ℕ) (t : Table) (wf : WellFormed t) (nu : Numbers rows ps n t) (st : direct.State) (g : Valid (envOf t) (t .cats) (nodes t) st)
-    (c : ℕ) (known : c < t .cats) (d : Parts) (ad : RootOrNode (nodes t) c d) (whole : Bool) where
+module _ (rows ps : List ℕ) (n : ℕ) (t : Table) (wf : WellFormed t) (nu : Numbers rows ps n t) (c : ℕ) (known : c < t .cats) (d : Parts) (ad : RootOrNode (nodes t) c d) (whole : Bool) where
+  -- p is a proper ancestor of what is said
+  pub extends-right : (p : Parts) → RootOrNode (nodes t) c p → extends ps (number (nodes t) c p) (number (nodes t) c d) whole ≡ nodeUnder (below p d) whole
+  unfolding extends
+  extends-right p a =
+      ap₂ _&&_ (ap (λ b. not (whole && b)) (number-test t c d p ad a))
+      (reach-right rows ps n t wf nu c known p a 9 d (omega (arith, few-parts-at t nu c d ad)) ad)
+      ∙ by (below p d) refl
+    where
+      same : p ≡ d → sameParts d p ≡ true
+      same e = ap (sameParts d) e ∙ parts-exact .self d
+
+      other : (x : Name) (r : Parts) → p ++ x ∷ r ≡ d → (b : Bool) → sameParts d p ≡ b → b ≡ false
+      other x r e false i = refl
+      other x r e true i = absurd (omega (arith, length-append p (x ∷ r), ap length e, ap length (parts-exact .to d p i)))
+
+      further : (w : Bool) → not (w && false) && true ≡ true
+      further true = refl
+      further false = refl
+
+      there : (w : Bool) → not (w && true) && true ≡ not w
+      there true = refl
+      there false = refl
+
+      by : (u : Option Parts) → below p d ≡ u → not (whole && sameParts d p) && someBelow u ≡ nodeUnder u whole
+      by none e = and-false (not (whole && sameParts d p))
+      by (some []) e = rw (same (sym (append-nil p) ∙ below-to p d [] e)) (there whole)
+      by (some (x ∷ r)) e = rw (other x r (below-to p d (x ∷ r) e) (sameParts d p) refl) (further whole)
+
+-- the place of signal s is a proper ancestor of node w
+pub place-extends : (rows ps : List ℕ) (n : ℕ) (t : Table) (wf : WellFormed t) (nu : Numbers rows ps n t) (c : ℕ) (known : c < t .cats) (s : ℕ) → s < n
+    → (w : Parts) → isNode (nodes t) c w ≡ true → extends ps (digit (rowAt rows s) c) (number (nodes t) c w) true ≡ properAncestor (getD (rowOf t s) c []) w
+place-extends rows ps n t wf nu c known s h w e =
+    ap (λ z. extends ps z (number (nodes t) c w) true) (ap (λ z. digit z c) (row-is rows ps n t wf nu c known s h) ∙ digit-is rows ps n t wf nu c known s h)
+    ∙ extends-right rows ps n t wf nu c known w (inr e) true (getD (rowOf t s) c []) (q-anchor rows ps n t wf nu c known s h)
+    ∙ by (below (getD (rowOf t s) c []) w)
+  where
+    by : (o : Option Parts) → nodeUnder o true ≡ somePart o
+    by none = refl
+    by (some []) = refl
+    by (some (x ∷ r)) = refl
+
+module _ (rows ps : List ℕ) (inner : List Bool) (n : ℕ) (t : Table) (wf : WellFormed t) (nu : Numbers rows ps n t) (ii : InnerIn inner t)
+    (st : direct.State) (g : Valid (envOf t) (t .cats) (nodes t) st) (c : ℕ) (known : c < t .cats) (d : Parts) (ad : RootOrNode (nodes t) c d) (whole : Bool) where
   abbrev env : Env
   env = envOf t
 
@@ -235,95 +286,109 @@ module _ (rows ps : List ℕ) (n : ℕ) (t : Table) (wf : WellFormed t) (nu : Nu
   abbrev packs : ℕ
   packs = pack (numbersFrom (nodes t) 0 (rowOf t (st .signal)))
 
+  -- the category's status
+  abbrev now : direct.Status
+  now = getD (st .status) c direct.Open
+
   low : st .signal < n
   low = omega (arith, find-below (t .cats) 0 (t .signals) (rowOf t (st .signal)) (st .signal) (g .live), nu .all-signals)
 
   here-anchor : RootOrNode (nodes t) c here
   here-anchor = q-anchor rows ps n t wf nu c known (st .signal) low
 
+  -- where the category is held: a node below the place
+  held-node : (w : Parts) → statusFits (nodes t) c here (direct.Held w) ≡ true → (isNode (nodes t) c w ≡ true) × Above here w
+  held-node w e =
+      let k = and-eq-true-iff (properAncestor here w) (isInner (nodes t) c w) .0 e in
+      (inner-node (nodes t) c w (k .1), proper-above here w (k .0))
+
   -- the test
-  takes-right : takes ps (bits (st .status)) c (no here) (no d) whole
-      ≡ (not (shutTest (getD (st .status) c Open)) && (not (whole && sameParts d here) && someBelow (below here d)))
-  unfolding takes
-  takes-right =
-      ap₂ _&&_ (ap not (bit-at (st .status) c))
-      (ap₂ _&&_ (ap (λ b. not (whole && b)) (number-test t c d here ad here-anchor))
-      (reach-right rows ps n t wf nu c known here here-anchor 9 d (omega (arith, few-parts-at t nu c d ad)) ad))
+  takes-right : (o : direct.Status) → statusFits (nodes t) c here o ≡ true → takes ps (codedStatus (nodes t) c o) (no here) (no d) whole ≡ nodeTakes o here d whole
+  unfolding isShut lastTaken takesPast
+  takes-right direct.Open ok = extends-right rows ps n t wf nu c known d ad whole here here-anchor
+  takes-right (direct.Held w) ok = extends-right rows ps n t wf nu c known d ad whole w (inr (held-node w ok .0))
+  takes-right direct.Shut ok = refl
+
+  -- the status after a hit
+  status-right : (h : direct.Hit) → RootOrNode (nodes t) c (h .at)
+      → statusFrom inner (no d) whole (no (h .at)) ≡ codedStatus (nodes t) c (openOr (whole && sameParts (h .at) d) (heldIf (whole && isInner (nodes t) c d) d))
+  unfolding statusFrom
+  status-right h a =
+      ap₂ (λ x y. cond whole (cond x Open (cond y (Held (no d)) Shut)) Shut) (number-test t c (h .at) d a ad) (inner-right inner t ii (nu .few-nodes) c d ad)
+      ∙ by whole (sameParts (h .at) d) (isInner (nodes t) c d)
+    where
+      by : (w x y : Bool) → cond w (cond x Open (cond y (Held (no d)) Shut)) Shut ≡ codedStatus (nodes t) c (openOr (w && x) (heldIf (w && y) d))
+      by false x y = refl
+      by true true y = refl
+      by true false true = refl
+      by true false false = refl
 
   -- the move
-  move-right : (r : Parts) → here ++ r ≡ d → getD (st .status) c Open ≡ Open
-      → moved (coded st) c (no d) whole (seek rows ps n packs c (no here) 9 (no d)) ≡ coded (nodeMove env st c d whole (firstHit env (rowOf t (st .signal)) c (candidates here r)))
+  move-right : (r : Parts) → here ++ r ≡ d
+      → moved inner (coded t st) c (no d) whole (seek rows ps n packs c (no here) 9 (no d)) ≡ coded t (nodeMove env st c d whole (firstHit env (rowOf t (st .signal)) c (candidates here r)))
   unfolding moved
-  move-right r j o =
-      ap (moved (coded st) c (no d) whole)
+  move-right r j =
+      ap (moved inner (coded t st) c (no d) whole)
       (ap (λ z. seek rows ps n packs c (no here) 9 (no z)) (sym j)
       ∙ seek-right rows ps n t wf nu c known (st .signal) low 9 r (omega (arith, few-parts-at t nu c d ad, length-append here r, ap length j)) (rw j ad))
       ∙ go (firstHit env (rowOf t (st .signal)) c (candidates here r)) refl
     where
+      low-c : c < 8
+      low-c = let k = nu .few-cats in omega arith
+
+      put-status : (s : direct.Status) → set (progressFrom (nodes t) (st .status) 0 8) c (record { status = codedStatus (nodes t) c s }) ≡ progressFrom (nodes t) (set (st .status) c s) 0 8
+      put-status s = rw (zero-add c) at (progress-set (nodes t) (st .status) 0 8 c s low-c (omega (arith, g .sized)))
+
       go : (h : Option direct.Hit) → firstHit env (rowOf t (st .signal)) c (candidates here r) ≡ h
-          → moved (coded st) c (no d) whole (hitOf rows ps n t wf nu c known (st .signal) low h) ≡ coded (nodeMove env st c d whole h)
+          → moved inner (coded t st) c (no d) whole (hitOf rows ps n t wf nu c known (st .signal) low h) ≡ coded t (nodeMove env st c d whole h)
       go none e = refl
       go (some h) e =
           let w = search-hit env (rowOf t (st .signal)) c (candidates here r) h e in
           let a = hit-node env (t .cats) (nodes t) (table-laws t wf) (rowOf t (st .signal)) c (h .at) (h .signal) (wide rows ps n t wf nu c known (st .signal) low) (w .0) in
-          ap (λ b. record { signal = h .signal; shut = cond (whole && b) (bits (st .status)) (withShut (bits (st .status)) c) }) (number-test t c (h .at) d a ad)
-          ∙ ap (λ z. record { signal = h .signal; shut = z }) (openIf-bits (st .status) c (rw (g .sized) known) o (whole && sameParts (h .at) d))
+          ap (λ z. record { signal = h .signal; categories = set (progressFrom (nodes t) (st .status) 0 8) c (record { status = z }) }) (status-right h a)
+          ∙ ap (λ z. record { signal = h .signal; categories = z }) (put-status (openOr (whole && sameParts (h .at) d) (heldIf (whole && isInner (nodes t) c d) d)))
 
-  -- the whole step, from the test's parts
-  by-parts : (o : Status) → getD (st .status) c Open ≡ o → (u : Option Parts) → below here d ≡ u
-      → cond (not (shutTest o) && (not (whole && sameParts d here) && someBelow u)) (moved (coded st) c (no d) whole (seek rows ps n packs c (no here) 9 (no d))) (coded st)
-      ≡ coded (nodeIfTaken env st c d whole (takesBy o u whole) u)
-  by-parts Shut e u f = refl
-  by-parts Open e none f = rw (and-false (not (whole && sameParts d here)))
-  by-parts Open e (some []) f = go whole
+  -- what is taken lies at or under the place
+  taken-above : (o : direct.Status) → statusFits (nodes t) c here o ≡ true → nodeTakes o here d whole ≡ true → someBelow (below here d) ≡ true
+  taken-above direct.Open ok e = some-under (below here d) whole e
+  taken-above (direct.Held w) ok e = above-some here d (above-trans (held-node w ok .1) (some-above w d (some-under (below w d) whole e)))
+  taken-above direct.Shut ok e = absurd (false≢true e)
+
+  -- the whole step, by the test
+  by-test : (b : Bool) → nodeTakes now here d whole ≡ b
+      → cond b (moved inner (coded t st) c (no d) whole (seek rows ps n packs c (no here) 9 (no d))) (coded t st) ≡ coded t (nodeIfTaken env st c d whole b (below here d))
+  by-test false e = refl
+  by-test true e = go (below here d) refl
     where
-      same : d ≡ here
-      same = sym (below-to here d [] f) ∙ append-nil here
-
-      test : sameParts d here ≡ true
-      test = ap (sameParts d) (sym same) ∙ parts-exact .self d
-
-      go : (w : Bool)
-          → cond (not (w && sameParts d here) && true) (moved (coded st) c (no d) whole (seek rows ps n packs c (no here) 9 (no d))) (coded st)
-          ≡ coded (nodeIfTaken env st c d whole (not w) (some []))
-      go true = rw test
-      go false = move-right [] (below-to here d [] f) e
-  by-parts Open e (some (x ∷ r)) f = go whole
-    where
-      test : sameParts d here ≡ false
-      test = no-test (sameParts d here) refl
-        where
-          no-test : (b : Bool) → sameParts d here ≡ b → b ≡ false
-          no-test false i = refl
-          no-test true i =
-              let k = parts-exact .to d here i in
-              absurd (omega (arith, length-append here (x ∷ r), ap length (below-to here d (x ∷ r) f), ap length k))
-
-      go : (w : Bool)
-          → cond (not (w && sameParts d here) && true) (moved (coded st) c (no d) whole (seek rows ps n packs c (no here) 9 (no d))) (coded st)
-          ≡ coded (nodeIfTaken env st c d whole true (some (x ∷ r)))
-      go true = rw test (move-right (x ∷ r) (below-to here d (x ∷ r) f) e)
-      go false = move-right (x ∷ r) (below-to here d (x ∷ r) f) e
+      go : (u : Option Parts) → below here d ≡ u
+          → moved inner (coded t st) c (no d) whole (seek rows ps n packs c (no here) 9 (no d)) ≡ coded t (nodeIfTaken env st c d whole true u)
+      go none f = absurd (false≢true (rw f at (taken-above now (g .fits c known) e)))
+      go (some r) f = move-right r (below-to here d r f)
 
   -- the step by numbers is the step at the node
-  pub step-right : stepNumbers rows ps n (coded st) c (number (nodes t) c d) whole ≡ coded (nodeStep (envOf t) st c d whole)
+  pub step-right : stepNumbers rows ps inner n (coded t st) c (number (nodes t) c d) whole ≡ coded t (nodeStep (envOf t) st c d whole)
   unfolding stepNumbers nodeStep
   step-right =
-      ap (λ b. cond b (coded st) body) (lt-leb 8 c (let k = nu .few-cats in omega arith))
-      ∙ ap₂ (λ r m. cond (takes ps (bits (st .status)) c (digit r c) (no d) whole) (moved (coded st) c (no d) whole (seek rows ps m r c (digit r c) 9 (no d))) (coded st))
+      ap (λ b. cond b (coded t st) body) (lt-leb 8 c (let k = nu .few-cats in omega arith))
+      ∙ ap₂ (λ r m. cond (takes ps (statusIn (progressFrom (nodes t) (st .status) 0 8) c) (digit r c) (no d) whole) (moved inner (coded t st) c (no d) whole (seek rows ps m r c (digit r c) 9 (no d))) (coded t st))
       (row-is rows ps n t wf nu c known (st .signal) low)
       (few-is n (nu .few-signals))
-      ∙ ap (λ z. cond (takes ps (bits (st .status)) c z (no d) whole) (moved (coded st) c (no d) whole (seek rows ps n packs c z 9 (no d))) (coded st))
+      ∙ ap₂ (λ s z. cond (takes ps s z (no d) whole) (moved inner (coded t st) c (no d) whole (seek rows ps n packs c z 9 (no d))) (coded t st))
+      status-is
       (digit-is rows ps n t wf nu c known (st .signal) low)
-      ∙ ap (λ b. cond b (moved (coded st) c (no d) whole (seek rows ps n packs c (no here) 9 (no d))) (coded st)) takes-right
-      ∙ by-parts (getD (st .status) c Open) refl (below here d) refl
-      ∙ ap (λ b. coded (nodeIfTaken env st c d whole b (below here d))) (sym (takes-by (getD (st .status) c Open) here d whole))
+      ∙ ap (λ b. cond b (moved inner (coded t st) c (no d) whole (seek rows ps n packs c (no here) 9 (no d))) (coded t st)) (takes-right now (g .fits c known))
+      ∙ by-test (nodeTakes now here d whole) refl
     where
       few-is : (n : ℕ) → n ≤ 32 → few n ≡ n
       few-is n h = rw (le-leb n 32 h)
 
+      status-is : statusIn (progressFrom (nodes t) (st .status) 0 8) c ≡ codedStatus (nodes t) c now
+      status-is =
+          ap (λ p. p .status) (progress-at (nodes t) (st .status) 0 8 c (record { status = Open }) (let k = nu .few-cats in omega arith))
+          ∙ ap (λ z. codedStatus (nodes t) z (getD (st .status) z direct.Open)) (zero-add c)
+
       body : State
       body =
-          cond (takes ps (bits (st .status)) c (digit (rowAt rows (st .signal)) c) (no d) whole)
-          (moved (coded st) c (no d) whole (seek rows ps (few n) (rowAt rows (st .signal)) c (digit (rowAt rows (st .signal)) c) 9 (no d)))
-          (coded st)
+          cond (takes ps (statusIn (progressFrom (nodes t) (st .status) 0 8) c) (digit (rowAt rows (st .signal)) c) (no d) whole)
+          (moved inner (coded t st) c (no d) whole (seek rows ps (few n) (rowAt rows (st .signal)) c (digit (rowAt rows (st .signal)) c) 9 (no d)))
+          (coded t st)

@@ -1,3 +1,4 @@
 pub mod Arrays
 pub mod Step
 pub mod Uses
+pub mod StatusByte

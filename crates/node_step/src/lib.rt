@@ -1,16 +1,29 @@
 pub mod marks;
+pub mod stored;
 pub mod uses;
 
 ghost use mathlib.Core.Path.{_≡_};
-ghost use mathlib.Core.Bool.{_&&_, false};
+ghost use mathlib.Core.Bool.{_&&_};
 ghost use Prim.Native.Nat.{_≤_, _<_};
 ghost use lib.Dec.{eqb};
-ghost use Rattle.node_step.specs.Step.{few, rowAt, isShut, withShut, digit, put, parentOf, reaches, findRow, seek, takes, moved, stepNumbers};
+ghost use Rattle.node_step.specs.Step.{few, rowAt, digit, put, parentOf, innerAt, reaches, findRow, seek, extends, progressIn, isShut, lastTaken, takesPast, statusFrom, moved, stepNumbers};
 
-// The current signal, and the shut categories: bit c for category c.
+// What a category remembers of the URN last taken there: it is open at its place, held at a node, or shut for good.
+pub enum Status {
+    Open,
+    Held(u8),
+    Shut,
+}
+
+// One category's progress.
+pub struct Progress {
+    pub status: Status,
+}
+
+// The current signal, and each category's progress; a category that the table lacks is open.
 pub struct State {
     pub signal: u8,
-    pub shut: u8,
+    pub categories: [Progress; 8],
 }
 
 // A signal that was found, with the node at which it was.
@@ -21,7 +34,7 @@ pub struct Hit {
 }
 
 // n, or 32 if that is less.
-fn few_of(n: usize) -> usize
+pub(crate) fn few_of(n: usize) -> usize
     ensures { λ r. ⌜ r ≡ few n ⌝ }
     ensures { λ r. ⌜ r ≤ 32 ⌝ }
 {
@@ -31,27 +44,8 @@ fn few_of(n: usize) -> usize
     32
 }
 
-// Bit c of the shut set.
-fn is_shut(shut: u8, c: usize) -> bool
-    requires { ⌜ c < 8 ⌝ }
-    ensures { λ r. ⌜ r ≡ isShut shut c ⌝ }
-{
-    let x = shut as usize;
-    (x >> c) % 2 == 1
-}
-
-// The shut set with bit c, which it does not have.
-fn with_shut(shut: u8, c: usize) -> u8
-    requires { ⌜ (c < 8) × (isShut shut c ≡ false) ⌝ }
-    ensures { λ r. ⌜ r ≡ withShut shut c ⌝ }
-{
-    let one: usize = 1;
-    let x = shut as usize + (one << c);
-    x as u8
-}
-
 // The places of a signal, one byte for each category.
-fn row_at(rows: &[u64; 32], s: u8) -> u64
+pub(crate) fn row_at(rows: &[u64; 32], s: u8) -> u64
     ensures { λ r. ⌜ r ≡ rowAt (now (rows .entry)) s ⌝ }
 {
     let i = s as usize;
@@ -62,7 +56,7 @@ fn row_at(rows: &[u64; 32], s: u8) -> u64
 }
 
 // The place in category c.
-fn digit_at(row: u64, c: usize) -> u8
+pub(crate) fn digit_at(row: u64, c: usize) -> u8
     requires { ⌜ c < 8 ⌝ }
     ensures { λ r. ⌜ r ≡ digit row c ⌝ }
 {
@@ -71,7 +65,7 @@ fn digit_at(row: u64, c: usize) -> u8
 }
 
 // The row with p for its place q in category c.
-fn put_at(row: u64, c: usize, q: u8, p: u8) -> u64
+pub(crate) fn put_at(row: u64, c: usize, q: u8, p: u8) -> u64
     requires { ⌜ (c < 8) × (q ≡ digit row c) ⌝ }
     ensures { λ r. ⌜ r ≡ put row c p ⌝ }
 {
@@ -93,6 +87,20 @@ fn parent(parents: &[u8; 64], d: u8) -> u8
         return parents[i];
     }
     0
+}
+
+// Node d has nodes under it.
+fn inner_at(inner: &[bool; 64], d: u8) -> bool
+    ensures { λ r. ⌜ r ≡ innerAt (now (inner .entry)) d ⌝ }
+{
+    if d == 0 {
+        return false;
+    }
+    if d <= 64 {
+        let i = d as usize - 1;
+        return inner[i];
+    }
+    false
 }
 
 // The node or root q is d or an ancestor of d, at most 8 nodes above it.
@@ -130,7 +138,7 @@ fn find_row(rows: &[u64; 32], n: usize, key: u64) -> usize
 }
 
 // The first of d and its ancestors down to q at which there is a signal with that place in c and the row's places elsewhere.
-fn seek_from<'a>(
+pub(crate) fn seek_from<'a>(
     rows: &'a [u64; 32],
     parents: &'a [u8; 64],
     n: usize,
@@ -181,35 +189,93 @@ fn whole_at(whole: bool, p: u8, d: u8) -> bool
     false
 }
 
-// The category c, open, with the place q, takes what lies at or under d.
-fn takes_at(parents: &[u8; 64], shut: u8, c: usize, q: u8, d: u8, whole: bool) -> bool
-    requires { ⌜ c < 8 ⌝ }
-    ensures { λ r. ⌜ r ≡ takes (now (parents .entry)) shut c q d whole ⌝ }
+// The node or root q is a proper ancestor of what is said: d itself if whole, something under d if not.
+pub(crate) fn extends_of(parents: &[u8; 64], q: u8, d: u8, whole: bool) -> bool
+    ensures { λ r. ⌜ r ≡ extends (now (parents .entry)) q d whole ⌝ }
 {
-    if is_shut(shut, c) {
-        return false;
-    }
     if whole_at(whole, d, q) {
         return false;
     }
     reaches_of(parents, q, d)
 }
 
+// The progress of category c.
+pub(crate) fn progress_in(categories: [Progress; 8], c: usize) -> Progress
+    requires { ⌜ c < 8 ⌝ }
+    ensures { λ r. ⌜ r ≡ progressIn categories c ⌝ }
+{
+    categories[c]
+}
+
+fn is_shut(progress: Progress) -> bool
+    ensures { λ r. ⌜ r ≡ isShut (progress .status) ⌝ }
+{
+    let status = progress.status;
+    match status {
+        Status::Open => false,
+        Status::Held(_) => false,
+        Status::Shut => true,
+    }
+}
+
+// The node of the URN last taken in a category with the place q, or the root.
+pub(crate) fn last_taken(progress: Progress, q: u8) -> u8
+    ensures { λ r. ⌜ r ≡ lastTaken (progress .status) q ⌝ }
+{
+    let status = progress.status;
+    match status {
+        Status::Open => q,
+        Status::Held(w) => w,
+        Status::Shut => q,
+    }
+}
+
+// A category takes what is said: it is not shut, and what is said properly extends the URN last taken there.
+pub(crate) fn takes_at(parents: &[u8; 64], progress: Progress, last: u8, d: u8, whole: bool) -> bool
+    ensures { λ r. ⌜ r ≡ takesPast (now (parents .entry)) (progress .status) last d whole ⌝ }
+{
+    if is_shut(progress) {
+        return false;
+    }
+    extends_of(parents, last, d, whole)
+}
+
+// A category's progress after a signal was found at node p: open if all of what is said was found, else held at d, or shut.
+pub(crate) fn progress_from(inner: &[bool; 64], d: u8, whole: bool, p: u8) -> Progress
+    ensures { λ r. ⌜ r .status ≡ statusFrom (now (inner .entry)) d whole p ⌝ }
+{
+    if !whole {
+        return Progress {
+            status: Status::Shut,
+        };
+    }
+    if p == d {
+        return Progress {
+            status: Status::Open,
+        };
+    }
+    if inner_at(inner, d) {
+        return Progress {
+            status: Status::Held(d),
+        };
+    }
+    Progress {
+        status: Status::Shut,
+    }
+}
+
 // The state after a search.
-fn moved_by(st: State, c: usize, d: u8, whole: bool, h: Hit) -> State
-    requires { ⌜ (c < 8) × (isShut (st .shut) c ≡ false) ⌝ }
-    ensures { λ r. ⌜ r ≡ moved st c d whole h ⌝ }
+fn moved_by(inner: &[bool; 64], st: State, c: usize, d: u8, whole: bool, h: Hit) -> State
+    requires { ⌜ c < 8 ⌝ }
+    ensures { λ r. ⌜ r ≡ moved (now (inner .entry)) st c d whole h ⌝ }
 {
     if h.found {
-        if whole_at(whole, h.node, d) {
-            return State {
-                signal: h.signal,
-                shut: st.shut,
-            };
-        }
+        let progress = progress_from(inner, d, whole, h.node);
+        let mut categories = st.categories;
+        categories[c] = progress;
         return State {
             signal: h.signal,
-            shut: with_shut(st.shut, c),
+            categories,
         };
     }
     st
@@ -219,23 +285,27 @@ fn moved_by(st: State, c: usize, d: u8, whole: bool, h: Hit) -> State
 pub fn step<'a>(
     rows: &'a [u64; 32],
     parents: &'a [u8; 64],
+    inner: &'a [bool; 64],
     signals: usize,
     st: State,
     c: usize,
     d: u8,
     whole: bool,
 ) -> State
-    ensures { λ r. ⌜ r ≡ stepNumbers (now (rows .entry)) (now (parents .entry)) signals st c d whole ⌝ }
+    ensures { λ r. ⌜ r ≡ stepNumbers (now (rows .entry)) (now (parents .entry)) (now (inner .entry)) signals st c d whole ⌝ }
 {
     if 8 <= c {
         return st;
     }
     let row = row_at(rows, st.signal);
     let q = digit_at(row, c);
-    if takes_at(parents, st.shut, c, q, d, whole) {
+    let categories = st.categories;
+    let progress = progress_in(categories, c);
+    let last = last_taken(progress, q);
+    if takes_at(parents, progress, last, d, whole) {
         let n = few_of(signals);
         let h = seek_from(rows, parents, n, row, c, q, d);
-        return moved_by(st, c, d, whole, h);
+        return moved_by(inner, st, c, d, whole, h);
     }
     st
 }

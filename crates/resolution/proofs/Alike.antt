@@ -2,20 +2,21 @@
 use Prim.Native.Nat.{ℕ, _<_}
 use mathlib.Core.Path.{_≡_, refl, sym, ap, subst, _∙_}
 use mathlib.Core.Logic.{_⊎_, inl, inr}
-use mathlib.Core.Bool.{Bool, true, false, not, _&&_, _||_, true≢false}
+use mathlib.Core.Bool.{Bool, true, false, not, _&&_, _||_, true≢false, and-eq-true-iff}
 use mathlib.Core.Option.{Option, none, some}
 use mathlib.Core.List.{List, [], _∷_, foldl, append-nil, List·Memᴰ, List·Memᴰ·head, List·Memᴰ·tail}
 use lib.ListN.{getD, set}
 use lib.Seq.{getD-set-same, getD-set-other}
 use native.Mathlib.Decide.{ℕ-discrete}
-use Rattle.resolution.specs.Names.{Parts, sameParts, below, candidates}
+use Rattle.resolution.specs.Names.{Parts, sameParts, below, properAncestor, candidates}
 use Rattle.resolution.proofs.Lists.{or-true}
 use Rattle.resolution.proofs.Names.{parts-exact, below-to}
 use Rattle.resolution.specs.Table.{Urn}
-use Rattle.resolution.specs.Nodes.{leaf, deepest}
-use Rattle.resolution.specs.Direct.{Status, Open, Shut, State, Env, Hit, firstHit, openIf, step}
+use Rattle.resolution.specs.Nodes.{isInner, leaf, deepest}
+use Rattle.resolution.specs.Direct.{Status, Open, Held, Shut, State, Env, Hit, firstHit, heldIf, openOr, statusFits, step}
 use Rattle.resolution.proofs.Direct.{search-hit}
 use Rattle.resolution.specs.Symbols.{isOther, symbolOf, stepsAs}
+use Rattle.resolution.proofs.Deepest.{leaf-no-inner, inner-no-leaf}
 use Rattle.resolution.proofs.Step.{EnvLaws, Valid, valid-step, leaf-stays, status-other}
 use Rattle.resolution.specs.NodeStep.{nodeUnder, nodeTakes, nodeMove, nodeIfTaken, nodeStep}
 use Rattle.resolution.proofs.NodeStep.{direct-at-node, symbol-at-node}
@@ -76,7 +77,7 @@ module _ (env : Env) (cats : ℕ) (ns : List Urn) where
       node-alike : (d : Parts) (a b : Bool) → (a ≡ b) ⊎ ((a ≡ false) × (b ≡ true) × (leaf ns c d ≡ true)) → leaf ns c q ≡ false → getD σ c Open ≡ getD τ c Open
           → Alike (nodeStep env (at s σ) c d a) (nodeStep env (at s τ) c d b)
       unfolding nodeStep
-      node-alike d a b w l e = rw (← e) (gates (nodeTakes (getD σ c Open) q d a) (nodeTakes (getD σ c Open) q d b) (takes (getD σ c Open)) (below q d))
+      node-alike d a b w l e = rw (← e) (gates (nodeTakes (getD σ c Open) q d a) (nodeTakes (getD σ c Open) q d b) (takes (getD σ c Open) (ga .fits c known)) (below q d))
         where
           under : (p : Parts) → leaf ns c p ≡ false → (r : Option Parts) → below p d ≡ r → (a ≡ b) ⊎ ((a ≡ false) × (b ≡ true) × (leaf ns c d ≡ true)) → nodeUnder r a ≡ nodeUnder r b
           under p m r j (inl w) = rw w
@@ -84,16 +85,17 @@ module _ (env : Env) (cats : ℕ) (ns : List Urn) where
           under p m (some []) j (inr w) = absurd (true≢false (sym (w .2) ∙ ap (leaf ns c) (sym (below-to p d [] j) ∙ append-nil p) ∙ m))
           under p m (some (x ∷ r)) j (inr w) = refl
 
-          takes : (o : Status) → nodeTakes o q d a ≡ nodeTakes o q d b
-          takes Open = under q l (below q d) refl w
-          takes Shut = refl
+          takes : (o : Status) → statusFits ns c q o ≡ true → nodeTakes o q d a ≡ nodeTakes o q d b
+          takes Open ok = under q l (below q d) refl w
+          takes (Held v) ok = under v (inner-no-leaf ns c v (and-eq-true-iff (properAncestor q v) (isInner ns c v) .0 ok .1)) (below v d) refl w
+          takes Shut ok = refl
 
           settles : (h : Hit) → (a ≡ b) ⊎ ((a ≡ false) × (b ≡ true) × (leaf ns c d ≡ true))
-              → (openIf (a && sameParts (h .at) d) ≡ openIf (b && sameParts (h .at) d)) ⊎ (leaf ns c (h .at) ≡ true)
+              → (openOr (a && sameParts (h .at) d) (heldIf (a && env .inner c d) d) ≡ openOr (b && sameParts (h .at) d) (heldIf (b && env .inner c d) d)) ⊎ (leaf ns c (h .at) ≡ true)
           settles h (inl w) = inl (rw w)
-          settles h (inr w) = rw (w .0, w .1) (to (sameParts (h .at) d) refl)
+          settles h (inr w) = rw (w .0, w .1, laws .inners c d, leaf-no-inner ns c d (w .2)) (to (sameParts (h .at) d) refl)
             where
-              to : (z : Bool) → sameParts (h .at) d ≡ z → (openIf false ≡ openIf z) ⊎ (leaf ns c (h .at) ≡ true)
+              to : (z : Bool) → sameParts (h .at) d ≡ z → (Shut ≡ openOr z Shut) ⊎ (leaf ns c (h .at) ≡ true)
               to true i = inr (ap (leaf ns c) (parts-exact .to (h .at) d i) ∙ w .2)
               to false i = inl refl
 

@@ -2,28 +2,26 @@
 use Prim.Native.Nat.{ℕ, suc, _+_, _<_}
 use mathlib.Core.Path.{_≡_, refl, sym, ap, subst, _∙_}
 use mathlib.Core.Logic.{_≢_}
-use mathlib.Core.Bool.{Bool, true, false, _&&_, false≢true, true≢false, and-eq-true-iff}
+use mathlib.Core.Bool.{Bool, true, false, true≢false}
 use mathlib.Core.Option.{none, some}
 use mathlib.Core.List.{List, [], _∷_, _++_, foldl, foldl-append, map, List·Memᴰ, List·Memᴰ·head, List·Memᴰ·tail, List·Memᴰ·not-nil}
-use lib.Dec.{eqb}
-use borrow.Author.Tests.{eqb-true}
 use lib.ListN.{length, getD, length-append, List·getD-append}
 use lib.Seq.{getD-at}
 use native.Mathlib.Omega.{arith}
 use native.Mathlib.Decide.{ℕ-discrete}
-use Rattle.resolution.specs.Lists.{memberBy, indexBy}
-use Rattle.resolution.specs.Names.{Name, Parts, properAncestor}
-use Rattle.resolution.specs.Table.{Urn, urn, Table}
+use Rattle.resolution.specs.Lists.{indexBy}
+use Rattle.resolution.specs.Names.{Name, Parts}
+use Rattle.resolution.specs.Table.{Urn, Table}
 use Rattle.resolution.specs.Direct.{State, start, stepUri, sameState}
-use Rattle.resolution.specs.Nodes.{sameUrn, isNode, hasUnder, leaf}
+use Rattle.resolution.specs.Nodes.{isNode, hasUnder, leaf}
 use Rattle.resolution.specs.Machine.{MachineState, Machine, blank, machineState, target, Accepted, walkStep}
 use Rattle.resolution.specs.Symbols.{symbols, stepAt}
 use Rattle.resolution.specs.Discovery.{targets}
 use Rattle.resolution.specs.MachineMeaning.{WalkLaw, LeafLaw, DeepestLaw, ReachedLaw, NodesLaw, MachineOfLaw, AcceptedLaw}
-use Rattle.resolution.proofs.Lists.{member-of, tabulate-length}
-use Rattle.resolution.proofs.Names.{above-trans, proper-to}
-use Rattle.resolution.proofs.Nodes.{urn-exact, node-to, node-of, urn-node}
-use Rattle.resolution.proofs.Deepest.{deep-above, above-deep, deepest-node, leaf-ends}
+use Rattle.resolution.proofs.Lists.{tabulate-length}
+use Rattle.resolution.proofs.Names.{above-trans}
+use Rattle.resolution.proofs.Nodes.{node-to, node-of, urn-node}
+use Rattle.resolution.proofs.Deepest.{deep-above, above-deep, deepest-node, under-to, leaf-ends}
 use Rattle.resolution.proofs.Discovery.{reached-next}
 use Rattle.resolution.proofs.Build.{machine-state}
 
@@ -39,7 +37,7 @@ nodes-law t =
 
 pub leaf-law : (ns : List Urn) (c : ℕ) → LeafLaw ns c
 unfolding leaf
-leaf-law ns c = record { root = refl; ends = ends; goes-on = λ p n e. under ns p n (is-under p n e) (λ u m. m) }
+leaf-law ns c = record { root = refl; ends = ends; goes-on = λ p n e. under-to ns c ns p (is-under p n e) }
   where
     ends : (p : Parts) → leaf ns c p ≡ true → (x : Name) (r : Parts) → isNode ns c (p ++ x ∷ r) ≡ false
     ends p e x r = go (isNode ns c (p ++ x ∷ r)) refl
@@ -55,19 +53,6 @@ leaf-law ns c = record { root = refl; ends = ends; goes-on = λ p n e. under ns 
         go : (b : Bool) → hasUnder ns c (x ∷ p) ≡ b → b ≡ true
         go true i = refl
         go false i = let w : true ≡ false = rw i at e in absurd (true≢false w)
-
-    under : (ms : List Urn) (p : Parts) → p ≢ [] → hasUnder ms c p ≡ true → ((u : Urn) → List·Memᴰ u ms → List·Memᴰ u ns) → (x : Name) × (r : Parts) × (isNode ns c (p ++ x ∷ r) ≡ true)
-    under [] p n h sub = absurd (false≢true h)
-    under (v ∷ ms) p n h sub = go (eqb (v .cat) c && properAncestor p (v .path)) refl (λ k. under ms p n k (λ u m. sub u (List·Memᴰ·tail m)))
-      where
-        go : (b : Bool) → eqb (v .cat) c && properAncestor p (v .path) ≡ b → (hasUnder ms c p ≡ true → (x : Name) × (r : Parts) × (isNode ns c (p ++ x ∷ r) ≡ true))
-            → (x : Name) × (r : Parts) × (isNode ns c (p ++ x ∷ r) ≡ true)
-        go false e ih = ih (rw e at h)
-        go true e ih =
-            let k = and-eq-true-iff (eqb (v .cat) c) (properAncestor p (v .path)) .0 e in
-            let w = proper-to p (v .path) (k .1) in
-            let i : v ≡ urn c (p ++ w .0 ∷ w .1) = λ z. record { cat = eqb-true (v .cat) c (k .0) z; path = sym (w .2) z } in
-            (w .0, w .1, ap (λ y. memberBy sameUrn y ns) (sym i) ∙ member-of sameUrn urn-exact v ns (sub v (List·Memᴰ·head refl)))
 
 pub deepest-law : (ns : List Urn) (c : ℕ) (u : Parts) → DeepestLaw ns c u
 deepest-law ns c u = record { a-node = deepest-node ns c u; above = deep-above ns c u; most = λ p. above-deep ns c p u }

@@ -2,7 +2,7 @@
 use Prim.Native.Nat.{ℕ, _+_, _≤_, _<_, max}
 use mathlib.Core.Path.{_≡_, refl, sym, ap, _∙_}
 use mathlib.Core.Logic.{_⊎_, inl, inr, _≢_}
-use mathlib.Core.Bool.{Bool, true, false, true≢false}
+use mathlib.Core.Bool.{Bool, true, false, _&&_, true≢false, and-eq-true-iff}
 use mathlib.Core.Option.{Option, none, some}
 use mathlib.Core.List.{List, [], _∷_, _++_, foldl-append, append-assoc, append-nil, List·Memᴰ, List·Memᴰ·head, List·Memᴰ·tail, List·Memᴰ·cases-cons, List·Memᴰ·not-nil, List·Memᴰ·append-cases, List·Memᴰ·eq-of-singleton, Memᴰ·append-left, Memᴰ·append-right}
 use lib.Dec.{eqb}
@@ -11,15 +11,17 @@ use lib.ListN.{length, getD, set, length-replicate, getD-replicate}
 use lib.Seq.{set-getD}
 use native.Mathlib.Omega.{arith}
 use native.Mathlib.Decide.{decLt}
-use Rattle.resolution.specs.Names.{Name, Parts, sameParts, Above, longer, candidates}
+use Rattle.resolution.specs.Names.{Name, Parts, sameParts, properAncestor, Above, longer, candidates}
 use Rattle.resolution.specs.Table.{Urn, urn, Table, Row, placeIn, place, rowOf, find, partsOf, mostParts}
-use Rattle.resolution.specs.Direct.{Status, Open, Shut, State, start, Env, envOf, Hit, firstHit, takesUrn, openIf, move, step, StateOf}
+use Rattle.resolution.specs.Nodes.{nodes, isInner}
+use Rattle.resolution.specs.Direct.{Status, Open, Held, Shut, State, start, Env, envOf, Hit, firstHit, takesUrn, heldIf, openOr, move, step, statusFits, StateOf}
 use Rattle.resolution.specs.Says.{Says, Given}
 use Rattle.resolution.specs.Meaning.{UrisLaw, AskedLaw, Once, PlaceLaw, PartsLaw, ChangesLaw, GivenLaw, SaysLaw, Taken, StepLaw, RunLaw}
 use Rattle.resolution.proofs.Names.{parts-exact, between, longer-append, longer-first, proper-to, proper-of}
 use Rattle.resolution.proofs.Table.{find-sound, find-below, find-row, row-place, row-length}
 use Rattle.resolution.proofs.Direct.{search-hit, search-last}
 use Rattle.resolution.proofs.Nodes.{place-from}
+use Rattle.resolution.proofs.Deepest.{inner-of, inner-none}
 use Rattle.resolution.proofs.Step.{step-still, step-shut, step-takes}
 use Rattle.resolution.proofs.Claim.{used-append, counts-add}
 
@@ -173,7 +175,16 @@ search-longest env row c q r p s a b f h e = by (a .rest) (a .joined)
             (ap (firstHit env row c) (sym order) ∙ e)
 
 pub step-law : (t : Table) (st : State) → StateOf t st → (u : Urn) → u .cat < t .cats → StepLaw t st u
-step-law t st g u known = record { shut = step-shut (envOf t) st u; not-under = not-under; taken = taken }
+step-law t st g u known =
+    record {
+      shut = step-shut (envOf t) st u;
+      not-under = not-under;
+      not-beyond = not-beyond;
+      taken = λ o x r j. takes (ap (λ z. takesUrn z q (u .path)) o ∙ proper-of q (u .path) x r (from-place x r j)) x r (from-place x r j);
+      taken-held = λ w o x r j.
+          let k = past-held w o x r j in
+          takes (ap (λ z. takesUrn z q (u .path)) o ∙ proper-of w (u .path) x r j) (k .0) (k .1) (k .2);
+    }
   where
     row : Row
     row = rowOf t (st .signal)
@@ -184,35 +195,55 @@ step-law t st g u known = record { shut = step-shut (envOf t) st u; not-under = 
     here : q ≡ place t (st .signal) (u .cat)
     here = row-place t (st .signal) (u .cat) known
 
+    from-place : (x : Name) (r : Parts) → place t (st .signal) (u .cat) ++ x ∷ r ≡ u .path → q ++ x ∷ r ≡ u .path
+    from-place x r j = ap (λ z. z ++ x ∷ r) here ∙ j
+
+    -- what properly extends the path at which the category is held properly extends the place
+    past-held : (w : Parts) → getD (st .status) (u .cat) Open ≡ Held w → (x : Name) (r : Parts) → w ++ x ∷ r ≡ u .path → (y : Name) × (s : Parts) × (q ++ y ∷ s ≡ u .path)
+    past-held w o x r j =
+        let fits : properAncestor q w && isInner (nodes t) (u .cat) w ≡ true = ap (statusFits (nodes t) (u .cat) q) (sym o) ∙ g .fits (u .cat) known in
+        let k = proper-to q w (and-eq-true-iff (properAncestor q w) (isInner (nodes t) (u .cat) w) .0 fits .0) in
+        (k .0, k .1 ++ x ∷ r, sym (append-assoc q (k .0 ∷ k .1) (x ∷ r)) ∙ ap (λ z. z ++ x ∷ r) (k .2) ∙ j)
+
     not-under : ((x : Name) (r : Parts) → place t (st .signal) (u .cat) ++ x ∷ r ≢ u .path) → step (envOf t) st u ≡ st
     not-under n = go (takesUrn (getD (st .status) (u .cat) Open) q (u .path)) refl (getD (st .status) (u .cat) Open) refl
       where
+        at-place : (x : Name) (r : Parts) → q ++ x ∷ r ≡ u .path → ⊥
+        at-place x r j = n x r (ap (λ z. z ++ x ∷ r) (sym here) ∙ j)
+
         go : (b : Bool) → takesUrn (getD (st .status) (u .cat) Open) q (u .path) ≡ b → (o : Status) → getD (st .status) (u .cat) Open ≡ o → step (envOf t) st u ≡ st
         go false e o i = step-still (envOf t) st u e
+        go true e Open i = let k = proper-to q (u .path) (ap (λ z. takesUrn z q (u .path)) (sym i) ∙ e) in absurd (at-place (k .0) (k .1) (k .2))
+        go true e (Held w) i =
+            let k = proper-to w (u .path) (ap (λ z. takesUrn z q (u .path)) (sym i) ∙ e) in
+            let m = past-held w i (k .0) (k .1) (k .2) in
+            absurd (at-place (m .0) (m .1) (m .2))
         go true e Shut i = step-shut (envOf t) st u i
-        go true e Open i =
-            let k = proper-to q (u .path) (ap (λ z. takesUrn z q (u .path)) (sym i) ∙ e) in
-            absurd (n (k .0) (k .1) (ap (λ z. z ++ k .0 ∷ k .1) (sym here) ∙ k .2))
 
-    taken : getD (st .status) (u .cat) Open ≡ Open → (x : Name) (r : Parts) → place t (st .signal) (u .cat) ++ x ∷ r ≡ u .path → Taken t st u
-    taken o x r j =
+    not-beyond : (w : Parts) → getD (st .status) (u .cat) Open ≡ Held w → ((x : Name) (r : Parts) → w ++ x ∷ r ≢ u .path) → step (envOf t) st u ≡ st
+    not-beyond w o n = go (properAncestor w (u .path)) refl
+      where
+        go : (b : Bool) → properAncestor w (u .path) ≡ b → step (envOf t) st u ≡ st
+        go false e = step-still (envOf t) st u (ap (λ z. takesUrn z q (u .path)) o ∙ e)
+        go true e = let k = proper-to w (u .path) e in absurd (n (k .0) (k .1) (k .2))
+
+    takes : takesUrn (getD (st .status) (u .cat) Open) q (u .path) ≡ true → (x : Name) (r : Parts) → q ++ x ∷ r ≡ u .path → Taken t st u
+    takes open-to x r j =
         record {
           at = hh .0 .at;
           signal = hh .0 .signal;
           no-shorter = rw (← here) (lies .0);
-          no-longer = rw j′ at (lies .1);
+          no-longer = rw j at (lies .1);
           listed = omega (arith, find-below (t .cats) 0 (t .signals) (set row (u .cat) (hh .0 .at)) (hh .0 .signal) (found .0));
           fits = find-sound t (set row (u .cat) (hh .0 .at)) (hh .0 .signal) (found .0);
           longest = λ p s a b h e.
               let w = find-row (t .cats) 0 (t .signals) s h in
-              search-longest (envOf t) row (u .cat) q (x ∷ r) p (w .0) (rw here a) (rw j′ b) (ap (find t) (sym e) ∙ w .1) (hh .0) (hh .1);
-          whole = λ e. moved ∙ ap (λ b. record { signal = hh .0 .signal; status = set (st .status) (u .cat) (openIf b) }) (ap (sameParts (hh .0 .at)) (sym e) ∙ parts-exact .self (hh .0 .at));
-          shortened = λ n. moved ∙ ap (λ b. record { signal = hh .0 .signal; status = set (st .status) (u .cat) (openIf b) }) (differ (sameParts (hh .0 .at) (u .path)) refl n);
+              search-longest (envOf t) row (u .cat) q (x ∷ r) p (w .0) (rw here a) (rw j b) (ap (find t) (sym e) ∙ w .1) (hh .0) (hh .1);
+          whole = λ e. moved ∙ ap with (ap (λ b. openOr b after) (ap (sameParts (hh .0 .at)) (sym e) ∙ parts-exact .self (hh .0 .at)));
+          held = λ n m y s k. moved ∙ ap with (differs n ∙ ap (λ b. heldIf b (u .path)) (inner-of (nodes t) (u .cat) (u .path) m y s k));
+          shortened = λ n k. moved ∙ ap with (differs n ∙ ap (λ b. heldIf b (u .path)) (inner-none (nodes t) (u .cat) (u .path) k));
         }
       where
-        j′ : q ++ x ∷ r ≡ u .path
-        j′ = ap (λ z. z ++ x ∷ r) here ∙ j
-
         hh : (h : Hit) × (firstHit (envOf t) row (u .cat) (candidates q (x ∷ r)) ≡ some h)
         hh = search-last (envOf t) row (u .cat) (longer q (x ∷ r)) q (st .signal) (rw (set-getD row (u .cat) []) (g .live))
 
@@ -222,15 +253,21 @@ step-law t st g u known = record { shut = step-shut (envOf t) st u; not-under = 
         lies : Above q (hh .0 .at) × Above (hh .0 .at) (q ++ x ∷ r)
         lies = between q (x ∷ r) (hh .0 .at) (found .1)
 
-        takes : takesUrn (getD (st .status) (u .cat) Open) q (u .path) ≡ true
-        takes = ap (λ z. takesUrn z q (u .path)) o ∙ proper-of q (u .path) x r j′
+        with : Status → State
+        with o = record { signal = hh .0 .signal; status = set (st .status) (u .cat) o }
 
-        moved : step (envOf t) st u ≡ record { signal = hh .0 .signal; status = set (st .status) (u .cat) (openIf (sameParts (hh .0 .at) (u .path))) }
-        moved = step-takes (envOf t) st u (x ∷ r) takes j′ ∙ ap (move (envOf t) st (u .cat) (u .path)) (hh .1)
+        after : Status
+        after = heldIf (isInner (nodes t) (u .cat) (u .path)) (u .path)
 
-        differ : (b : Bool) → sameParts (hh .0 .at) (u .path) ≡ b → hh .0 .at ≢ u .path → sameParts (hh .0 .at) (u .path) ≡ false
-        differ false e n = e
-        differ true e n = absurd (n (parts-exact .to (hh .0 .at) (u .path) e))
+        moved : step (envOf t) st u ≡ with (openOr (sameParts (hh .0 .at) (u .path)) after)
+        moved = step-takes (envOf t) st u (x ∷ r) open-to j ∙ ap (move (envOf t) st (u .cat) (u .path)) (hh .1)
+
+        differs : hh .0 .at ≢ u .path → openOr (sameParts (hh .0 .at) (u .path)) after ≡ after
+        differs n = go (sameParts (hh .0 .at) (u .path)) refl
+          where
+            go : (b : Bool) → sameParts (hh .0 .at) (u .path) ≡ b → openOr b after ≡ after
+            go false e = refl
+            go true e = absurd (n (parts-exact .to (hh .0 .at) (u .path) e))
 
 pub run-law : (t : Table) → RunLaw t
 run-law t =

@@ -2,28 +2,29 @@
 use Prim.Native.Nat.{ℕ, _<_}
 use mathlib.Core.Path.{_≡_, refl, sym, ap, _∙_}
 use mathlib.Core.Logic.{_⊎_, inl, inr}
-use mathlib.Core.Bool.{Bool, true, false, not, _&&_, true≢false, false≢true}
+use mathlib.Core.Bool.{Bool, true, false, not, _&&_, true≢false, false≢true, and-eq-true-iff}
 use mathlib.Core.Option.{Option, none, some}
 use mathlib.Core.List.{List, [], _∷_, _++_, append-assoc, append-nil, List·Memᴰ, List·Memᴰ·not-nil, List·Memᴰ·eq-of-singleton}
 use lib.ListN.{length, getD, set, length-append}
 use lib.Seq.{set-getD}
 use native.Mathlib.Omega.{arith}
 use Rattle.resolution.specs.Names.{Name, Parts, sameParts, below, properAncestor, longer, candidates, Above}
-use Rattle.resolution.proofs.Names.{parts-exact, below-to, below-self, above-self, above-root, between, not-past, snoc-split, proper-to, proper-of, proper-above}
+use Rattle.resolution.proofs.Names.{parts-exact, below-to, below-self, above-self, above-root, above-trans, between, not-past, snoc-split, proper-to, proper-of, proper-above}
 use Rattle.resolution.specs.Table.{Urn, urn}
-use Rattle.resolution.specs.Nodes.{isNode, RootOrNode, isRoot, deepest}
-use Rattle.resolution.specs.Direct.{Status, Open, Shut, State, Env, Hit, firstHit, openIf, takesUrn, move, step}
+use Rattle.resolution.specs.Nodes.{isNode, RootOrNode, isInner, isRoot, deepest}
+use Rattle.resolution.specs.Direct.{Status, Open, Held, Shut, State, Env, Hit, firstHit, heldIf, openOr, statusFits, takesUrn, move, step}
 use Rattle.resolution.proofs.Direct.{search-hit, search-last}
 use Rattle.resolution.specs.Symbols.{Symbol, stepsAsPath, stepsAs}
-use Rattle.resolution.proofs.Deepest.{deep-above, above-deep}
+use Rattle.resolution.proofs.Deepest.{deep-above, above-deep, past-no-node, inner-node}
 use Rattle.resolution.proofs.Step.{EnvLaws, Valid, step-still, step-takes, seek, hit-node, beyond}
 use Rattle.resolution.specs.NodeStep.{nodeUnder, nodeTakes, nodeIfTaken, nodeStep}
 
 module _ (env : Env) (cats : ℕ) (ns : List Urn) (laws : EnvLaws env cats ns) where
-  -- a path d ++ f past d, where nothing is found past d and nodes above the path are above d
+  -- a path d ++ f past d, where nothing is found past d, nodes above the path are above d, and the path is d or no node
   module _ (st : State) (g : Valid env cats ns st) (c : ℕ) (known : c < cats) (d f : Parts)
       (quiet : (p : Parts) → List·Memᴰ p (longer d f) → env .finder (set (env .rows (st .signal)) c p) ≡ none)
-      (lies : (p : Parts) → RootOrNode ns c p → Above p (d ++ f) → Above p d) where
+      (lies : (p : Parts) → RootOrNode ns c p → Above p (d ++ f) → Above p d)
+      (no-node : (x : Name) (h : Parts) → f ≡ x ∷ h → isNode ns c (d ++ f) ≡ false) where
     abbrev q : Parts
     q = getD (env .rows (st .signal)) c []
 
@@ -53,33 +54,44 @@ module _ (env : Env) (cats : ℕ) (ns : List Urn) (laws : EnvLaws env cats ns) w
         go false e (some []) j (x ∷ h) i = absurd (true≢false (sym (past [] (below-to p d [] j) x h i) ∙ e))
         go false e (some (x ∷ r)) j h i = absurd (true≢false (sym (past (x ∷ r) (below-to p d (x ∷ r) j) x (r ++ f) refl) ∙ e))
 
-    same-takes : (o : Status) → nodeTakes o q d (isRoot f) ≡ takesUrn o q (d ++ f)
-    same-takes Open = same-under q q-node
-    same-takes Shut = refl
+    -- where a category is held: a node below the place
+    held-node : (w : Parts) → statusFits ns c q (Held w) ≡ true → RootOrNode ns c w × Above q w
+    held-node w e =
+        let k = and-eq-true-iff (properAncestor q w) (isInner ns c w) .0 e in
+        (inr (inner-node ns c w (k .1)), proper-above q w (k .0))
+
+    same-takes : (o : Status) → statusFits ns c q o ≡ true → nodeTakes o q d (isRoot f) ≡ takesUrn o q (d ++ f)
+    same-takes Open ok = same-under q q-node
+    same-takes (Held w) ok = same-under w (held-node w ok .0)
+    same-takes Shut ok = refl
+
+    now-fits : statusFits ns c q (getD (st .status) c Open) ≡ true
+    now-fits = g .fits c known
 
     pub step-at-node : step env st (urn c (d ++ f)) ≡ nodeStep env st c d (isRoot f)
     unfolding nodeStep
     step-at-node = go (takesUrn (getD (st .status) c Open) q (d ++ f)) refl
       where
-        taken : (o : Status) → takesUrn o q (d ++ f) ≡ true → Above q d
-        taken Open e = lies q q-node (proper-above q (d ++ f) e)
-        taken Shut e = absurd (false≢true e)
+        taken : (o : Status) → statusFits ns c q o ≡ true → takesUrn o q (d ++ f) ≡ true → Above q d
+        taken Open ok e = lies q q-node (proper-above q (d ++ f) e)
+        taken (Held w) ok e = let k = held-node w ok in above-trans (k .1) (lies w (k .0) (proper-above w (d ++ f) e))
+        taken Shut ok e = absurd (false≢true e)
 
         settles : (p h : Parts) → f ≡ h → Above p d
-            → openIf (sameParts p (d ++ f)) ≡ openIf (isRoot h && sameParts p d)
-        settles p [] i a = ap (λ z. openIf (sameParts p z)) (ap (λ z. d ++ z) i ∙ append-nil d)
-        settles p (x ∷ h) i a = rw (not-past p d x h (d ++ f) a (ap (λ z. d ++ z) (sym i)))
+            → openOr (sameParts p (d ++ f)) (heldIf (env .inner c (d ++ f)) (d ++ f)) ≡ openOr (isRoot h && sameParts p d) (heldIf (isRoot h && env .inner c d) d)
+        settles p [] i a = ap (λ z. openOr (sameParts p z) (heldIf (env .inner c z) z)) (ap (λ z. d ++ z) i ∙ append-nil d)
+        settles p (x ∷ h) i a = rw (not-past p d x h (d ++ f) a (ap (λ z. d ++ z) (sym i)), laws .inners c (d ++ f), no-node x h i)
 
         go : (b : Bool) → takesUrn (getD (st .status) c Open) q (d ++ f) ≡ b
             → step env st (urn c (d ++ f)) ≡ nodeIfTaken env st c d (isRoot f) (nodeTakes (getD (st .status) c Open) q d (isRoot f)) (below q d)
-        go false e = step-still env st (urn c (d ++ f)) e ∙ sym (rw (same-takes (getD (st .status) c Open), e))
+        go false e = step-still env st (urn c (d ++ f)) e ∙ sym (rw (same-takes (getD (st .status) c Open) now-fits, e))
         go true e =
             step-takes env st (urn c (d ++ f)) (a .rest ++ f) e (sym (append-assoc q (a .rest) f) ∙ ap (λ z. z ++ f) (a .joined))
             ∙ ap (move env st c (d ++ f)) (seek env (env .rows (st .signal)) c q (a .rest) f (rw (a .joined) quiet) ∙ hh .1)
-            ∙ rw (same-takes (getD (st .status) c Open), e, at, hh .1) (ap (λ z. record { signal = hh .0 .signal; status = set (st .status) c z }) (settles (hh .0 .at) f refl h-above))
+            ∙ rw (same-takes (getD (st .status) c Open) now-fits, e, at, hh .1) (ap (λ z. record { signal = hh .0 .signal; status = set (st .status) c z }) (settles (hh .0 .at) f refl h-above))
           where
             a : Above q d
-            a = taken (getD (st .status) c Open) e
+            a = taken (getD (st .status) c Open) now-fits e
 
             at : below q d ≡ some (a .rest)
             at = ap (below q) (sym (a .joined)) ∙ below-self q (a .rest)
@@ -102,6 +114,7 @@ module _ (env : Env) (cats : ℕ) (ns : List Urn) (laws : EnvLaws env cats ns) w
       ∙ step-at-node st g (u .cat) known d (a .rest)
       (beyond env cats ns laws (env .rows (st .signal)) (u .cat) (u .path) (a .rest) (rw (g .wide) known) (a .joined))
       (λ p n b. above-deep ns (u .cat) p (u .path) n (rw (a .joined) at b))
+      (λ x h e. rw (a .joined) (past-no-node ns (u .cat) (u .path) x h (ap (λ z. d ++ z) (sym e) ∙ a .joined)))
       ∙ ap (nodeStep env st (u .cat) d) (isRoot-same d (a .rest) (u .path) (a .joined))
     where
       d : Parts
@@ -113,7 +126,7 @@ module _ (env : Env) (cats : ℕ) (ns : List Urn) (laws : EnvLaws env cats ns) w
   -- the step by a path that is longer by a part which no node has there, whichever it is
   pub fresh-at-node : (st : State) → Valid env cats ns st → (c : ℕ) → c < cats → (d : Parts) (x : Name) → isNode ns c (d ++ x ∷ []) ≡ false
       → step env st (urn c (d ++ x ∷ [])) ≡ nodeStep env st c d false
-  fresh-at-node st g c known d x fresh = step-at-node st g c known d (x ∷ []) quiet (λ p n b. lies p n (b .rest) (b .joined))
+  fresh-at-node st g c known d x fresh = step-at-node st g c known d (x ∷ []) quiet (λ p n b. lies p n (b .rest) (b .joined)) (λ y h e. fresh)
     where
       quiet : (p : Parts) → List·Memᴰ p (longer d (x ∷ [])) → env .finder (set (env .rows (st .signal)) c p) ≡ none
       quiet p m = by (env .finder (set (env .rows (st .signal)) c p)) refl
@@ -144,4 +157,5 @@ module _ (env : Env) (cats : ℕ) (ns : List Urn) (laws : EnvLaws env cats ns) w
       go false =
           ap (λ z. step env st (urn (s .cat) z)) (sym (append-nil (s .path)))
           ∙ step-at-node st g (s .cat) known (s .path) [] (λ p m. absurd (List·Memᴰ·not-nil m)) (λ p n b. rw append-nil at b)
+          (λ x h e. let z : _≡_ {A = ℕ} 0 1 = cc in absurd (omega arith))
       go true = fresh-at-node st g (s .cat) known (s .path) [] (laws .fresh-node (s .cat) (s .path))

@@ -3,18 +3,19 @@
 use Prim.Native.Nat.{ℕ, _<_}
 use mathlib.Core.Path.{_≡_, refl, sym, ap, _∙_}
 use mathlib.Core.Logic.{_⊎_, inl, inr, _≢_}
-use mathlib.Core.Bool.{true, false}
+use mathlib.Core.Bool.{Bool, true, false, and-eq-true-iff}
 use mathlib.Core.Option.{Option, none, some}
 use mathlib.Core.List.{List, [], _∷_, _++_, append-assoc, append-nil, List·Memᴰ}
 use lib.ListN.{length, getD, set, length-append, length-set}
 use lib.Seq.{set-getD, getD-set-same, getD-set-other}
 use native.Mathlib.Omega.{arith}
-use Rattle.resolution.specs.Names.{Parts, below, longer, candidates, Above}
-use Rattle.resolution.proofs.Names.{below-self, longer-append, Strict, in-longer}
+use native.Mathlib.Decide.{ℕ-discrete}
+use Rattle.resolution.specs.Names.{Parts, sameParts, below, properAncestor, longer, candidates, Above}
+use Rattle.resolution.proofs.Names.{below-self, longer-append, Strict, in-longer, proper-rest}
 use Rattle.resolution.specs.Table.{Urn, Row}
-use Rattle.resolution.specs.Direct.{Status, Open, Shut, State, firstHit, statusAfter, takesUrn, move, step, Env}
+use Rattle.resolution.specs.Direct.{Status, Open, Shut, State, firstHit, heldIf, openOr, statusAfter, statusFits, takesUrn, move, step, Env}
 use Rattle.resolution.proofs.Direct.{search-skip, Moved, step-view, live-step, same-signal, moved-row}
-use Rattle.resolution.specs.Nodes.{isNode, RootOrNode, leaf, deepest}
+use Rattle.resolution.specs.Nodes.{isNode, RootOrNode, isInner, leaf, deepest}
 use Rattle.resolution.proofs.Deepest.{deep-most, leaf-ends}
 
 module _ (env : Env) where
@@ -65,14 +66,17 @@ module _ (env : Env) where
 pub record EnvLaws (env : Env) (cats : ℕ) (ns : List Urn) : Type 0 where
   pub sound : (r : Row) (s : ℕ) → env .finder r ≡ some s → env .rows s ≡ r
   pub noded : (r : Row) (s c : ℕ) → env .finder r ≡ some s → RootOrNode ns c (getD r c [])
+  pub inners : (c : ℕ) (p : Parts) → env .inner c p ≡ isInner ns c p
   pub fresh-node : (c : ℕ) (d : Parts) → isNode ns c (d ++ [] ∷ []) ≡ false
 
 module _ (env : Env) (cats : ℕ) (ns : List Urn) where
-  -- the signal is what the finder finds at its places, and there is a place and a status for each category
+  -- the signal is what the finder finds at its places, and there is a place and a status for each category, one that it
+  -- can have there
   pub record Valid (st : State) : Type 0 where
     pub live : env .finder (env .rows (st .signal)) ≡ some (st .signal)
     pub wide : length (env .rows (st .signal)) ≡ cats
     pub sized : length (st .status) ≡ cats
+    pub fits : (c : ℕ) → c < cats → statusFits ns c (getD (env .rows (st .signal)) c []) (getD (st .status) c Open) ≡ true
 
   abbrev at : ℕ → List Status → State
   at s σ = record { signal = s; status = σ }
@@ -84,8 +88,39 @@ module _ (env : Env) (cats : ℕ) (ns : List Urn) where
           live = live-step env (laws .sound) st u (g .live);
           wide = wide (step-view env st u);
           sized = status-length env st u ∙ g .sized;
+          fits = λ k h. fits k h (step-view env st u);
         }
       where
+        -- the status after a hit at or above u fits the place that was hit
+        settles : (c : ℕ) (p w : Parts) → Above p w → (s : Bool) → sameParts p w ≡ s → (b : Bool) → env .inner c w ≡ b
+            → statusFits ns c p (openOr s (heldIf b w)) ≡ true
+        settles c p w a true e b i = refl
+        settles c p w a false e true i = and-eq-true-iff (properAncestor p w) (isInner ns c w) .1 (proper-rest p w a e, sym (laws .inners c w) ∙ i)
+        settles c p w a false e false i = refl
+
+        after : (k : ℕ) → k < cats → (m : Moved env st u) → Dec (k ≡ u .cat)
+            → statusFits ns k (getD (set (env .rows (st .signal)) (u .cat) (m .hit .at)) k [])
+            (getD (set (st .status) (u .cat) (statusAfter env (u .cat) (u .path) (m .hit))) k Open) ≡ true
+        after k h m (yes e) =
+            let b : u .cat < cats = rw (← e) h in
+            rw (
+              e,
+              getD-set-same (env .rows (st .signal)) (u .cat) (m .hit .at) [] (rw (g .wide) b),
+              getD-set-same (st .status) (u .cat) (statusAfter env (u .cat) (u .path) (m .hit)) Open (rw (g .sized) b),
+            )
+            (settles (u .cat) (m .hit .at) (u .path) (m .down) (sameParts (m .hit .at) (u .path)) refl (env .inner (u .cat) (u .path)) refl)
+        after k h m (no n) =
+            rw (
+              getD-set-other (env .rows (st .signal)) (u .cat) k (m .hit .at) [] n,
+              getD-set-other (st .status) (u .cat) k (statusAfter env (u .cat) (u .path) (m .hit)) Open n,
+            )
+            (g .fits k h)
+
+        fits : (k : ℕ) → k < cats → (step env st u ≡ st) ⊎ Moved env st u
+            → statusFits ns k (getD (env .rows (step env st u .signal)) k []) (getD (step env st u .status) k Open) ≡ true
+        fits k h (inl e) = rw e (g .fits k h)
+        fits k h (inr m) = rw (m .result, laws .sound (set (env .rows (st .signal)) (u .cat) (m .hit .at)) (m .hit .signal) (m .got)) (after k h m (ℕ-discrete k (u .cat)))
+
         wide : (step env st u ≡ st) ⊎ Moved env st u → length (env .rows (step env st u .signal)) ≡ cats
         wide (inl e) = rw e (g .wide)
         wide (inr m) = rw (moved-row env (laws .sound) st u m) (length-set (env .rows (st .signal)) (u .cat) (m .hit .at) ∙ g .wide)

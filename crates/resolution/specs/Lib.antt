@@ -3,9 +3,9 @@
 pub mod Lists
 pub mod Names
 pub mod Table
+pub mod Nodes
 pub mod Direct
 pub mod Says
-pub mod Nodes
 pub mod NodeStep
 pub mod Symbols
 pub mod Machine

@@ -3,12 +3,14 @@
 use Prim.Native.Nat.{ℕ, suc, _+_, _≤_, _<_}
 use mathlib.Core.Path.{_≡_}
 use mathlib.Core.Logic.{_⊎_, _↔_, _≢_}
+use mathlib.Core.Bool.{true, false}
 use mathlib.Core.Option.{Option, none, some}
 use mathlib.Core.List.{List, [], _∷_, _++_, List·Memᴰ}
 use lib.ListN.{getD, set, length}
 use Rattle.resolution.specs.Names.{Name, Parts, Above}
 use Rattle.resolution.specs.Table.{Urn, urn, Table, place, rowOf, partsOf, mostParts, WellFormed}
-use Rattle.resolution.specs.Direct.{Open, Shut, State, start, envOf, step, direct, Used, usedOf, usedCount, skippedCount, changes}
+use Rattle.resolution.specs.Nodes.{nodes, isNode}
+use Rattle.resolution.specs.Direct.{Open, Held, Shut, State, start, envOf, step, direct, Used, usedOf, usedCount, skippedCount, changes}
 use Rattle.resolution.specs.Says.{Says, Given}
 
 -- the used URIs of a list in their order, how many they are, and how many the others
@@ -74,9 +76,14 @@ pub record Taken (t : Table) (st : State) (u : Urn) : Type 0 where
   -- no longer place has such a signal
   pub longest : (p : Parts) (s : ℕ) → Above (place t (st .signal) (u .cat)) p → Above p (u .path) → s < length (t .signals)
       → rowOf t s ≡ set (rowOf t (st .signal)) (u .cat) p → Above p at
-  -- the signal becomes current; the category stays open if the whole URN is said, else it is shut
+  -- the signal becomes current; the category is open if the whole URN is said
   pub whole : at ≡ u .path → step (envOf t) st u ≡ record { signal = signal; status = set (st .status) (u .cat) Open }
-  pub shortened : at ≢ u .path → step (envOf t) st u ≡ record { signal = signal; status = set (st .status) (u .cat) Shut }
+  -- else it is held at the URN, if that is a node with a node under it
+  pub held : at ≢ u .path → isNode (nodes t) (u .cat) (u .path) ≡ true → (x : Name) (r : Parts) → isNode (nodes t) (u .cat) (u .path ++ x ∷ r) ≡ true
+      → step (envOf t) st u ≡ record { signal = signal; status = set (st .status) (u .cat) (Held (u .path)) }
+  -- and shut, if it is none
+  pub shortened : at ≢ u .path → (isNode (nodes t) (u .cat) (u .path) ≡ true → (x : Name) (r : Parts) → isNode (nodes t) (u .cat) (u .path ++ x ∷ r) ≡ false)
+      → step (envOf t) st u ≡ record { signal = signal; status = set (st .status) (u .cat) Shut }
 
 -- one step of direct resolution, from a state of the table by a URN of a category of the table
 pub record StepLaw (t : Table) (st : State) (u : Urn) : Type 0 where
@@ -84,8 +91,11 @@ pub record StepLaw (t : Table) (st : State) (u : Urn) : Type 0 where
   pub shut : getD (st .status) (u .cat) Open ≡ Shut → step (envOf t) st u ≡ st
   -- nor is one taken of which the present place is no proper ancestor
   pub not-under : ((x : Name) (r : Parts) → place t (st .signal) (u .cat) ++ x ∷ r ≢ u .path) → step (envOf t) st u ≡ st
+  -- nor one that does not properly extend the path at which the category is held
+  pub not-beyond : (w : Parts) → getD (st .status) (u .cat) Open ≡ Held w → ((x : Name) (r : Parts) → w ++ x ∷ r ≢ u .path) → step (envOf t) st u ≡ st
   -- every other is taken
   pub taken : getD (st .status) (u .cat) Open ≡ Open → (x : Name) (r : Parts) → place t (st .signal) (u .cat) ++ x ∷ r ≡ u .path → Taken t st u
+  pub taken-held : (w : Parts) → getD (st .status) (u .cat) Open ≡ Held w → (x : Name) (r : Parts) → w ++ x ∷ r ≡ u .path → Taken t st u
 
 -- direct resolution begins with the silent signal and nothing shut; it takes the URNs of a list one after the other
 pub record RunLaw (t : Table) : Type 0 where

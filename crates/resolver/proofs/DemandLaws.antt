@@ -24,8 +24,9 @@ use Rattle.machine_image.proofs.Check.{check-to}
 use Rattle.machine_image.proofs.Walk.{image-claim}
 use Rattle.stored_table.specs.Tables.{tableRefusal, tableOf, categoryNames}
 use Rattle.stored_table.proofs.Accepting.{accepted}
-use Rattle.signal_table.specs.Built.{refused as without, builtOf, builtFrom, bufferFrom, checkFrom}
-use Rattle.signal_table.specs.declared.write.Built.{Built}
+use Rattle.machine_builder.specs.Built.{refused as without, builtOf}
+use Rattle.signal_table.specs.Built.{builtFrom, bufferFrom, checkFrom}
+use Rattle.machine_builder.specs.declared.Built.{Built}
 use Rattle.signal_table.proofs.Claims.{builds as every-build, refused-build, check-to-right, right-to-check}
 use Rattle.resolver.specs.declared.Resolution.{Resolution}
 use Rattle.resolver.specs.Resolve.{takenAs, directSignal, walkedSignal, refused, answered, unlessRefused, plainOf, machineOf}
@@ -147,7 +148,7 @@ module _ (t : List ℕ) (ok : tableRefusal t ≡ 0) where
         only-given = c .only-given;
         still-says = λ k p s. rw (taken-append t before after) (c .still-says k p s);
         few-changes = rw (
-          ← changes-map (signalIn im) (stepUri (stepIn (tableOf t) im)) (usedUrn (categoryNames t)) 0 (before ++ after),
+          ← changes-map (signalIn (tableOf t .cats) im) (stepUri (stepIn (tableOf t) im)) (usedUrn (categoryNames t)) 0 (before ++ after),
           taken-append t before after,
         )
             (c .few-changes);

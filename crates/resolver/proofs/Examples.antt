@@ -11,7 +11,7 @@ use Rattle.resolution.specs.Direct.{step}
 use Rattle.resolution.specs.Discovery.{discover, expand}
 use Rattle.resolution.specs.Lists.{tabulate}
 use Rattle.resolution.specs.Nodes.{deepest, leaf, nodes}
-use Rattle.machine_image.specs.Image.{imageOf, joined}
+use Rattle.machine_image.specs.Image.{imageOf, joined, statusBytes}
 use Rattle.machine_image.specs.Refusals.{buildLength, buildRefusal}
 use Rattle.machine_image.specs.Refusals as image
 use Rattle.table_sections.specs.Stored.{andThen, byteIn, counted, stored, storedFrom, text, times}
@@ -21,5 +21,5 @@ use Rattle.resolver.specs.Resolve.{plainOf}
 use Rattle.resolver.specs.Examples.{Marked}
 
 pub marked : Marked
-unfolding isBlank isEscapable isText isToken isUri blankAt endingAt endingStep entryAt followingAt paramAt quoteAt quotedAt quotedFrom quotedStep settingAt tokenAt whiteAt whiteStep readingFrom readingOf refusalOf spansOf urisOf valueStep run runAt walk walkAt all fields labelByte labelOk nameOk onFirst past upTo alertUrn begins bytes bytesFrom restOk lowered noCapital storedName urnOk usedUrn step discover expand tabulate deepest leaf nodes imageOf joined image.bufferOf buildLength buildRefusal andThen byteIn counted stored storedFrom text times any categoryNames distinct fewNodes formed isListed judged judgedRead listed namesRead noTwo plain single tableOf tableRead tableRefusal uses verdict builtFrom bufferFrom plainOf
+unfolding isBlank isEscapable isText isToken isUri blankAt endingAt endingStep entryAt followingAt paramAt quoteAt quotedAt quotedFrom quotedStep settingAt tokenAt whiteAt whiteStep readingFrom readingOf refusalOf spansOf urisOf valueStep run runAt walk walkAt all fields labelByte labelOk nameOk onFirst past upTo alertUrn begins bytes bytesFrom restOk lowered noCapital storedName urnOk usedUrn step discover expand tabulate deepest leaf nodes imageOf joined statusBytes image.bufferOf buildLength buildRefusal andThen byteIn counted stored storedFrom text times any categoryNames distinct fewNodes formed isListed judged judgedRead listed namesRead noTwo plain single tableOf tableRead tableRefusal uses verdict builtFrom bufferFrom plainOf
 marked = refl

@@ -14,9 +14,10 @@ use Rattle.alert_urn.specs.Urn.{alertUrn, begins, bytes, bytesFrom, lowered, no
 use Rattle.node_step.specs.Uses.{usedUrn}
 use Rattle.resolution.specs.Direct.{step}
 use Rattle.resolution.specs.Nodes.{nodes}
+use Rattle.resolution.specs.Lists as lists
 use Rattle.table_sections.specs.Stored.{andThen, byteIn, counted, stored, storedFrom, text, times}
 use Rattle.stored_table.specs.Tables.{any, categoryNames, distinct, fewNodes, formed, isListed, judged, judgedRead, listed, namesRead, noTwo, plain, single, tableOf, tableRead, tableRefusal, uses, verdict}
-use Rattle.carried_record.specs.Record.{statusesFit, carriedFits}
+use Rattle.carried_record.specs.Record.{carriedFits}
 use Rattle.resolver.specs.Feed.{feedOf}
 use Rattle.resolver.specs.Feeding.{AllAccepted, Joinable}
 use Rattle.resolver.specs.FieldsExample.{longValue, FieldsExample}
@@ -43,5 +44,5 @@ unfolding isBlank isEscapable isText isToken isUri blankAt endingAt endingStep e
 long = (omega arith, (refl, tt), omega arith, omega arith)
 
 pub fields-example : FieldsExample
-unfolding isBlank isEscapable isText isToken isUri blankAt endingAt endingStep entryAt followingAt paramAt quoteAt quotedAt quotedFrom quotedStep settingAt tokenAt whiteAt whiteStep readingFrom readingOf refusalOf spansOf urisOf valueStep run runAt walk walkAt all fields labelByte labelOk nameOk onFirst past upTo alertUrn begins bytes bytesFrom restOk lowered noCapital storedName urnOk usedUrn step nodes andThen byteIn counted stored storedFrom text times any categoryNames distinct fewNodes formed isListed judged judgedRead listed namesRead noTwo plain single tableOf tableRead tableRefusal uses verdict statusesFit carriedFits feedOf
-fields-example = record { all-accepted = (refl, (refl, (refl, tt))); high-internal = refl; low = refl; refused = refl; answers = refl; sixteen-values = sixteen; most-entries = entries; most-bytes = long }
+unfolding isBlank isEscapable isText isToken isUri blankAt endingAt endingStep entryAt followingAt paramAt quoteAt quotedAt quotedFrom quotedStep settingAt tokenAt whiteAt whiteStep readingFrom readingOf refusalOf spansOf urisOf valueStep run runAt walk walkAt all fields labelByte labelOk nameOk onFirst past upTo alertUrn begins bytes bytesFrom restOk lowered noCapital storedName urnOk usedUrn step nodes andThen byteIn counted stored storedFrom text times any categoryNames distinct fewNodes formed isListed judged judgedRead listed namesRead noTwo plain single tableOf tableRead tableRefusal uses verdict lists.tabulate lists.all carriedFits feedOf
+fields-example = record { all-accepted = (refl, (refl, (refl, tt))); high-internal = refl; low = refl; held = refl; reason = refl; refused = refl; answers = refl; sixteen-values = sixteen; most-entries = entries; most-bytes = long }

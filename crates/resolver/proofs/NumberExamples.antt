@@ -15,12 +15,12 @@ use Rattle.resolution.proofs.Direct.{state-exact}
 use Rattle.resolution.proofs.Discovery.{discover-distinct, discover-reached}
 use Rattle.alert_urn.specs.Text.{all, fields, labelByte, labelOk, nameOk, onFirst, past, upTo}
 use Rattle.alert_urn.specs.Urn.{noCapital, storedName, urnOk, bytesFrom, bytes}
-use Rattle.machine_image.specs.Image.{statuses, machineIn, imageOf, joined}
+use Rattle.machine_image.specs.Image.{statusBytes, machineIn, imageOf, joined}
 use Rattle.machine_image.specs.Refusals.{buildRefusal, formOf, stateFormed, checkOf}
 use Rattle.table_sections.specs.Stored.{andThen, byteIn, counted, stored, storedFrom, text, times}
 use Rattle.stored_table.specs.Tables.{any, distinct, fewNodes, formed, isListed, judged, judgedRead, listed, noTwo, plain, single, tableOf, tableRead, tableRefusal, uses, verdict}
 use Rattle.stored_table.specs.Examples.{least}
-use Rattle.carried_record.specs.Record.{carriedFits, statusesFit}
+use Rattle.carried_record.specs.Record.{carriedFits}
 use Rattle.signal_table.specs.Built.{builtFrom, checkFrom}
 use Rattle.resolver.specs.Numbers.{image, wrongImages, manyStates, afterValues}
 
@@ -45,19 +45,19 @@ over-many =
 
 -- the least table's machine fits 21 bytes
 pub fits-room : builtFrom least 21 .refusal ≡ 0
-unfolding builtFrom buildRefusal imageOf joined discover expand tabulate nodes leaf step fields onFirst past upTo bytesFrom bytes andThen byteIn counted stored storedFrom text times tableOf tableRead tableRefusal judged judgedRead formed listed isListed uses any noTwo single plain distinct fewNodes verdict all labelByte labelOk nameOk noCapital storedName urnOk
+unfolding builtFrom buildRefusal imageOf joined statusBytes discover expand tabulate nodes leaf step fields onFirst past upTo bytesFrom bytes andThen byteIn counted stored storedFrom text times tableOf tableRead tableRefusal judged judgedRead formed listed isListed uses any noTwo single plain distinct fewNodes verdict all labelByte labelOk nameOk noCapital storedName urnOk
 fits-room = refl
 
 pub no-room : builtFrom least 20 .refusal ≡ 14
-unfolding builtFrom buildRefusal imageOf joined discover expand tabulate nodes leaf step fields onFirst past upTo bytesFrom bytes andThen byteIn counted stored storedFrom text times tableOf tableRead tableRefusal judged judgedRead formed listed isListed uses any noTwo single plain distinct fewNodes verdict all labelByte labelOk nameOk noCapital storedName urnOk
+unfolding builtFrom buildRefusal imageOf joined statusBytes discover expand tabulate nodes leaf step fields onFirst past upTo bytesFrom bytes andThen byteIn counted stored storedFrom text times tableOf tableRead tableRefusal judged judgedRead formed listed isListed uses any noTwo single plain distinct fewNodes verdict all labelByte labelOk nameOk noCapital storedName urnOk
 no-room = refl
 
 pub right-image : checkFrom least (image 0 1) ≡ 0
-unfolding checkFrom checkOf formOf stateFormed machineIn statuses each tabulate joined nodes leaf deepest step fields onFirst past upTo bytesFrom bytes andThen byteIn counted stored storedFrom text times tableOf tableRead tableRefusal judged judgedRead formed listed isListed uses any noTwo single plain distinct fewNodes verdict all labelByte labelOk nameOk noCapital storedName urnOk
+unfolding checkFrom checkOf formOf stateFormed machineIn each tabulate joined nodes leaf deepest step fields onFirst past upTo bytesFrom bytes andThen byteIn counted stored storedFrom text times tableOf tableRead tableRefusal judged judgedRead formed listed isListed uses any noTwo single plain distinct fewNodes verdict all labelByte labelOk nameOk noCapital storedName urnOk
 right-image = refl
 
 pub wrong-images : map (checkFrom least) wrongImages ≡ tabulate (λ i. 15 + i) 3
-unfolding checkFrom checkOf formOf stateFormed machineIn statuses each tabulate joined nodes leaf deepest step fields onFirst past upTo bytesFrom bytes andThen byteIn counted stored storedFrom text times tableOf tableRead tableRefusal judged judgedRead formed listed isListed uses any noTwo single plain distinct fewNodes verdict all labelByte labelOk nameOk noCapital storedName urnOk
+unfolding checkFrom checkOf formOf stateFormed machineIn each tabulate joined nodes leaf deepest step fields onFirst past upTo bytesFrom bytes andThen byteIn counted stored storedFrom text times tableOf tableRead tableRefusal judged judgedRead formed listed isListed uses any noTwo single plain distinct fewNodes verdict all labelByte labelOk nameOk noCapital storedName urnOk
 wrong-images = refl
 
 pub right-form : formOf (tableOf least) (image 0 1) ≡ true
@@ -70,9 +70,9 @@ no-form = refl
 
 -- a record of 16 values is taken, one of 17 is not
 pub sixteen-fit : carriedFits (tableOf least) (afterValues 16) ≡ true
-unfolding carriedFits statusesFit fields onFirst past upTo bytesFrom bytes andThen byteIn counted stored storedFrom text times tableOf tableRead
+unfolding carriedFits each fields onFirst past upTo bytesFrom bytes andThen byteIn counted stored storedFrom text times tableOf tableRead
 sixteen-fit = refl
 
 pub seventeen-unfit : carriedFits (tableOf least) (afterValues 17) ≡ false
-unfolding carriedFits statusesFit fields onFirst past upTo bytesFrom bytes andThen byteIn counted stored storedFrom text times tableOf tableRead
+unfolding carriedFits each fields onFirst past upTo bytesFrom bytes andThen byteIn counted stored storedFrom text times tableOf tableRead
 seventeen-unfit = refl

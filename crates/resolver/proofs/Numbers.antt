@@ -20,7 +20,8 @@ use Rattle.stored_table.specs.Examples.{least}
 use Rattle.stored_table.proofs.Examples.{from-list, least-formed, each-number as each-table}
 use Rattle.carried_record.specs.Record.{fresh}
 use Rattle.carried_record.specs.declared.Carried.{Carried}
-use Rattle.signal_table.specs.Built.{refused as without, builtOf, builtFrom, checkFrom}
+use Rattle.machine_builder.specs.Built.{refused as without, builtOf}
+use Rattle.signal_table.specs.Built.{builtFrom, checkFrom}
 use Rattle.resolver.specs.declared.Resolution.{Resolution}
 use Rattle.resolver.specs.Resolve.{unlessRefused, refused, answered, directSignal, walkedSignal, plainOf, machineOf}
 use Rattle.resolver.specs.Feed.{feedOf}

@@ -99,7 +99,7 @@ pub record WalkClaim (t im : List ℕ) (before after : List (List ℕ)) : Type 0
   -- what it said at this point it still says at every later one
   pub still-says : (c : ℕ) (p : Parts) → Says (tableOf t) (walkedSignal t im before) c p → Says (tableOf t) (walkedSignal t im (before ++ after)) c p
   -- over the list it changes at most as often as the largest number of parts that one signal names in all its URNs
-  pub few-changes : changes (signalIn im) (λ j uri. stepUri (stepIn (tableOf t) im) j (usedUrn (categoryNames t) uri)) 0 (before ++ after)
+  pub few-changes : changes (signalIn (tableOf t .cats) im) (λ j uri. stepUri (stepIn (tableOf t) im) j (usedUrn (categoryNames t) uri)) 0 (before ++ after)
       ≤ mostParts (tableOf t .signals)
 
 -- Demand 3, for a well-formed table with at most 256 reachable states

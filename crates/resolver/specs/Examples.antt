@@ -76,7 +76,7 @@ marked =
     ∷ case T3 (value "<urn:alert:priority:low>, <urn:alert:source:internal>, <urn:alert:source:external>") (signal 3 3 0)
     ∷ case T4 (value "<urn:alert:source:internal>, <urn:alert:source:internal:vip@example>") (signal 2 2 0)
     ∷ case T4 (value "<urn:alert:source:internal:foo@example>, <urn:alert:source:internal:vip@example>") (signal 1 2 0)
-    ∷ case T5 (value "<urn:alert:service:recall>, <urn:alert:service:recall:callback>") (signal 0 2 0)
+    ∷ case T5 (value "<urn:alert:service:recall>, <urn:alert:service:recall:callback>") (signal 2 2 0)
     ∷ case T1 (image 32)
     (3 ∷ 0 ∷ 1 ∷ 0 ∷ 0 ∷ 2 ∷ 0 ∷ 0 ∷ 0 ∷ 1
     ∷ 4 ∷ 0

@@ -1,5 +1,5 @@
--- Examples m5 and m8 as three fields of one message, and values at the limits of joining, so that the claims about feeding
--- are not empty.
+-- Examples m5 and m8 as three fields of one message and m11 as two, and values at the limits of joining, so that the claims
+-- about feeding are not empty.
 use Prim.Native.Nat.{ℕ}
 use Prim.Native.Char.{code}
 use mathlib.Core.Path.{_≡_}
@@ -9,7 +9,7 @@ use Rattle.alert_info.specs.Examples.{entriesMore}
 use Rattle.alert_urn.specs.Urn.{bytes}
 use Rattle.carried_record.specs.Record.{fresh}
 use Rattle.resolver.specs.declared.Resolution.{Resolution}
-use Rattle.resolver.specs.Examples.{T3}
+use Rattle.resolver.specs.Examples.{T3, T5}
 use Rattle.resolver.specs.Feeding.{fedAll, answersTo, AllAccepted, Joinable}
 
 abbrev pub m5fields : List (List ℕ)
@@ -26,12 +26,18 @@ usedOne s = record { refusal = 0; signal = s; used = 1; skipped = 0 }
 abbrev pub longValue : ℕ → List ℕ
 longValue n = code "<" ∷ (replicate n (code "a") ++ (code ">" ∷ []))
 
+abbrev recall : List ℕ
+recall = bytes "<urn:alert:service:recall>"
+
 pub record FieldsExample : Type 0 where
   pub all-accepted : AllAccepted m5fields
   -- both categories stay open
   pub high-internal : fedAll T3 fresh m5fields ≡ record { signal = 7; status = replicate 8 0; values = 3 }
   -- the second value shuts the first category
   pub low : fedAll T3 fresh m8fields ≡ record { signal = 3; status = 1 ∷ replicate 7 0; values = 3 }
+  -- T5: a recall is held at its node, the second, and its reason in a later value is still said
+  pub held : fedAll T5 fresh (recall ∷ []) ≡ record { signal = 0; status = 3 ∷ replicate 7 0; values = 1 }
+  pub reason : fedAll T5 fresh (recall ∷ bytes "<urn:alert:service:recall:callback>" ∷ []) ≡ record { signal = 2; status = replicate 8 0; values = 2 }
   -- a refused value is counted
   pub refused : fedAll T3 fresh (bytes "<a>," ∷ []) ≡ record { signal = 0; status = replicate 8 0; values = 1 }
   -- each value goes on from the one before

@@ -23,7 +23,7 @@ pub record EachNumber : Type 0 where
   pub by-build : (n : ℕ) → BuildNumber n → (t : List ℕ) × (room : ℕ) × (builtFrom t room .refusal ≡ n)
   pub by-check : (n : ℕ) → CheckNumber n → (t im : List ℕ) × (checkFrom t im ≡ n)
 
--- the machine of a table of one node: the node and the category's Other, and three states of two bytes and a row. The first
+-- the machine of a table of one node: the node and the category's Other, and three states, each a signal, a status and a row. The first
 -- state has signal s, and the node leads from it to state j
 abbrev pub image : ℕ → ℕ → List ℕ
 image s j = 2 ∷ 0 ∷ 1 ∷ 0 ∷ 0 ∷ 0 ∷ 1 ∷ 3 ∷ 0 ∷ s ∷ 0 ∷ j ∷ 2 ∷ 1 ∷ 0 ∷ 1 ∷ 1 ∷ 0 ∷ 1 ∷ 2 ∷ 2 ∷ []

@@ -15,7 +15,7 @@ mod fields;
 mod run;
 
 use crate::answer::refused;
-use crate::run::Current;
+use crate::run::at_number;
 use carried_record::Carried;
 ghost use mathlib.Core.Path.{_≡_};
 ghost use Rattle.resolver.specs.Resolve.{plainOf, machineOf};
@@ -61,13 +61,24 @@ pub fn machine(t: &[u8], image: &[u8], v: &[u8]) -> Resolution
     let categories = d.categories;
     let nodes = d.nodes;
     let signals = d.signals;
-    let s = signal_table::symbols::list(&d.category, &d.parent, nodes, categories);
+    let s = machine_symbols::list(&d.category, &d.parent, nodes, categories);
     let count = s.count;
-    if !signal_table::image::formed(&s.bytes, count, signals, categories, image) {
+    if !machine_checker::form::formed(
+        &d.rows,
+        &d.parent,
+        &d.inner,
+        &d.category,
+        nodes,
+        &s.bytes,
+        count,
+        signals,
+        categories,
+        image,
+    ) {
         return answer::value_first(v, 15);
     }
-    let index = signal_table::symbols::index(&s.bytes, count);
-    answer::resolved(t, d, &index, &s.bytes, count, image, Current::Walk(0), v)
+    let index = machine_symbols::index(&s.bytes, count);
+    answer::resolved(t, d, &index, &s.bytes, count, image, at_number(0), v)
 }
 
 // One value of a message that has several: direct resolution goes on from what is carried.
@@ -78,7 +89,16 @@ pub fn feed(t: &[u8], carried: Carried, v: &[u8]) -> Fed
     if d.refusal != 0 {
         return fields::unchanged(d.refusal, carried);
     }
-    if !carried_record::fits(d.signals, d.categories, carried) {
+    if !carried_record::fits(
+        &d.rows,
+        &d.parent,
+        &d.inner,
+        &d.category,
+        d.nodes,
+        d.signals,
+        d.categories,
+        carried,
+    ) {
         return fields::unchanged(28, carried);
     }
     if carried.values == 16 {

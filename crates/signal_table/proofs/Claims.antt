@@ -16,7 +16,8 @@ use Rattle.machine_image.specs.Image.{machineImage}
 use Rattle.machine_image.specs.Refusals.{buildRefusal, buildLength, bufferOf, checkOf}
 use Rattle.machine_image.proofs.Build.{few-found, own-storable, reachable-accepted, longest-image, build-fits}
 use Rattle.machine_image.proofs.Check.{check-to, check-of}
-use Rattle.signal_table.specs.Built.{refused, builtOf, builtFrom, bufferFrom, checkFrom}
+use Rattle.machine_builder.specs.Built.{refused, builtOf}
+use Rattle.signal_table.specs.Built.{builtFrom, bufferFrom, checkFrom}
 use Rattle.signal_table.specs.Claims.{Builds, RefusedBuild, RightImage}
 use Rattle.signal_table.proofs.FormRight.{form-to-right, right-to-form}
 
@@ -38,7 +39,7 @@ module _ (t : List ℕ) (e : tableRefusal t ≡ 0) where
       let a = accepted t e in
       let n = few-found (tableOf t) few in
       record {
-        short = longest-image (tableOf t) (all-used t e) (a .few-nodes) (machineOf (tableOf t) (discovered (tableOf t) 256)) (own-storable (tableOf t) (a .well) n);
+        short = longest-image (tableOf t) (all-used t e) (a .few-categories) (a .few-nodes) (machineOf (tableOf t) (discovered (tableOf t) 256)) (own-storable (tableOf t) (a .well) n);
         built = λ room h.
             let w = build-fits (tableOf t) room n h in
             ap (λ b. cond b (builtOf (tableOf t) room) (refused (tableRefusal t))) same ∙ (λ i. record { refusal = w .0 i; len = w .1 i });

@@ -1,29 +1,35 @@
 -- What the builder and the checker answer for a stored table, from its decoded arrays.
 use Prim.Native.Nat.{ℕ}
-use mathlib.Core.Path.{_≡_, sym, ap, subst, _∙_}
-use mathlib.Core.Bool.{true, false}
+use mathlib.Core.Path.{_≡_, sym, ap, ap₂, subst, _∙_}
+use mathlib.Core.Bool.{Bool, true, false}
 use mathlib.Core.List.{List}
 use lib.Dec.{eqb}
 use borrow.Author.Tests.{eq-eqb, ne-eqb}
 use lib.ListN.{replicate}
 use native.Mathlib.Omega.{arith}
 use Rattle.resolution.proofs.SymbolCount.{few-symbols}
+use Rattle.node_step.specs.StatusByte.{fitsBy}
+use Rattle.node_step.specs.Uses.{fewer}
+use Rattle.node_step.specs.declared.stored.Packed.{Packed}
+use Rattle.node_step.proofs.UseLaws.{fewer-le}
+use Rattle.machine_image.specs.Refusals.{formOf}
 use Rattle.stored_table.specs.Tables.{tableOf, tableRefusal}
 use Rattle.stored_table.specs.Decoded.{Holds, Means}
 use Rattle.stored_table.specs.Accepted.{Accepted}
 use Rattle.stored_table.specs.declared.Decoded.{Decoded}
 use Rattle.stored_table.proofs.Accepting.{accepted}
-use Rattle.signal_table.specs.Built.{refused, builtFrom, bufferFrom, checkFrom}
-use Rattle.node_step.specs.Uses.{fewer}
-use Rattle.signal_table.specs.Listed.{tripleLists, symbolsOf, Listed, SymbolsIn}
-use Rattle.signal_table.specs.declared.symbols.Symbols.{Symbols}
-use Rattle.signal_table.proofs.SymbolLaws.{lists-listed}
-use Rattle.signal_table.specs.States.{nextPair, builtBy, bufferBy}
-use Rattle.signal_table.specs.Checks.{checkBy}
+use Rattle.machine_builder.specs.Built.{refused}
+use Rattle.signal_table.specs.Built.{builtFrom, bufferFrom, checkFrom}
+use Rattle.machine_symbols.specs.Listed.{tripleLists, symbolsOf, Listed, SymbolsIn}
+use Rattle.machine_symbols.specs.declared.Symbols.{Symbols}
+use Rattle.machine_symbols.proofs.SymbolLaws.{lists-listed}
+use Rattle.machine_symbols.specs.Steps.{nextState}
+use Rattle.machine_builder.specs.States.{builtBy, bufferBy}
+use Rattle.machine_checker.specs.Checks.{formBy, checkBy}
 use Rattle.signal_table.proofs.Claims.{all-used}
-use Rattle.signal_table.proofs.SymbolsRight.{symbols-in}
-use Rattle.signal_table.proofs.BuildRight.{built-right, buffer-right}
-use Rattle.signal_table.proofs.CheckRight.{check-right}
+use Rattle.machine_symbols.proofs.SymbolsRight.{symbols-in}
+use Rattle.machine_builder.proofs.BuildRight.{built-right, buffer-right}
+use Rattle.machine_checker.proofs.CheckRight.{form-right, check-right}
 
 module _ (t : List ℕ) (r : Decoded) (m : Means t r) where
   -- a refused table
@@ -69,19 +75,40 @@ module _ (t : List ℕ) (r : Decoded) (m : Means t r) where
         (omega (arith, few-symbols (tableOf t) (all-used t well), all-well .few-nodes))
         (subst (λ (k : ℕ). Listed sy count (tripleLists (r .category) (r .parent) (fewer (r .nodes) 64) (fewer k 8))) (held .categories) (lists-listed (r .category) (r .parent) (fewer (r .nodes) 64) (fewer (r .categories) 8) v .0))
 
-    pub table-built : (room : ℕ) → builtBy (nextPair (r .rows) (r .parent) (r .signals) sy) count room ≡ builtFrom t room
+    abbrev next : Packed → ℕ → Packed
+    next = nextState (r .rows) (r .parent) (r .inner) (r .signals) sy
+
+    abbrev fits : ℕ → ℕ → ℕ → Bool
+    fits = fitsBy (r .rows) (r .parent) (r .inner) (r .category) (r .nodes)
+
+    -- the builder's limits are the table's own numbers
+    cats-are : fewer (r .categories) 8 ≡ tableOf t .cats
+    cats-are = ap (λ k. fewer k 8) (held .categories) ∙ sym (fewer-le (tableOf t .cats) 8 (held .numbers .few-cats))
+
+    count-is : fewer count 128 ≡ count
+    count-is = sym (fewer-le count 128 (table-symbols .few-symbols))
+
+    pub table-built : (room : ℕ) → builtBy next (fewer (r .categories) 8) (fewer count 128) room ≡ builtFrom t room
     unfolding builtFrom
     table-built room =
-        built-right (tableOf t) (held .well-formed) (r .rows) (r .parent) (r .signals) (held .numbers) sy count table-symbols room ∙ sym (rw same)
+        ap₂ (λ k n. builtBy next k n room) cats-are count-is
+        ∙ built-right (tableOf t) (held .well-formed) (r .rows) (r .parent) (r .signals) (held .numbers) sy count table-symbols (r .inner) (held .inner) room ∙ sym (rw same)
 
-    pub table-buffer : (room : ℕ) → bufferBy (nextPair (r .rows) (r .parent) (r .signals) sy) count sy room ≡ bufferFrom t room
+    pub table-buffer : (room : ℕ) → bufferBy next (fewer (r .categories) 8) (fewer count 128) sy room ≡ bufferFrom t room
     unfolding bufferFrom
     table-buffer room =
-        buffer-right (tableOf t) (held .well-formed) (r .rows) (r .parent) (r .signals) (held .numbers) sy count table-symbols room ∙ sym (rw same)
+        ap₂ (λ k n. bufferBy next k n sy room) cats-are count-is
+        ∙ buffer-right (tableOf t) (held .well-formed) (r .rows) (r .parent) (r .signals) (held .numbers) sy count table-symbols (r .inner) (held .inner) room ∙ sym (rw same)
 
-    pub table-check : (im : List ℕ) → checkBy (nextPair (r .rows) (r .parent) (r .signals) sy) sy count (r .signals) (r .categories) im ≡ checkFrom t im
+    -- the form of an image, also for the machine resolver
+    pub table-form : (im : List ℕ) → formBy fits sy count (r .signals) (r .categories) im ≡ formOf (tableOf t) im
+    table-form im =
+        ap (λ k. formBy fits sy count (r .signals) k im) (held .categories)
+        ∙ form-right t (r .category) (r .at) (r .len) (r .nodes) (tableOf t) (held .nodes) (held .well-formed) (all-well .rows) (r .rows) (r .parent) (r .signals) (held .numbers) (r .inner) (held .inner) sy count table-symbols im
+
+    pub table-check : (im : List ℕ) → checkBy fits next sy count (r .signals) (r .categories) im ≡ checkFrom t im
     unfolding checkFrom
     table-check im =
-        ap (λ k. checkBy (nextPair (r .rows) (r .parent) (r .signals) sy) sy count (r .signals) k im) (held .categories)
-        ∙ check-right (tableOf t) (held .well-formed) (all-well .rows) (r .rows) (r .parent) (r .signals) (held .numbers) sy count table-symbols im
+        ap (λ k. checkBy fits next sy count (r .signals) k im) (held .categories)
+        ∙ check-right t (r .category) (r .at) (r .len) (r .nodes) (tableOf t) (held .nodes) (held .well-formed) (all-well .rows) (r .rows) (r .parent) (r .signals) (held .numbers) (r .inner) (held .inner) sy count table-symbols im
         ∙ sym (rw same)

@@ -1,18 +1,20 @@
 -- What holds of every build and of every image that the checker accepts.
-use Prim.Native.Nat.{ℕ, _-_, _*_, _/_, _%_, _^_, _≤_, _<_}
+use Prim.Native.Nat.{ℕ, _-_, _*_, _≤_, _<_}
 use mathlib.Core.Path.{_≡_}
 use mathlib.Core.List.{List, _++_}
 use lib.ListN.{length, take, drop, replicate}
-use Rattle.resolution.specs.Table.{Table}
+use Rattle.resolution.specs.Table.{Table, place}
 use Rattle.resolution.specs.Machine.{Accepted}
 use Rattle.stored_table.specs.Tables.{tableOf, tableRefusal}
-use Rattle.machine_image.specs.Image.{storedSymbols, machineImage, symbolCount, stateCount, placeOf, signalIn, shutIn, targetIn, machineIn}
-use Rattle.signal_table.specs.Built.{accepted, builtFrom, bufferFrom, checkFrom}
+use Rattle.machine_image.specs.Image.{storedSymbols, machineImage, symbolCount, stateCount, placeOf, signalIn, byteIn, targetIn, machineIn}
+use Rattle.machine_image.specs.Positions.{ByteOf}
+use Rattle.machine_builder.specs.Built.{accepted}
+use Rattle.signal_table.specs.Built.{builtFrom, bufferFrom, checkFrom}
 
 -- of a well-formed table with at most 256 reachable states
 pub record Builds (t : List ℕ) : Type 0 where
-  -- its machine's image is no longer than 33,667 bytes
-  pub short : length (machineImage (tableOf t)) ≤ 33667
+  -- its machine's image is no longer than 35,459 bytes
+  pub short : length (machineImage (tableOf t)) ≤ 35459
   -- wherever there is room for it the build succeeds, and leaves the image and zeros after it
   pub built : (room : ℕ) → length (machineImage (tableOf t)) ≤ room → builtFrom t room ≡ accepted (length (machineImage (tableOf t)))
   pub written : (room : ℕ) → length (machineImage (tableOf t)) ≤ room
@@ -28,14 +30,14 @@ pub record RefusedBuild (t : List ℕ) (room : ℕ) : Type 0 where
 -- an image of the right form for a table
 pub record RightForm (T : Table) (im : List ℕ) : Type 0 where
   -- it is as long as its two counts give, its symbols are the table's, and it has 1 to 256 states
-  pub length-right : length im ≡ placeOf im (stateCount im)
+  pub length-right : length im ≡ placeOf (T .cats) im (stateCount im)
   pub symbols-right : take (3 * symbolCount im) (drop 1 im) ≡ storedSymbols T
   pub some-state : 1 ≤ stateCount im
   pub few-states : stateCount im ≤ 256
-  -- every state's signal is in the table, no bit of its shut set is at or above the category count, and every target is a state
-  pub signal-listed : (j : ℕ) → j < stateCount im → signalIn im j < length (T .signals)
-  pub shut-within : (j c : ℕ) → j < stateCount im → T .cats ≤ c → shutIn im j / 2 ^ c % 2 ≡ 0
-  pub leads : (j k : ℕ) → j < stateCount im → k < symbolCount im → targetIn im j k < stateCount im
+  -- every state's signal is in the table, each category's byte is one that it can have at the signal's place, and every target is a state
+  pub signal-listed : (j : ℕ) → j < stateCount im → signalIn (T .cats) im j < length (T .signals)
+  pub status-right : (j c : ℕ) → j < stateCount im → c < T .cats → ByteOf T c (place T (signalIn (T .cats) im j) c) (byteIn (T .cats) im j c)
+  pub leads : (j k : ℕ) → j < stateCount im → k < symbolCount im → targetIn (T .cats) im j k < stateCount im
 
 -- the table is well-formed, and the image is right for it: its form, its start and all its rows
 pub record RightImage (t im : List ℕ) : Type 0 where

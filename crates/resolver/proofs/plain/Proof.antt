@@ -1,4 +1,4 @@
-use mathlib.Core.Path.{sym, _∙_}
+use mathlib.Core.Path.{_∙_}
 use native.Mathlib.Omega.{arith}
 use Rattle.alert_info.proofs.ReadingLaws.{refusal-long}
 use Rattle.resolver.specs.Resolve.{plainOf}

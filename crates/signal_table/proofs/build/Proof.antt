@@ -1,7 +1,6 @@
 use mathlib.Core.Path.{_∙_}
 use lib.ListN.{length}
 use Rattle.signal_table.proofs.TableRight.{refused-built, refused-buffer, table-built, table-buffer}
-use Rattle.signal_table.proofs.SymbolLaws.{lists-listed}
 use borrow.Author.Needs.{needs}
 use Rattle.signal_table.proofs.build.Statement.{statement}
 use Rattle.signal_table.proofs.build.Tie as tie
@@ -26,17 +25,17 @@ list-requires : tie.Need-list-requires
 list-requires c κs = search needs
 
 build-by-requires : tie.Need-build-by-requires
-build-by-requires c κs = let v = lists-listed _ _ _ _ (c .before .before .before .before .before .before .list .ensures) in (v .1, v .0 .wide)
+build-by-requires c κs = search needs
 
 same-length-2 : tie.Need-same-length-2
 same-length-2 c = search needs
 
 returns-2 : tie.Need-returns-2
-returns-2 c = let a = c .before .before .before .before .before .before .before .before .before .before .before .before .before .before .before .before .before .args in
-    let d = c .before .before .before .before .before .before .before .before .before .before .before .before .before .before .decode in
-    let s = c .before .before .before .before .before .before .before .before .before .list in (
-      c .before .before .build-by .ensures .0 ∙ table-built (a .t .now) (d .result) (d .ensures) (c .before .before .before .before .before .before .before .before .before .before .before .before .before .if1 .left) (s .result) (s .ensures) (length (a .buf .now)),
-      c .before .before .build-by .ensures .1 ∙ table-buffer (a .t .now) (d .result) (d .ensures) (c .before .before .before .before .before .before .before .before .before .before .before .before .before .if1 .left) (s .result) (s .ensures) (length (a .buf .now)),
+returns-2 c = let a = c .before .before .before .before .before .before .before .before .before .before .before .before .before .before .before .before .before .before .args in
+    let d = c .before .before .before .before .before .before .before .before .before .before .before .before .before .before .before .decode in
+    let s = c .before .before .before .before .before .before .before .before .before .before .list in (
+      c .before .before .build-by .ensures .0 ∙ table-built (a .t .now) (d .result) (d .ensures) (c .before .before .before .before .before .before .before .before .before .before .before .before .before .before .if1 .left) (s .result) (s .ensures) (length (a .buf .now)),
+      c .before .before .build-by .ensures .1 ∙ table-buffer (a .t .now) (d .result) (d .ensures) (c .before .before .before .before .before .before .before .before .before .before .before .before .before .before .if1 .left) (s .result) (s .ensures) (length (a .buf .now)),
     )
 
 pub build-spec : {M : Type 1} → statement M

@@ -17,10 +17,10 @@ check-by-requires : tie.Need-check-by-requires
 check-by-requires c κs = search needs
 
 returns-2 : tie.Need-returns-2
-returns-2 c = let a = c .before .before .before .before .before .before .before .before .before .before .before .before .before .before .args in
-    let d = c .before .before .before .before .before .before .before .before .before .before .before .decode in
-    let s = c .before .before .before .before .before .before .list in
-    c .check-by .ensures ∙ table-check (a .t .now) (d .result) (d .ensures) (c .before .before .before .before .before .before .before .before .before .before .if1 .left) (s .result) (s .ensures) (a .image .now)
+returns-2 c = let a = c .before .before .before .before .before .before .before .before .before .before .before .before .before .before .before .before .args in
+    let d = c .before .before .before .before .before .before .before .before .before .before .before .before .before .decode in
+    let s = c .before .before .before .before .before .before .before .before .list in
+    c .check-by .ensures ∙ table-check (a .t .now) (d .result) (d .ensures) (c .before .before .before .before .before .before .before .before .before .before .before .before .if1 .left) (s .result) (s .ensures) (a .image .now)
 
 pub check-spec : {M : Type 1} → statement M
 check-spec = tie.close (tie.spec decode-requires returns list-requires check-by-requires returns-2)

@@ -1,0 +1,160 @@
+// Statuses as the image of a machine stores them, and all of a state's in one number.
+use crate::Hit;
+use crate::Progress;
+use crate::Status;
+use crate::digit_at;
+use crate::extends_of;
+use crate::few_of;
+use crate::last_taken;
+use crate::progress_from;
+use crate::put_at;
+use crate::row_at;
+use crate::seek_from;
+use crate::takes_at;
+use crate::uses::at_most;
+use crate::uses::wide8;
+ghost use mathlib.Core.Path.{_≡_};
+ghost use mathlib.Core.Bool.{true};
+ghost use Prim.Native.Nat.{_<_};
+ghost use Rattle.node_step.specs.Step.{rowAt, digit, extends};
+ghost use Rattle.node_step.specs.StatusByte.{byteOf, statusOf, stepPacked, movedPacked, fitsBy};
+
+// A state with its categories' bytes in one number, category 0 lowest.
+pub struct Packed {
+    pub signal: u8,
+    pub statuses: u64,
+}
+
+// The byte of a category: 0 open, 1 shut, 1 + n held at node n.
+pub fn byte_of(progress: Progress) -> u8
+    ensures { λ r. ⌜ r ≡ byteOf (progress .status) ⌝ }
+{
+    let status = progress.status;
+    match status {
+        Status::Open => 0,
+        Status::Held(n) => {
+            if n < 255 {
+                return n + 1;
+            }
+            255
+        }
+        Status::Shut => 1,
+    }
+}
+
+// The progress that a byte says.
+pub fn progress_of(b: u8) -> Progress
+    ensures { λ r. ⌜ r .status ≡ statusOf b ⌝ }
+{
+    if b == 0 {
+        return Progress {
+            status: Status::Open,
+        };
+    }
+    if b == 1 {
+        return Progress {
+            status: Status::Shut,
+        };
+    }
+    let n = b - 1;
+    Progress {
+        status: Status::Held(n),
+    }
+}
+
+// The state after a search; b is the byte of category c.
+fn moved_packed(
+    inner: &[bool; 64],
+    st: Packed,
+    c: usize,
+    b: u8,
+    d: u8,
+    whole: bool,
+    h: Hit,
+) -> Packed
+    requires { ⌜ (c < 8) × (b ≡ digit (st .statuses) c) ⌝ }
+    ensures { λ r. ⌜ r ≡ movedPacked (now (inner .entry)) st c d whole h ⌝ }
+{
+    if h.found {
+        let progress = progress_from(inner, d, whole, h.node);
+        let after = byte_of(progress);
+        let statuses = put_at(st.statuses, c, b, after);
+        return Packed {
+            signal: h.signal,
+            statuses,
+        };
+    }
+    st
+}
+
+// One step at the node or root with number d, in category c.
+pub fn step_packed<'a>(
+    rows: &'a [u64; 32],
+    parents: &'a [u8; 64],
+    inner: &'a [bool; 64],
+    signals: usize,
+    st: Packed,
+    c: usize,
+    d: u8,
+    whole: bool,
+) -> Packed
+    ensures { λ r. ⌜ r ≡ stepPacked (now (rows .entry)) (now (parents .entry)) (now (inner .entry)) signals st c d whole ⌝ }
+{
+    if 8 <= c {
+        return st;
+    }
+    let row = row_at(rows, st.signal);
+    let q = digit_at(row, c);
+    let b = digit_at(st.statuses, c);
+    let progress = progress_of(b);
+    let last = last_taken(progress, q);
+    if takes_at(parents, progress, last, d, whole) {
+        let n = few_of(signals);
+        let h = seek_from(rows, parents, n, row, c, q, d);
+        return moved_packed(inner, st, c, b, d, whole, h);
+    }
+    st
+}
+
+// The place of signal s in category c is a proper ancestor of node d.
+fn beyond<'a>(rows: &'a [u64; 32], parents: &'a [u8; 64], s: u8, c: usize, d: u8) -> bool
+    requires { ⌜ c < 8 ⌝ }
+    ensures { λ r. ⌜ r ≡ extends (now (parents .entry)) (digit (rowAt (now (rows .entry)) s) c) d true ⌝ }
+{
+    let row = row_at(rows, s);
+    let q = digit_at(row, c);
+    extends_of(parents, q, d, true)
+}
+
+// Category c can have the byte b at signal s: 0, 1, or 1 + n for a node n of c that has nodes under it and lies beyond its place.
+pub fn fits<'a>(
+    rows: &'a [u64; 32],
+    parents: &'a [u8; 64],
+    inner: &'a [bool; 64],
+    category: &'a [u8; 64],
+    nodes: usize,
+    s: u8,
+    c: usize,
+    b: u8,
+) -> bool
+    ensures { λ r. ⌜ r ≡ fitsBy (now (rows .entry)) (now (parents .entry)) (now (inner .entry)) (now (category .entry)) nodes s c b ⌝ }
+{
+    if b <= 1 {
+        return true;
+    }
+    if 8 <= c {
+        return false;
+    }
+    let n = at_most(nodes, 64);
+    let k = b as usize - 2;
+    if n <= k {
+        return false;
+    }
+    if wide8(category[k]) != c {
+        return false;
+    }
+    if !inner[k] {
+        return false;
+    }
+    beyond(rows, parents, s, c, b - 1)
+}
