@@ -1,0 +1,1 @@
+// Ring before the end.
