@@ -1,1 +1,4 @@
 pub mod FirstEntries
+pub mod SettledBy
+pub mod Early
+pub mod Run

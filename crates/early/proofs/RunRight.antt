@@ -1,0 +1,173 @@
+-- Going through a value on node numbers comes to what the theory says of its entries.
+use Prim.Native.Nat.{ℕ, suc, _+_, _≤_, _<_}
+use mathlib.Core.Path.{_≡_, refl, sym, ap, ap₂, _∙_}
+use mathlib.Core.Logic.{_⊎_, inl, inr, _≢_}
+use mathlib.Core.Bool.{Bool, true, false, cond, _&&_, _||_, and-eq-true-iff}
+use mathlib.Core.Option.{Option, none, some}
+use mathlib.Core.List.{List, [], _∷_, map, foldl, List·Memᴰ, List·Memᴰ·cases-cons, List·Memᴰ·not-nil}
+use lib.ListN.{length, take, drop}
+use native.Mathlib.Omega.{arith}
+use native.Mathlib.Nat.{zero-add}
+use Rattle.alert_info.specs.Value.{partOf}
+use Rattle.alert_info.specs.declared.alert_param.Span.{Span}
+use Rattle.resolution.specs.Lists.{memberBy, indexBy}
+use Rattle.resolution.specs.Names.{Name, Parts, sameName, sameParts}
+use Rattle.resolution.specs.Table.{Urn, Table, WellFormed}
+use Rattle.resolution.specs.Nodes.{nodes, number, deepest}
+use Rattle.resolution.specs.Direct.{State, start, step, envOf, usedOf, stepUri, StateOf, Used, AllUsed}
+use Rattle.resolution.specs.Settled.{isSettled, neededFrom, needed, afterFirst}
+use Rattle.resolution.proofs.Lists.{index-member, or-true}
+use Rattle.resolution.proofs.Names.{name-exact}
+use Rattle.resolution.proofs.TableStep.{state-valid, state-start, state-step}
+use Rattle.resolution.proofs.Claim.{run-used}
+use Rattle.alert_urn.specs.Text.{fields}
+use Rattle.alert_urn.specs.Urn.{lowered, alertUrn, categoryOf, pathOf}
+use Rattle.alert_urn.proofs.Fields.{fields-first}
+use Rattle.node_step.specs.Step.{coded, stepNumbers}
+use Rattle.node_step.specs.StatusByte.{packed, packedOf, stepPacked}
+use Rattle.node_step.specs.Uses.{usedUrn, useOf}
+use Rattle.node_step.specs.declared.State as code
+use Rattle.node_step.specs.declared.stored.Packed.{Packed}
+use Rattle.node_step.proofs.UseRight.{uses-right}
+use Rattle.node_step.proofs.Both.{step-direct, coded-start, of-packed}
+use Rattle.stored_table.specs.Tables.{categoryNames}
+use Rattle.stored_table.specs.Decoded.{Holds}
+use Rattle.stored_table.specs.declared.Decoded.{Decoded}
+use Rattle.early.specs.FirstEntries.{Front, urisIn}
+use Rattle.early.specs.Early.{takenBy}
+use Rattle.early.specs.Run.{afterUse, afterUri, settledIn, notReached, runOver}
+use Rattle.early.specs.declared.run.Reached.{Reached}
+use Rattle.early.proofs.SettledRight.{settled-right}
+
+-- a path cut at colons has at least one part
+some-field : (s : List ℕ) → fields 58 s ≢ []
+some-field s e = let f = fields-first 58 s in let z : _≡_ {A = ℕ} 0 1 = cc (f .1) in omega arith
+
+-- the URN of a used URI is of a category of the table, and has a part
+pub used-urn : (names : List Name) (uri : List ℕ) (u : Urn) → usedUrn names uri ≡ some u → (u .cat < length names) × (u .path ≢ [])
+unfolding usedUrn
+used-urn names uri u = go (alertUrn uri && memberBy sameName (categoryOf (lowered (drop 10 uri))) names) refl
+  where
+    name : Name
+    name = categoryOf (lowered (drop 10 uri))
+
+    path : Parts
+    path = fields 58 (pathOf (lowered (drop 10 uri)))
+
+    go : (b : Bool) → alertUrn uri && memberBy sameName name names ≡ b
+        → cond b (some (record { cat = indexBy sameName name names; path = path })) none ≡ some u → (u .cat < length names) × (u .path ≢ [])
+    go true e q =
+        let c : u .cat ≡ indexBy sameName name names = cc in
+        let p : path ≡ u .path = cc in
+        let m = and-eq-true-iff (alertUrn uri) (memberBy sameName name names) .0 e .1 in
+        (omega (arith, index-member sameName name-exact [] name names m .0), λ z. some-field (pathOf (lowered (drop 10 uri))) (p ∙ z))
+    go false e q = absurd (let z : _≡_ {A = ℕ} 0 1 = cc in omega arith)
+
+module _ (T : Table) where
+  abbrev next : State → Option Urn → State
+  next = stepUri (step (envOf T))
+
+  abbrev reachedAt : State → ℕ → Reached
+  reachedAt s n = record { enough = true; signal = s .signal; entries = n }
+
+  -- the run over a list of URIs as the table takes them
+  abbrev over : State → ℕ → List (Option Urn) → Bool → Reached
+  over s n [] ended = cond (ended || isSettled T s) (reachedAt s n) notReached
+  over s n (u ∷ l) ended = cond (isSettled T s) (reachedAt s n) (over (next s u) (n + 1) l ended)
+
+  -- the state after those that are needed
+  abbrev come : State → List (Option Urn) → State
+  come s l = foldl next s (take (neededFrom T s l) l)
+
+  over-needed : (s : State) (n : ℕ) (l : List (Option Urn)) (ended : Bool)
+      → over s n l ended ≡ cond (ended || isSettled T (come s l)) (reachedAt (come s l) (n + neededFrom T s l)) notReached
+  over-needed s n [] ended = let z : n ≡ n + 0 = omega arith in ap (λ k. cond (ended || isSettled T s) (reachedAt s k) notReached) z
+  over-needed s n (u ∷ l) ended = go (isSettled T s) refl (over-needed (next s u) (n + 1) l ended)
+    where
+      k : ℕ
+      k = neededFrom T (next s u) l
+
+      go : (b : Bool) → isSettled T s ≡ b
+          → over (next s u) (n + 1) l ended ≡ cond (ended || isSettled T (come (next s u) l)) (reachedAt (come (next s u) l) (n + 1 + k)) notReached
+          → cond b (reachedAt s n) (over (next s u) (n + 1) l ended)
+          ≡ cond (ended || isSettled T (foldl next s (take (cond b 0 (suc k)) (u ∷ l)))) (reachedAt (foldl next s (take (cond b 0 (suc k)) (u ∷ l))) (n + cond b 0 (suc k))) notReached
+      go true e ih =
+          let z : n ≡ n + 0 = omega arith in
+          ap (reachedAt s) z ∙ sym (ap (λ b. cond (ended || b) (reachedAt s (n + 0)) notReached) e ∙ ap (λ b. cond b (reachedAt s (n + 0)) notReached) (or-true ended))
+      go false e ih =
+          let z : n + 1 + k ≡ n + suc k = omega arith in
+          ih ∙ ap (λ m. cond (ended || isSettled T (come (next s u) l)) (reachedAt (come (next s u) l) m) notReached) z
+
+module _ (t : List ℕ) (T : Table) (d : Decoded) (h : Holds t T d) where
+  -- a list of URIs has used ones of the table only
+  used-of : (uri : List ℕ) (u : Urn) → usedUrn (categoryNames t) uri ≡ some u → Used T u
+  used-of uri u e =
+      let k = used-urn (categoryNames t) uri u e in
+      record { known = omega (arith, k .0, h .names .all-names, h .categories); some-part = k .1 }
+
+  pub taken-used : (uris : List (List ℕ)) → AllUsed T (takenBy t uris)
+  taken-used [] = λ u m. absurd (List·Memᴰ·not-nil m)
+  taken-used (uri ∷ uris) = go (usedUrn (categoryNames t) uri) refl (taken-used uris)
+    where
+      go : (o : Option Urn) → usedUrn (categoryNames t) uri ≡ o → AllUsed T (takenBy t uris) → AllUsed T (o ∷ takenBy t uris)
+      go none e rest u m = rest u m
+      go (some x) e rest u m = by (List·Memᴰ·cases-cons m)
+        where
+          by : (u ≡ x) ⊎ List·Memᴰ u (usedOf (takenBy t uris)) → Used T u
+          by (inl i) = used-of uri u (e ∙ ap some (sym i))
+          by (inr i) = rest u i
+
+  abbrev shown : State → Packed
+  shown s = packedOf (coded T s)
+
+  -- one URI
+  uri-right : (s : State) → StateOf T s → (uri : List ℕ) → afterUri t d (shown s) uri ≡ shown (next T s (usedUrn (categoryNames t) uri))
+  unfolding afterUri stepPacked
+  uri-right s g uri =
+      ap (afterUse (d .rows) (d .parent) (d .inner) (d .signals) (shown s))
+      (uses-right t T (d .«name_at») (d .«name_len») (d .categories) (categoryNames t) (d .category) (d .at) (d .len) (d .nodes) (h .names) (h .nodes) (d .shared) (h .shared) (d .inner) (h .inner) uri)
+      ∙ go (usedUrn (categoryNames t) uri) refl
+    where
+      go : (o : Option Urn) → usedUrn (categoryNames t) uri ≡ o → afterUse (d .rows) (d .parent) (d .inner) (d .signals) (shown s) (useOf T o) ≡ shown (next T s o)
+      go none e = refl
+      go (some u) e =
+          let c = u .cat in
+          let p = deepest (nodes T) (u .cat) (u .path) in
+          ap (λ (z : code.State). packedOf (stepNumbers (d .rows) (d .parent) (d .inner) (d .signals) z c (number (nodes T) c p) (sameParts p (u .path))))
+          (of-packed T (h .numbers .few-cats) (h .numbers .few-nodes) s g)
+          ∙ ap packedOf (step-direct (d .rows) (d .parent) (d .inner) (d .signals) T (h .well-formed) (h .numbers) (h .inner) s (state-valid T s g) u (used-of uri u e .known))
+
+  uri-state : (s : State) → StateOf T s → (o : Option Urn) → StateOf T (next T s o)
+  uri-state s g none = g
+  uri-state s g (some u) = state-step T (h .well-formed) s u g
+
+  in-right : (s : State) → StateOf T s → settledIn d (shown s) ≡ isSettled T s
+  in-right s g = settled-right (d .rows) (d .parent) (d .inner) (d .signals) T (h .well-formed) (h .numbers) (h .inner) s g (d .categories) (h .categories)
+
+  -- all entries
+  over-right : (v : List ℕ) (s : State) → StateOf T s → (n : ℕ) (ps : List Span) (ended : Bool)
+      → runOver t d v (shown s) n ps ended ≡ over T s n (takenBy t (map (partOf v) ps)) ended
+  unfolding runOver
+  over-right v s g n [] ended = ap (λ b. cond (ended || b) (reachedAt T s n) notReached) (in-right s g)
+  over-right v s g n (p ∷ ps) ended =
+      ap₂ (λ b r. cond b (reachedAt T s n) r) (in-right s g)
+      (ap (λ z. runOver t d v z (n + 1) ps ended) (uri-right s g (partOf v p))
+      ∙ over-right v (next T s (usedUrn (categoryNames t) (partOf v p))) (uri-state s g (usedUrn (categoryNames t) (partOf v p))) (n + 1) ps ended)
+
+  begin-right : record { signal = 0; statuses = 0 } ≡ shown (start (T .cats))
+  unfolding packed
+  begin-right = sym (ap packedOf (coded-start T (T .cats)))
+
+  -- from the start
+  pub run-right : (v : List ℕ) (f : Front)
+      → runOver t d v (record { signal = 0; statuses = 0 }) 0 (f .parts) (f .ended)
+      ≡ cond (f .ended || isSettled T (afterFirst T (takenBy t (urisIn v f)) (needed T (takenBy t (urisIn v f)))))
+      (reachedAt T (afterFirst T (takenBy t (urisIn v f)) (needed T (takenBy t (urisIn v f)))) (needed T (takenBy t (urisIn v f)))) notReached
+  run-right v f =
+      let l = takenBy t (urisIn v f) in
+      let s = start (T .cats) in
+      ap (λ z. runOver t d v z 0 (f .parts) (f .ended)) begin-right
+      ∙ over-right v s (state-start T (h .well-formed)) 0 (f .parts) (f .ended)
+      ∙ over-needed T s 0 l (f .ended)
+      ∙ ap (λ k. cond (f .ended || isSettled T (come T s l)) (reachedAt T (come T s l) k) notReached) (zero-add (needed T l))
+      ∙ ap (λ z. cond (f .ended || isSettled T z) (reachedAt T z (needed T l)) notReached) (run-used (step (envOf T)) s (take (needed T l) l))
