@@ -78,7 +78,7 @@ module _ (t : Table) (st : State) (g : StateOf t st) where
       let v = proper-to (here c) p a in
       let k = longer-first (here c) (v .0) (v .1) in
       let h : firstHit env row c (candidates (here c) (v .0 ∷ v .1)) ≡ some (record { at = p; signal = s }) =
-          ap (λ l. firstHit env row c (l ++ here c ∷ [])) (k .1 ∙ ap (λ z. z ∷ k .0) (v .2)) ∙ found (k .0 ++ here c ∷ []) in
+      ap (λ l. firstHit env row c (l ++ here c ∷ [])) (k .1 ∙ ap (λ z. z ∷ k .0) (v .2)) ∙ found (k .0 ++ here c ∷ []) in
       ap (λ z. z .signal) (step-takes env st (urn c p) (v .0 ∷ v .1) e (v .2)) ∙ ap (λ z. move env st c p z .signal) h
     where
       found : (rest : List Parts) → firstHit env row c (p ∷ rest) ≡ some (record { at = p; signal = s })
@@ -95,13 +95,13 @@ module _ (t : Table) (st : State) (g : StateOf t st) where
       let v = proper-to (here c) p a in
       let rest : Parts = v .0 ∷ v .1 ++ (b .rest ++ [] ∷ []) in
       let j : here c ++ rest ≡ w ++ [] ∷ [] =
-          sym (append-assoc (here c) (v .0 ∷ v .1) (b .rest ++ [] ∷ [])) ∙ ap (λ z. z ++ (b .rest ++ [] ∷ [])) (v .2) ∙ sym (append-assoc p (b .rest) ([] ∷ []))
-          ∙ ap (λ z. z ++ [] ∷ []) (b .joined) in
+      sym (append-assoc (here c) (v .0 ∷ v .1) (b .rest ++ [] ∷ [])) ∙ ap (λ z. z ++ (b .rest ++ [] ∷ [])) (v .2) ∙ sym (append-assoc p (b .rest) ([] ∷ []))
+      ∙ ap (λ z. z ++ [] ∷ []) (b .joined) in
       let m = rw (v .2) at (longer-has (here c) (v .0) (v .1) (b .rest ++ [] ∷ [])) in
       let k = search-some env row c (longer (here c) rest) (here c ∷ []) p s m f in
       let takes : takesUrn (status c) (here c) (w ++ [] ∷ []) ≡ true = ap (λ o. takesUrn o (here c) (w ++ [] ∷ [])) e ∙ proper-of w (w ++ [] ∷ []) [] [] refl in
       let same : k .0 .signal ≡ st .signal =
-          sym (ap (λ z. z .signal) (step-takes env st (urn c (w ++ [] ∷ [])) rest takes j) ∙ ap (λ z. move env st c (w ++ [] ∷ []) z .signal) (k .1)) ∙ q .under c h w e in
+      sym (ap (λ z. z .signal) (step-takes env st (urn c (w ++ [] ∷ [])) rest takes j) ∙ ap (λ z. move env st c (w ++ [] ∷ []) z .signal) (k .1)) ∙ q .under c h w e in
       let got = search-hit env row c (candidates (here c) rest) (k .0) (k .1) .0 in
       let r : row ≡ set row c (k .0 .at) = ap (rowOf t) (sym same) ∙ find-sound t (set row c (k .0 .at)) (k .0 .signal) got in
       let at-here : here c ≡ k .0 .at = ap (λ z. getD z c []) r ∙ getD-set-same row c (k .0 .at) [] (rw (row-length (getD (t .signals) (st .signal) []) 0 (t .cats)) h) in
