@@ -67,7 +67,7 @@ module _ (t v : List ℕ) where
         })
         notReached
     unfolding runFrom
-    reached-is = is ∙ run-right t (tableOf t) d (m .holds table-formed) v (readOf v)
+    reached-is = is ∙ run-right t d (m .holds table-formed) v (readOf v)
 
     by-enough : (b : Bool) (s n : ℕ) {x : Early} → r ≡ cond b (record { enough = true; signal = s; entries = n }) notReached
         → x ≡ cond b (record { refusal = 0; signal = s; entries = n }) (refused (numberOf t v))

@@ -1,28 +1,22 @@
 -- Going through a value on node numbers comes to what the theory says of its entries.
-use Prim.Native.Nat.{ℕ, suc, _+_, _≤_, _<_}
+use Prim.Native.Nat.{ℕ, suc, _+_}
 use mathlib.Core.Path.{_≡_, refl, sym, ap, ap₂, _∙_}
-use mathlib.Core.Logic.{_⊎_, inl, inr, _≢_}
-use mathlib.Core.Bool.{Bool, true, false, cond, _&&_, _||_, and-eq-true-iff}
+use mathlib.Core.Bool.{Bool, true, false, cond, _||_}
 use mathlib.Core.Option.{Option, none, some}
-use mathlib.Core.List.{List, [], _∷_, map, foldl, List·Memᴰ, List·Memᴰ·cases-cons, List·Memᴰ·not-nil}
-use lib.ListN.{length, take, drop}
+use mathlib.Core.List.{List, [], _∷_, map, foldl}
+use lib.ListN.{take}
 use native.Mathlib.Omega.{arith}
 use native.Mathlib.Nat.{zero-add}
 use Rattle.alert_info.specs.Value.{partOf}
 use Rattle.alert_info.specs.declared.alert_param.Span.{Span}
-use Rattle.resolution.specs.Lists.{memberBy, indexBy}
-use Rattle.resolution.specs.Names.{Name, Parts, sameName, sameParts}
-use Rattle.resolution.specs.Table.{Urn, Table, WellFormed}
+use Rattle.resolution.specs.Names.{sameParts}
+use Rattle.resolution.specs.Table.{Urn, Table}
 use Rattle.resolution.specs.Nodes.{nodes, number, deepest}
-use Rattle.resolution.specs.Direct.{State, start, step, envOf, usedOf, stepUri, StateOf, Used, AllUsed}
+use Rattle.resolution.specs.Direct.{State, start, step, envOf, stepUri, StateOf}
 use Rattle.resolution.specs.Settled.{isSettled, neededFrom, needed, afterFirst}
-use Rattle.resolution.proofs.Lists.{index-member, or-true}
-use Rattle.resolution.proofs.Names.{name-exact}
+use Rattle.resolution.proofs.Lists.{or-true}
 use Rattle.resolution.proofs.TableStep.{state-valid, state-start, state-step}
 use Rattle.resolution.proofs.Claim.{run-used}
-use Rattle.alert_urn.specs.Text.{fields}
-use Rattle.alert_urn.specs.Urn.{lowered, alertUrn, categoryOf, pathOf}
-use Rattle.alert_urn.proofs.Fields.{fields-first}
 use Rattle.node_step.specs.Step.{coded, stepNumbers}
 use Rattle.node_step.specs.StatusByte.{packed, packedOf, stepPacked}
 use Rattle.node_step.specs.Uses.{usedUrn, useOf}
@@ -30,7 +24,7 @@ use Rattle.node_step.specs.declared.State as code
 use Rattle.node_step.specs.declared.stored.Packed.{Packed}
 use Rattle.node_step.proofs.UseRight.{uses-right}
 use Rattle.node_step.proofs.Both.{step-direct, coded-start, of-packed}
-use Rattle.stored_table.specs.Tables.{categoryNames}
+use Rattle.stored_table.specs.Tables.{tableOf, categoryNames}
 use Rattle.stored_table.specs.Decoded.{Holds}
 use Rattle.stored_table.specs.declared.Decoded.{Decoded}
 use Rattle.early.specs.FirstEntries.{Front, urisIn}
@@ -38,30 +32,7 @@ use Rattle.early.specs.Early.{takenBy}
 use Rattle.early.specs.Run.{afterUse, afterUri, settledIn, notReached, runOver}
 use Rattle.early.specs.declared.run.Reached.{Reached}
 use Rattle.early.proofs.SettledRight.{settled-right}
-
--- a path cut at colons has at least one part
-some-field : (s : List ℕ) → fields 58 s ≢ []
-some-field s e = let f = fields-first 58 s in let z : _≡_ {A = ℕ} 0 1 = cc (f .1) in omega arith
-
--- the URN of a used URI is of a category of the table, and has a part
-pub used-urn : (names : List Name) (uri : List ℕ) (u : Urn) → usedUrn names uri ≡ some u → (u .cat < length names) × (u .path ≢ [])
-unfolding usedUrn
-used-urn names uri u = go (alertUrn uri && memberBy sameName (categoryOf (lowered (drop 10 uri))) names) refl
-  where
-    name : Name
-    name = categoryOf (lowered (drop 10 uri))
-
-    path : Parts
-    path = fields 58 (pathOf (lowered (drop 10 uri)))
-
-    go : (b : Bool) → alertUrn uri && memberBy sameName name names ≡ b
-        → cond b (some (record { cat = indexBy sameName name names; path = path })) none ≡ some u → (u .cat < length names) × (u .path ≢ [])
-    go true e q =
-        let c : u .cat ≡ indexBy sameName name names = cc in
-        let p : path ≡ u .path = cc in
-        let m = and-eq-true-iff (alertUrn uri) (memberBy sameName name names) .0 e .1 in
-        (omega (arith, index-member sameName name-exact [] name names m .0), λ z. some-field (pathOf (lowered (drop 10 uri))) (p ∙ z))
-    go false e q = absurd (let z : _≡_ {A = ℕ} 0 1 = cc in omega arith)
+use Rattle.early.proofs.TakenLaws.{used-of}
 
 module _ (T : Table) where
   abbrev next : State → Option Urn → State
@@ -98,24 +69,9 @@ module _ (T : Table) where
           let z : n + 1 + k ≡ n + suc k = omega arith in
           ih ∙ ap (λ m. cond (ended || isSettled T (come (next s u) l)) (reachedAt (come (next s u) l) m) notReached) z
 
-module _ (t : List ℕ) (T : Table) (d : Decoded) (h : Holds t T d) where
-  -- a list of URIs has used ones of the table only
-  used-of : (uri : List ℕ) (u : Urn) → usedUrn (categoryNames t) uri ≡ some u → Used T u
-  used-of uri u e =
-      let k = used-urn (categoryNames t) uri u e in
-      record { known = omega (arith, k .0, h .names .all-names, h .categories); some-part = k .1 }
-
-  pub taken-used : (uris : List (List ℕ)) → AllUsed T (takenBy t uris)
-  taken-used [] = λ u m. absurd (List·Memᴰ·not-nil m)
-  taken-used (uri ∷ uris) = go (usedUrn (categoryNames t) uri) refl (taken-used uris)
-    where
-      go : (o : Option Urn) → usedUrn (categoryNames t) uri ≡ o → AllUsed T (takenBy t uris) → AllUsed T (o ∷ takenBy t uris)
-      go none e rest u m = rest u m
-      go (some x) e rest u m = by (List·Memᴰ·cases-cons m)
-        where
-          by : (u ≡ x) ⊎ List·Memᴰ u (usedOf (takenBy t uris)) → Used T u
-          by (inl i) = used-of uri u (e ∙ ap some (sym i))
-          by (inr i) = rest u i
+module _ (t : List ℕ) (d : Decoded) (h : Holds t (tableOf t) d) where
+  abbrev T : Table
+  T = tableOf t
 
   abbrev shown : State → Packed
   shown s = packedOf (coded T s)
@@ -135,7 +91,7 @@ module _ (t : List ℕ) (T : Table) (d : Decoded) (h : Holds t T d) where
           let p = deepest (nodes T) (u .cat) (u .path) in
           ap (λ (z : code.State). packedOf (stepNumbers (d .rows) (d .parent) (d .inner) (d .signals) z c (number (nodes T) c p) (sameParts p (u .path))))
           (of-packed T (h .numbers .few-cats) (h .numbers .few-nodes) s g)
-          ∙ ap packedOf (step-direct (d .rows) (d .parent) (d .inner) (d .signals) T (h .well-formed) (h .numbers) (h .inner) s (state-valid T s g) u (used-of uri u e .known))
+          ∙ ap packedOf (step-direct (d .rows) (d .parent) (d .inner) (d .signals) T (h .well-formed) (h .numbers) (h .inner) s (state-valid T s g) u (used-of t uri u e .known))
 
   uri-state : (s : State) → StateOf T s → (o : Option Urn) → StateOf T (next T s o)
   uri-state s g none = g

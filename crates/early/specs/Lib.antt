@@ -2,3 +2,4 @@ pub mod FirstEntries
 pub mod SettledBy
 pub mod Early
 pub mod Run
+pub mod Claims
