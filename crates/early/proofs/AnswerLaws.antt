@@ -1,20 +1,22 @@
 -- The answer, from the tests that lead to it.
 use Prim.Native.Nat.{ℕ, _≤_, _<_}
 use mathlib.Core.Path.{_≡_, refl, sym, ap, ap₂, _∙_}
-use mathlib.Core.Bool.{Bool, true, false, cond, _&&_, true≢false}
+use mathlib.Core.Bool.{Bool, true, false, cond, _&&_}
+use mathlib.Core.Option.{Option}
 use mathlib.Core.List.{List}
 use lib.Dec.{eqb, leb}
 use lib.ListN.{length}
 use borrow.Author.Tests.{eq-eqb, ne-eqb, le-leb, lt-leb}
 use Rattle.alert_info.specs.Value.{refusalOf}
 use Rattle.alert_info.proofs.ReadingLaws.{refusal-long}
+use Rattle.resolution.specs.Table.{Urn}
 use Rattle.resolution.specs.Settled.{needed}
 use Rattle.stored_table.specs.Tables.{tableRefusal, tableOf}
 use Rattle.stored_table.specs.Decoded.{Means}
 use Rattle.stored_table.specs.declared.Decoded.{Decoded}
 use Rattle.early.specs.FirstEntries.{urisIn}
 use Rattle.early.specs.Early.{takenBy, numberOf, refused, reached, enough, answerFor, readOf, earlyOf}
-use Rattle.early.specs.Run.{notReached, runFrom}
+use Rattle.early.specs.Run.{runFrom}
 use Rattle.early.specs.declared.Early.{Early}
 use Rattle.early.specs.declared.run.Reached.{Reached}
 use Rattle.early.proofs.RunRight.{run-right}
@@ -58,29 +60,23 @@ module _ (t v : List ℕ) where
     table-formed : tableRefusal t ≡ 0
     table-formed = sym (m .refusal) ∙ formed
 
+    abbrev uris : List (Option Urn)
+    uris = takenBy t (urisIn v (readOf v))
+
     -- what the run reached, as the theory has it
-    reached-is : r ≡ cond (enough (tableOf t) (takenBy t (urisIn v (readOf v))) (readOf v .ended))
-        (record {
-          enough = true;
-          signal = reached (tableOf t) (takenBy t (urisIn v (readOf v))) .signal;
-          entries = needed (tableOf t) (takenBy t (urisIn v (readOf v)));
-        })
-        notReached
+    reached-is : r ≡ record { enough = enough (tableOf t) uris (readOf v .ended); signal = reached (tableOf t) uris .signal; entries = needed (tableOf t) uris }
     unfolding runFrom
     reached-is = is ∙ run-right t d (m .holds table-formed) v (readOf v)
 
-    by-enough : (b : Bool) (s n : ℕ) {x : Early} → r ≡ cond b (record { enough = true; signal = s; entries = n }) notReached
-        → x ≡ cond b (record { refusal = 0; signal = s; entries = n }) (refused (numberOf t v))
-        → (r .enough ≡ true → record { refusal = 0; signal = r .signal; entries = r .entries } ≡ x) × (r .enough ≡ false → refused (numberOf t v) ≡ x)
-    by-enough true s n e f =
-        ((λ z. ap (λ (q : Reached). record { refusal = 0; signal = q .signal; entries = q .entries }) e ∙ sym f), λ z. absurd (true≢false (sym (ap (λ (q : Reached). q .enough) e) ∙ z)))
-    by-enough false s n e f =
-        ((λ z. absurd (true≢false (sym z ∙ ap (λ (q : Reached). q .enough) e))), λ z. sym f)
+    by-enough : (b : Bool) → r .enough ≡ b
+        → earlyOf t v ≡ cond b (record { refusal = 0; signal = reached (tableOf t) uris .signal; entries = needed (tableOf t) uris }) (refused (numberOf t v))
+    by-enough b e =
+        early-read short table-formed
+        ∙ ap (λ z. cond z (record { refusal = 0; signal = reached (tableOf t) uris .signal; entries = needed (tableOf t) uris }) (refused (numberOf t v)))
+        (sym (ap (λ (q : Reached). q .enough) reached-is) ∙ e)
 
     pub early-enough : r .enough ≡ true → record { refusal = 0; signal = r .signal; entries = r .entries } ≡ earlyOf t v
-    early-enough = by-enough (enough (tableOf t) (takenBy t (urisIn v (readOf v))) (readOf v .ended)) _ _ reached-is (early-read short table-formed) .0
+    early-enough e = ap (λ (q : Reached). record { refusal = 0; signal = q .signal; entries = q .entries }) reached-is ∙ sym (by-enough true e)
 
     pub early-else : r .enough ≡ false → refused (cond (eqb (refusalOf v) 0) 0 (refusalOf v)) ≡ earlyOf t v
-    early-else z =
-        ap (λ k. refused (cond (eqb (refusalOf v) 0) k (refusalOf v))) (sym table-formed)
-        ∙ by-enough (enough (tableOf t) (takenBy t (urisIn v (readOf v))) (readOf v .ended)) _ _ reached-is (early-read short table-formed) .1 z
+    early-else e = ap (λ k. refused (cond (eqb (refusalOf v) 0) k (refusalOf v))) (sym table-formed) ∙ sym (by-enough false e)

@@ -15,13 +15,14 @@ use Rattle.alert_info.specs.declared.alert_param.Span.{Span}
 use Rattle.alert_info.specs.declared.alert_param.Found.{Found}
 use Rattle.alert_info.specs.declared.alert_param.Found.the-variants.{Last, More, None}
 use Rattle.alert_info.proofs.Lands.{SpanIn, FoundLands, entry-lands}
+use Rattle.resolution.proofs.Lists.{or-true}
 use Rattle.node_step.specs.StatusByte.{stepPacked}
 use Rattle.node_step.specs.declared.stored.Packed.{Packed}
 use Rattle.node_step.specs.declared.uses.Use.{Use}
 use Rattle.node_step.specs.declared.uses.Use.the-variants.{Skipped, Used}
 use Rattle.stored_table.specs.declared.Decoded.{Decoded}
 use Rattle.early.specs.FirstEntries.{Front, nothing, only, before, frontFrom, firstOf}
-use Rattle.early.specs.Run.{useIn, afterUse, afterUri, settledIn, spanIn, reachedAt, notReached, runOver, runFrom}
+use Rattle.early.specs.Run.{useIn, afterUse, afterUri, settledIn, spanIn, reachedAt, runOver, runFrom}
 use Rattle.early.specs.declared.run.Reached.{Reached}
 use Rattle.early.proofs.FrontLaws.{front-last, front-more, front-none, ended-some}
 
@@ -64,34 +65,29 @@ module _ (t : List ℕ) (d : Decoded) (v : List ℕ) (st : Packed) (n at : ℕ) 
   abbrev over : Packed → ℕ → Front → Reached
   over s k f = runOver t d v s k (f .parts) (f .ended)
 
-  or-settled : (b : Bool) → (b || true) ≡ true
-  or-settled true = refl
-  or-settled false = refl
-
-  at-once : ends ≡ true → (l : List Span) (b : Bool) → runOver t d v st n l b ≡ reachedAt st n
+  at-once : ends ≡ true → (l : List Span) (b : Bool) → runOver t d v st n l b ≡ reachedAt true st n
   unfolding runOver
-  at-once e [] b = ap (λ z. cond (b || z) (reachedAt st n) notReached) (sym is ∙ e) ∙ ap (λ z. cond z (reachedAt st n) notReached) (or-settled b)
-  at-once e (p ∷ l) b = ap (λ z. cond z (reachedAt st n) (runOver t d v (afterUri t d st (partOf v p)) (n + 1) l b)) (sym is ∙ e)
+  at-once e [] b = ap (λ z. reachedAt z st n) (ap (λ z. b || z) (sym is ∙ e) ∙ or-true b)
+  at-once e (p ∷ l) b = ap (λ z. cond z (reachedAt true st n) (runOver t d v (afterUri t d st (partOf v p)) (n + 1) l b)) (sym is ∙ e)
 
-  pub run-settled : ends ≡ true → reachedAt st n ≡ all
+  pub run-settled : ends ≡ true → reachedAt true st n ≡ all
   unfolding runFrom
   run-settled e = sym (inv ∙ at-once e (firstOf (64 - n) (frontFrom v at) .parts) (firstOf (64 - n) (frontFrom v at) .ended))
 
   module _ (open-still : ends ≡ false) where
-    no-more : (b : Bool) → runOver t d v st n [] b ≡ cond b (reachedAt st n) notReached
+    no-more : runOver t d v st n [] false ≡ reachedAt false st n
     unfolding runOver
-    no-more true = refl
-    no-more false = ap (λ z. cond z (reachedAt st n) notReached) (sym is ∙ open-still)
+    no-more = ap (λ z. reachedAt z st n) (sym is ∙ open-still)
 
     one-more : (p : Span) (l : List Span) (b : Bool) → runOver t d v st n (p ∷ l) b ≡ runOver t d v (afterUri t d st (partOf v p)) (n + 1) l b
     unfolding runOver
-    one-more p l b = ap (λ z. cond z (reachedAt st n) (runOver t d v (afterUri t d st (partOf v p)) (n + 1) l b)) (sym is ∙ open-still)
+    one-more p l b = ap (λ z. cond z (reachedAt true st n) (runOver t d v (afterUri t d st (partOf v p)) (n + 1) l b)) (sym is ∙ open-still)
 
-    pub run-full : 64 ≤ n → notReached ≡ all
+    pub run-full : 64 ≤ n → reachedAt false st n ≡ all
     unfolding runFrom
     run-full h =
         let z : 64 - n ≡ 0 = omega arith in
-        sym (inv ∙ ap (λ m. over st n (firstOf m (frontFrom v at))) z ∙ no-more (frontFrom v at .ended && leb (length (frontFrom v at .parts)) 0) ∙ ap (λ b. cond b (reachedAt st n) notReached) (none (frontFrom v at .ended) refl (frontFrom v at .parts) refl))
+        sym (inv ∙ ap (λ m. over st n (firstOf m (frontFrom v at))) z ∙ ap (runOver t d v st n []) (none (frontFrom v at .ended) refl (frontFrom v at .parts) refl) ∙ no-more)
       where
         none : (b : Bool) → frontFrom v at .ended ≡ b → (l : List Span) → frontFrom v at .parts ≡ l → b && leb (length l) 0 ≡ false
         none false e l q = refl
@@ -127,13 +123,13 @@ module _ (t : List ℕ) (d : Decoded) (v : List ℕ) (st : Packed) (n at : ℕ) 
             ∙ one-more p (firstOf (64 - (n + 1)) (frontFrom v (c .at)) .parts) (firstOf (64 - (n + 1)) (frontFrom v (c .at)) .ended)
             ∙ ap (λ s. over s (n + 1) (firstOf (64 - (n + 1)) (frontFrom v (c .at)))) (sym (q ∙ ap (λ x. afterUri t d st (partOf v (spanIn x))) e))
 
-        pub run-last : (p : Span) {next : Packed} → f ≡ Last p → next ≡ afterUri t d st (partOf v (spanIn f)) → reachedAt next (n + 1) ≡ all
+        pub run-last : (p : Span) {next : Packed} → f ≡ Last p → next ≡ afterUri t d st (partOf v (spanIn f)) → reachedAt true next (n + 1) ≡ all
         unfolding runFrom runOver
         run-last p {next} e q =
             sym (inv ∙ ap (λ x. over st n (firstOf (64 - n) x)) (front-last v at f here p e) ∙ ap (over st n) (first-only p) ∙ one-more p [] true
-            ∙ ap (λ s. reachedAt s (n + 1)) (sym (q ∙ ap (λ x. afterUri t d st (partOf v (spanIn x))) e)))
+            ∙ ap (λ s. reachedAt true s (n + 1)) (sym (q ∙ ap (λ x. afterUri t d st (partOf v (spanIn x))) e)))
 
-        pub run-none : f ≡ None → notReached ≡ all
+        pub run-none : f ≡ None → reachedAt false st n ≡ all
         unfolding runFrom
         run-none e =
-            sym (inv ∙ ap (λ x. over st n (firstOf (64 - n) x)) (front-none v at f here e) ∙ ap (over st n) (first-nothing (64 - n)) ∙ no-more false)
+            sym (inv ∙ ap (λ x. over st n (firstOf (64 - n) x)) (front-none v at f here e) ∙ ap (over st n) (first-nothing (64 - n)) ∙ no-more)

@@ -13,7 +13,7 @@ use Rattle.resolution.specs.Names.{sameParts}
 use Rattle.resolution.specs.Table.{Urn, Table}
 use Rattle.resolution.specs.Nodes.{nodes, number, deepest}
 use Rattle.resolution.specs.Direct.{State, start, step, envOf, stepUri, StateOf}
-use Rattle.resolution.specs.Settled.{isSettled, neededFrom, needed, afterFirst}
+use Rattle.resolution.specs.Settled.{isSettled, neededFrom, needed}
 use Rattle.resolution.proofs.Lists.{or-true}
 use Rattle.resolution.proofs.TableStep.{state-valid, state-start, state-step}
 use Rattle.resolution.proofs.Claim.{run-used}
@@ -28,8 +28,8 @@ use Rattle.stored_table.specs.Tables.{tableOf, categoryNames}
 use Rattle.stored_table.specs.Decoded.{Holds}
 use Rattle.stored_table.specs.declared.Decoded.{Decoded}
 use Rattle.early.specs.FirstEntries.{Front, urisIn}
-use Rattle.early.specs.Early.{takenBy}
-use Rattle.early.specs.Run.{afterUse, afterUri, settledIn, notReached, runOver}
+use Rattle.early.specs.Early.{takenBy, reached, enough}
+use Rattle.early.specs.Run.{afterUse, afterUri, settledIn, runOver}
 use Rattle.early.specs.declared.run.Reached.{Reached}
 use Rattle.early.proofs.SettledRight.{settled-right}
 use Rattle.early.proofs.TakenLaws.{used-of}
@@ -38,36 +38,36 @@ module _ (T : Table) where
   abbrev next : State → Option Urn → State
   next = stepUri (step (envOf T))
 
-  abbrev reachedAt : State → ℕ → Reached
-  reachedAt s n = record { enough = true; signal = s .signal; entries = n }
+  abbrev reachedAt : Bool → State → ℕ → Reached
+  reachedAt enough s n = record { enough = enough; signal = s .signal; entries = n }
 
   -- the run over a list of URIs as the table takes them
   abbrev over : State → ℕ → List (Option Urn) → Bool → Reached
-  over s n [] ended = cond (ended || isSettled T s) (reachedAt s n) notReached
-  over s n (u ∷ l) ended = cond (isSettled T s) (reachedAt s n) (over (next s u) (n + 1) l ended)
+  over s n [] ended = reachedAt (ended || isSettled T s) s n
+  over s n (u ∷ l) ended = cond (isSettled T s) (reachedAt true s n) (over (next s u) (n + 1) l ended)
 
   -- the state after those that are needed
   abbrev come : State → List (Option Urn) → State
   come s l = foldl next s (take (neededFrom T s l) l)
 
   over-needed : (s : State) (n : ℕ) (l : List (Option Urn)) (ended : Bool)
-      → over s n l ended ≡ cond (ended || isSettled T (come s l)) (reachedAt (come s l) (n + neededFrom T s l)) notReached
-  over-needed s n [] ended = let z : n ≡ n + 0 = omega arith in ap (λ k. cond (ended || isSettled T s) (reachedAt s k) notReached) z
+      → over s n l ended ≡ reachedAt (ended || isSettled T (come s l)) (come s l) (n + neededFrom T s l)
+  over-needed s n [] ended = let z : n ≡ n + 0 = omega arith in ap (reachedAt (ended || isSettled T s) s) z
   over-needed s n (u ∷ l) ended = go (isSettled T s) refl (over-needed (next s u) (n + 1) l ended)
     where
       k : ℕ
       k = neededFrom T (next s u) l
 
       go : (b : Bool) → isSettled T s ≡ b
-          → over (next s u) (n + 1) l ended ≡ cond (ended || isSettled T (come (next s u) l)) (reachedAt (come (next s u) l) (n + 1 + k)) notReached
-          → cond b (reachedAt s n) (over (next s u) (n + 1) l ended)
-          ≡ cond (ended || isSettled T (foldl next s (take (cond b 0 (suc k)) (u ∷ l)))) (reachedAt (foldl next s (take (cond b 0 (suc k)) (u ∷ l))) (n + cond b 0 (suc k))) notReached
+          → over (next s u) (n + 1) l ended ≡ reachedAt (ended || isSettled T (come (next s u) l)) (come (next s u) l) (n + 1 + k)
+          → cond b (reachedAt true s n) (over (next s u) (n + 1) l ended)
+          ≡ reachedAt (ended || isSettled T (foldl next s (take (cond b 0 (suc k)) (u ∷ l)))) (foldl next s (take (cond b 0 (suc k)) (u ∷ l))) (n + cond b 0 (suc k))
       go true e ih =
           let z : n ≡ n + 0 = omega arith in
-          ap (reachedAt s) z ∙ sym (ap (λ b. cond (ended || b) (reachedAt s (n + 0)) notReached) e ∙ ap (λ b. cond b (reachedAt s (n + 0)) notReached) (or-true ended))
+          ap₂ (λ b m. reachedAt b s m) (sym (ap (λ b. ended || b) e ∙ or-true ended)) z
       go false e ih =
           let z : n + 1 + k ≡ n + suc k = omega arith in
-          ih ∙ ap (λ m. cond (ended || isSettled T (come (next s u) l)) (reachedAt (come (next s u) l) m) notReached) z
+          ih ∙ ap (reachedAt (ended || isSettled T (come (next s u) l)) (come (next s u) l)) z
 
 module _ (t : List ℕ) (d : Decoded) (h : Holds t (tableOf t) d) where
   abbrev T : Table
@@ -104,9 +104,9 @@ module _ (t : List ℕ) (d : Decoded) (h : Holds t (tableOf t) d) where
   over-right : (v : List ℕ) (s : State) → StateOf T s → (n : ℕ) (ps : List Span) (ended : Bool)
       → runOver t d v (shown s) n ps ended ≡ over T s n (takenBy t (map (partOf v) ps)) ended
   unfolding runOver
-  over-right v s g n [] ended = ap (λ b. cond (ended || b) (reachedAt T s n) notReached) (in-right s g)
+  over-right v s g n [] ended = ap (λ b. reachedAt T (ended || b) s n) (in-right s g)
   over-right v s g n (p ∷ ps) ended =
-      ap₂ (λ b r. cond b (reachedAt T s n) r) (in-right s g)
+      ap₂ (λ b r. cond b (reachedAt T true s n) r) (in-right s g)
       (ap (λ z. runOver t d v z (n + 1) ps ended) (uri-right s g (partOf v p))
       ∙ over-right v (next T s (usedUrn (categoryNames t) (partOf v p))) (uri-state s g (usedUrn (categoryNames t) (partOf v p))) (n + 1) ps ended)
 
@@ -117,13 +117,12 @@ module _ (t : List ℕ) (d : Decoded) (h : Holds t (tableOf t) d) where
   -- from the start
   pub run-right : (v : List ℕ) (f : Front)
       → runOver t d v (record { signal = 0; statuses = 0 }) 0 (f .parts) (f .ended)
-      ≡ cond (f .ended || isSettled T (afterFirst T (takenBy t (urisIn v f)) (needed T (takenBy t (urisIn v f)))))
-      (reachedAt T (afterFirst T (takenBy t (urisIn v f)) (needed T (takenBy t (urisIn v f)))) (needed T (takenBy t (urisIn v f)))) notReached
+      ≡ reachedAt T (enough T (takenBy t (urisIn v f)) (f .ended)) (reached T (takenBy t (urisIn v f))) (needed T (takenBy t (urisIn v f)))
   run-right v f =
       let l = takenBy t (urisIn v f) in
       let s = start (T .cats) in
       ap (λ z. runOver t d v z 0 (f .parts) (f .ended)) begin-right
       ∙ over-right v s (state-start T (h .well-formed)) 0 (f .parts) (f .ended)
       ∙ over-needed T s 0 l (f .ended)
-      ∙ ap (λ k. cond (f .ended || isSettled T (come T s l)) (reachedAt T (come T s l) k) notReached) (zero-add (needed T l))
-      ∙ ap (λ z. cond (f .ended || isSettled T z) (reachedAt T z (needed T l)) notReached) (run-used (step (envOf T)) s (take (needed T l) l))
+      ∙ ap (reachedAt T (f .ended || isSettled T (come T s l)) (come T s l)) (zero-add (needed T l))
+      ∙ ap (λ z. reachedAt T (f .ended || isSettled T z) z (needed T l)) (run-used (step (envOf T)) s (take (needed T l) l))

@@ -1,6 +1,6 @@
 -- How a value is gone through: from entry to entry, until the state is settled.
 use Prim.Native.Nat.{ℕ, _+_, _-_}
-use mathlib.Core.Bool.{Bool, true, false, cond, _||_}
+use mathlib.Core.Bool.{Bool, true, cond, _||_}
 use mathlib.Core.List.{List, [], _∷_}
 use Rattle.alert_info.specs.Value.{partOf}
 use Rattle.alert_info.specs.declared.alert_param.Span.{Span}
@@ -37,17 +37,14 @@ spanIn (Last p) = p
 spanIn (More p c) = p
 spanIn None = record { start = 0; len = 0 }
 
--- so many entries are enough, or the entries read are not
-abbrev pub reachedAt : Packed → ℕ → Reached
-reachedAt st n = record { enough = true; signal = st .signal; entries = n }
-
-abbrev pub notReached : Reached
-notReached = record { enough = false; signal = 0; entries = 0 }
+-- the signal after n entries, which are enough or not
+abbrev pub reachedAt : Bool → Packed → ℕ → Reached
+reachedAt enough st n = record { enough = enough; signal = st .signal; entries = n }
 
 -- from a state after n entries, over those that follow
 unfoldable pub runOver : List ℕ → Decoded → List ℕ → Packed → ℕ → List Span → Bool → Reached
-runOver t d v st n [] ended = cond (ended || settledIn d st) (reachedAt st n) notReached
-runOver t d v st n (p ∷ ps) ended = cond (settledIn d st) (reachedAt st n) (runOver t d v (afterUri t d st (partOf v p)) (n + 1) ps ended)
+runOver t d v st n [] ended = reachedAt (ended || settledIn d st) st n
+runOver t d v st n (p ∷ ps) ended = cond (settledIn d st) (reachedAt true st n) (runOver t d v (afterUri t d st (partOf v p)) (n + 1) ps ended)
 
 -- from a place in the value, before a 65th entry
 unfoldable pub runFrom : List ℕ → Decoded → List ℕ → Packed → ℕ → ℕ → Reached

@@ -11,34 +11,24 @@ use stored_table::Decoded;
 ghost use mathlib.Core.Path.{_≡_};
 ghost use Prim.Native.Nat.{_≤_};
 ghost use Rattle.early.specs.SettledBy.{settledBy};
-ghost use Rattle.early.specs.Run.{afterUse, spanIn, reachedAt, notReached, runFrom};
+ghost use Rattle.early.specs.Run.{afterUse, spanIn, reachedAt, runFrom};
 
-// Whether the entries read are enough; if so, the signal, and how many of them are needed.
+// The signal after so many entries, and whether they are enough.
 pub struct Reached {
     pub enough: bool,
     pub signal: u8,
     pub entries: u8,
 }
 
-// The state after so many entries is enough.
-fn reached_at(st: Packed, n: usize) -> Reached
+// The state after so many entries, which is enough or not.
+fn ended(enough: bool, st: Packed, n: usize) -> Reached
     requires { ⌜ n ≤ 64 ⌝ }
-    ensures { λ r. ⌜ r ≡ reachedAt st n ⌝ }
+    ensures { λ r. ⌜ r ≡ reachedAt enough st n ⌝ }
 {
     Reached {
-        enough: true,
+        enough,
         signal: st.signal,
         entries: n as u8,
-    }
-}
-
-fn not_reached() -> Reached
-    ensures { λ r. ⌜ r ≡ notReached ⌝ }
-{
-    Reached {
-        enough: false,
-        signal: 0,
-        entries: 0,
     }
 }
 
@@ -113,10 +103,10 @@ pub(crate) fn run(t: &[u8], d: Decoded, v: &[u8]) -> Reached
     let mut ends = settled(&d.rows, &d.parent, &d.inner, d.signals, d.categories, st);
     loop {
         if ends {
-            return reached_at(st, n);
+            return ended(true, st, n);
         }
         if 64 <= n {
-            return not_reached();
+            return ended(false, st, n);
         }
         let c = Cursor { at };
         let found = c.entry(v);
@@ -137,7 +127,6 @@ pub(crate) fn run(t: &[u8], d: Decoded, v: &[u8]) -> Reached
             &v[start..end],
         );
         let next = taken(&d.rows, &d.parent, &d.inner, d.signals, st, u);
-        n += 1;
         match found {
             Found::More(_, after) => {
                 ends = settled_next(
@@ -151,10 +140,11 @@ pub(crate) fn run(t: &[u8], d: Decoded, v: &[u8]) -> Reached
                     next,
                 );
                 st = next;
+                n += 1;
                 at = after.at;
             }
-            Found::Last(_) => return reached_at(next, n),
-            Found::None => return not_reached(),
+            Found::Last(_) => return ended(true, next, n + 1),
+            Found::None => return ended(false, st, n),
         }
     }
 }
