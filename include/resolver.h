@@ -36,7 +36,8 @@ alert_resolution resolve_machine(const uint8_t *table, size_t len, const uint8_t
 /* What is carried between the values of one message. All zero before the first. */
 typedef struct alert_record {
     uint8_t signal;    /* the signal so far */
-    uint8_t status[8]; /* of each category in the table's order: 0 open, 1 shut; 0 for those that the table lacks */
+    uint8_t status[8]; /* of each category in the table's order: 0 open, 1 shut, 1 + n held at node n;
+                          0 for those that the table lacks */
     uint8_t values;    /* how many values were fed, at most ALERT_VALUES */
 } alert_record;
 

@@ -17,8 +17,9 @@ use crate::{Match, Reader, Record, Resolution, Resolvers, Tables, Tallies, Tally
 use std::fmt::Write;
 use std::path::{Path, PathBuf};
 
-/// One file for each command, the draft's worked examples, values with folded lines, and messages of several fields.
-pub const FILES: [&str; 12] = [
+/// One file for each command, the draft's worked examples, values with folded lines, messages of
+/// several fields, and URNs that a category holds.
+pub const FILES: [&str; 14] = [
     "value.txt",
     "entry.txt",
     "table.txt",
@@ -31,6 +32,8 @@ pub const FILES: [&str; 12] = [
     "folded.txt",
     "fields.txt",
     "tally.txt",
+    "held.txt",
+    "held_machine.txt",
 ];
 
 /// Where the cases are.

@@ -6,7 +6,7 @@ use outside::reference::Reference;
 use outside::Tables;
 use std::path::Path;
 
-const LONGEST: usize = 33_667;
+const LONGEST: usize = 35_459;
 
 #[test]
 fn limits_are_met() {
@@ -16,7 +16,7 @@ fn limits_are_met() {
         match limit.what {
             "8,192 bytes" | "8,192 bytes, one left over" => assert_eq!(limit.table.len(), 8192),
             "8,193 bytes" => assert_eq!(limit.table.len(), 8193),
-            "64 nodes, 256 states, 128 symbols" => assert_eq!(built.len, LONGEST),
+            "64 nodes, 256 states, 120 symbols" => assert_eq!((built.len, states(&limit.table)), (31_851, 256)),
             "a URN of 255 bytes" => assert!(limit.table.contains(&255)),
             "257 states" => assert_eq!(states(&limit.table), 257),
             _ => {}
@@ -32,7 +32,7 @@ fn states(table: &[u8]) -> usize {
 #[test]
 fn example_tables() {
     let folder = Path::new(env!("CARGO_MANIFEST_DIR")).join("../examples/tables");
-    let known = [("T1", 4), ("T2", 16), ("T3", 15), ("T4", 6), ("T5", 4), ("separate", 12), ("countries", 13)];
+    let known = [("T1", 4), ("T2", 16), ("T3", 15), ("T4", 6), ("T5", 5), ("separate", 12), ("countries", 13)];
     for (name, count) in known {
         let table = std::fs::read(folder.join(name).with_extension("table")).expect(name);
         assert_eq!(states(&table), count, "{name}");

@@ -69,4 +69,6 @@ fn main() {
     answer_file(b"folded.txt");
     answer_file(b"fields.txt");
     answer_file(b"tally.txt");
+    answer_file(b"held.txt");
+    answer_file(b"held_machine.txt");
 }

@@ -71,8 +71,8 @@ const EMPTY: u16 = u16::MAX;
 impl Found {
     /// The state's number; a new one is added. 256 where there is no more room.
     fn number(&mut self, state: State) -> usize {
-        let key = (state.signal as u32) << 8 | state.shut as u32;
-        let mut slot = (key.wrapping_mul(0x9E37_79B1) >> 23) as usize;
+        let key = state.status.wrapping_mul(0x9E37_79B9_7F4A_7C15) ^ state.signal as u64;
+        let mut slot = (key.wrapping_mul(0x9E37_79B9_7F4A_7C15) >> 55) as usize;
         loop {
             let number = self.slots[slot];
             if number == EMPTY {
@@ -101,7 +101,8 @@ pub fn build(table: &[u8], buffer: &mut [u8]) -> Result<usize, u8> {
     let mut found = Found { states: [START; 256], count: 0, slots: [EMPTY; 512] };
     found.number(START);
     let head = 3 + 3 * symbols.count;
-    let width = 2 + symbols.count;
+    let own = 1 + table.category_count;
+    let width = own + symbols.count;
     let mut from = 0;
     while from < found.count {
         let state = found.states[from];
@@ -110,7 +111,7 @@ pub fn build(table: &[u8], buffer: &mut [u8]) -> Result<usize, u8> {
         let mut row = buffer.get_mut(start..start + width);
         if let Some(row) = &mut row {
             row[0] = state.signal;
-            row[1] = state.shut;
+            row[1..own].copy_from_slice(&state.status.to_le_bytes()[..own - 1]);
         }
         for (i, symbol) in symbols.iter().enumerate() {
             let to = table.step(state, symbol.category as usize, symbol.node, !symbol.other);
@@ -119,7 +120,7 @@ pub fn build(table: &[u8], buffer: &mut [u8]) -> Result<usize, u8> {
                 return Err(13);
             }
             if let Some(row) = &mut row {
-                row[2 + i] = number as u8;
+                row[own + i] = number as u8;
             }
         }
         from += 1;
@@ -139,7 +140,8 @@ pub fn build(table: &[u8], buffer: &mut [u8]) -> Result<usize, u8> {
 /// The rows of an image of good form: number 15 if it is not.
 pub fn rows<'a>(table: &Decoded, symbols: &Symbols, image: &'a [u8]) -> Result<&'a [u8], u8> {
     let head = 3 + 3 * symbols.count;
-    let width = 2 + symbols.count;
+    let own = 1 + table.category_count;
+    let width = own + symbols.count;
     if image.len() < head || image[0] as usize != symbols.count {
         return Err(15);
     }
@@ -155,8 +157,8 @@ pub fn rows<'a>(table: &Decoded, symbols: &Symbols, image: &'a [u8]) -> Result<&
     let last = (count - 1) as u8;
     for row in rows.chunks_exact(width) {
         if row[0] as usize >= table.signal_count
-            || row[1] as usize >> table.category_count != 0
-            || row[2..].iter().any(|&target| target > last)
+            || (0..table.category_count).any(|c| !table.fits(row[0], c, row[1 + c]))
+            || row[own..].iter().any(|&target| target > last)
         {
             return Err(15);
         }
@@ -168,16 +170,21 @@ pub fn check(table: &[u8], image: &[u8]) -> Result<(), u8> {
     let table = Decoded::read(table)?;
     let symbols = Symbols::of(&table);
     let rows = rows(&table, &symbols, image)?;
-    let width = 2 + symbols.count;
-    if rows[0] != 0 || rows[1] != 0 {
+    let own = 1 + table.category_count;
+    let width = own + symbols.count;
+    let state_at = |start: usize| {
+        let mut status = [0; 8];
+        status[..own - 1].copy_from_slice(&rows[start + 1..start + own]);
+        State { signal: rows[start], status: u64::from_le_bytes(status) }
+    };
+    if state_at(0) != START {
         return Err(16);
     }
-    for row in rows.chunks_exact(width) {
-        let state = State { signal: row[0], shut: row[1] };
-        for (symbol, &target) in symbols.iter().zip(&row[2..]) {
+    for (j, row) in rows.chunks_exact(width).enumerate() {
+        let state = state_at(j * width);
+        for (symbol, &target) in symbols.iter().zip(&row[own..]) {
             let to = table.step(state, symbol.category as usize, symbol.node, !symbol.other);
-            let start = target as usize * width;
-            if rows[start] != to.signal || rows[start + 1] != to.shut {
+            if state_at(target as usize * width) != to {
                 return Err(17);
             }
         }

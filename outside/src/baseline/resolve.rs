@@ -28,12 +28,13 @@ pub fn machine(table: &[u8], image: &[u8], value: &[u8]) -> Result<Resolution, u
     let table = Decoded::read(table)?;
     let symbols = Symbols::of(&table);
     let rows = rows(&table, &symbols, image)?;
-    let width = 2 + symbols.count;
+    let own = 1 + table.category_count;
+    let width = own + symbols.count;
     let mut row = 0;
     let mut used = 0;
     for uri in uris.iter(value) {
         if let Some((category, node, whole)) = table.find(uri) {
-            row = width * rows[row + 2 + symbols.index(&table, category, node, whole)] as usize;
+            row = width * rows[row + own + symbols.index(&table, category, node, whole)] as usize;
             used += 1;
         }
     }
@@ -45,14 +46,12 @@ fn carried(table: &Decoded, record: &Record) -> Result<State, u8> {
     if record.signal as usize >= table.signal_count || record.values > VALUES {
         return Err(28);
     }
-    let mut shut = 0;
     for (c, &status) in record.status.iter().enumerate() {
-        if status > 1 || status == 1 && c >= table.category_count {
+        if status != 0 && (c >= table.category_count || !table.fits(record.signal, c, status)) {
             return Err(28);
         }
-        shut |= status << c;
     }
-    Ok(State { signal: record.signal, shut })
+    Ok(State { signal: record.signal, status: u64::from_le_bytes(record.status) })
 }
 
 pub fn feed(table: &[u8], record: &mut Record, value: &[u8]) -> Result<Resolution, u8> {
@@ -71,8 +70,6 @@ pub fn feed(table: &[u8], record: &mut Record, value: &[u8]) -> Result<Resolutio
         }
     }
     record.signal = state.signal;
-    for (c, status) in record.status.iter_mut().enumerate() {
-        *status = state.shut >> c & 1;
-    }
+    record.status = state.status.to_le_bytes();
     Ok(Resolution { refusal: 0, signal: state.signal, used, skipped: uris.count as u8 - used })
 }

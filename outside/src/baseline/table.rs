@@ -299,27 +299,44 @@ impl<'a> Decoded<'a> {
 
     /// One used URN: its category, the deepest node that is the URN or its ancestor, and whether it is the URN.
     pub fn step(&self, state: State, category: usize, node: u8, whole: bool) -> State {
-        if state.shut >> category & 1 == 1 {
+        let shift = 8 * category;
+        let status = (state.status >> shift) as u8;
+        if status == SHUT {
             return state;
         }
         let row = self.rows[state.signal as usize];
-        let place = (row >> (8 * category)) as u8;
-        if place == node && whole {
+        let place = (row >> shift) as u8;
+        let last = if status == OPEN { place } else { status - 1 };
+        if last == node && whole || !self.is_above(last, node) {
             return state;
         }
-        if !self.is_above(place, node) {
-            return state;
-        }
-        let others = row & !(0xFF << (8 * category));
+        let others = row & !(0xFF << shift);
+        let kept = state.status & !(0xFF << shift);
+        let held = whole && !self.nodes[node as usize].leaf;
+        let missed = if held { node + 1 } else { SHUT };
         let mut p = node;
         while p != place {
-            if let Some(signal) = self.signal_with(others | (p as u64) << (8 * category)) {
-                let shuts = !(whole && p == node);
-                return State { signal: signal as u8, shut: state.shut | (shuts as u8) << category };
+            if let Some(signal) = self.signal_with(others | (p as u64) << shift) {
+                let status = if whole && p == node { OPEN } else { missed };
+                return State { signal: signal as u8, status: kept | (status as u64) << shift };
             }
             p = self.nodes[p as usize].parent;
         }
-        State { signal: state.signal, shut: state.shut | 1 << category }
+        State { signal: state.signal, status: kept | (missed as u64) << shift }
+    }
+
+    /// Whether a state may have this status byte in a category, beside this signal.
+    pub fn fits(&self, signal: u8, category: usize, status: u8) -> bool {
+        if status <= SHUT {
+            return true;
+        }
+        let node = status as usize - 1;
+        let place = (self.rows[signal as usize] >> (8 * category)) as u8;
+        node <= self.node_count
+            && self.nodes[node].category as usize == category
+            && !self.nodes[node].leaf
+            && node as u8 != place
+            && self.is_above(place, node as u8)
     }
 
     /// Whether `above` is `node` or one of its ancestors.
@@ -331,11 +348,16 @@ impl<'a> Decoded<'a> {
     }
 }
 
-/// A current signal with the set of shut categories.
+/// A category that takes what lies under its place; 1 + n is one that takes what lies under node n.
+const OPEN: u8 = 0;
+/// A category that takes nothing.
+const SHUT: u8 = 1;
+
+/// A current signal with the categories' statuses, one byte each, the first one lowest.
 #[derive(Clone, Copy, PartialEq, Eq)]
 pub struct State {
     pub signal: u8,
-    pub shut: u8,
+    pub status: u64,
 }
 
-pub const START: State = State { signal: 0, shut: 0 };
+pub const START: State = State { signal: 0, status: 0 };

@@ -18,7 +18,7 @@ use std::time::{Instant, SystemTime, UNIX_EPOCH};
 use outside::ours::Ours;
 
 /// The longest image.
-const LONGEST: usize = 33_667;
+const LONGEST: usize = 35_459;
 
 /// Every function with the refusal numbers that it may give.
 const FUNCTIONS: [(&str, &[u8]); 12] = [

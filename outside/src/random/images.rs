@@ -1,21 +1,25 @@
 //! Random images: the table's machine, renumbered, enlarged or damaged.
 use super::{damage, Random};
-use crate::reference::direct::{start, State};
-use crate::reference::machine::{discover_from, shut_bits};
+use crate::reference::direct::{read_status, start, State, Status};
+use crate::reference::machine::{discover_from, write_state};
 use crate::reference::table::Table;
 
 /// The parts of an image of good form.
 struct Parts {
     symbols: Vec<u8>,
-    /// Signal, shut set and targets of each state.
+    /// How many bytes of a state stand before its row: the signal and the statuses.
+    head: usize,
+    /// Signal, statuses and targets of each state.
     rows: Vec<Vec<u8>>,
 }
 
 fn parts(image: &[u8]) -> Parts {
     let count = image[0] as usize;
     let symbols = image[1..1 + 3 * count].to_vec();
-    let rows = image[3 + 3 * count..].chunks(2 + count).map(<[u8]>::to_vec).collect();
-    Parts { symbols, rows }
+    // the last symbol is the last category's Other
+    let head = symbols.iter().rev().nth(2).map_or(2, |&category| 2 + category as usize);
+    let rows = image[3 + 3 * count..].chunks(head + count).map(<[u8]>::to_vec).collect();
+    Parts { symbols, head, rows }
 }
 
 impl Parts {
@@ -37,7 +41,7 @@ impl Parts {
         }
         let mut rows: Vec<Vec<u8>> = order.iter().map(|&old| self.rows[old].clone()).collect();
         for row in &mut rows {
-            for target in &mut row[2..] {
+            for target in &mut row[self.head..] {
                 *target = new[*target as usize];
             }
         }
@@ -53,7 +57,7 @@ impl Parts {
         let new = self.rows.len() as u8;
         self.rows.push(self.rows[old].clone());
         for row in &mut self.rows {
-            for target in &mut row[2..] {
+            for target in &mut row[self.head..] {
                 if *target as usize == old && random.percent(50) {
                     *target = new;
                 }
@@ -65,7 +69,8 @@ impl Parts {
     fn mistake(&mut self, random: &mut Random) {
         let states = self.rows.len();
         let r = random.below(states);
-        let i = random.below(self.rows[r].len());
+        let among = if random.percent(50) { self.rows[r].len() } else { self.head };
+        let i = random.below(among);
         self.rows[r][i] = match random.below(3) {
             0 => random.below(states) as u8,
             1 => random.below(4) as u8,
@@ -76,26 +81,40 @@ impl Parts {
 
 /// The table's machine with states that no walk reaches, each with the right row. Nothing if there are too many.
 fn enlarged(random: &mut Random, table: &Table) -> Option<Parts> {
-    let mut from = vec![start()];
+    let mut from = vec![start(table)];
     for _ in 0..random.between(1, 3) {
-        let signal = random.below(table.signals.len());
-        let shut = (0..table.categories.len()).filter(|_| random.percent(30)).collect();
-        from.push(State { signal, shut });
+        from.push(state(random, table));
     }
     let (states, targets) = discover_from(table, from, 256)?;
     let symbols = table.symbols.iter().flat_map(|s| [s.category as u8, s.node as u8, s.other as u8]).collect();
     let row = |(state, targets): (&State, &Vec<usize>)| {
-        let mut row = vec![state.signal as u8, shut_bits(&state.shut)];
+        let mut row = write_state(table, state);
         row.extend(targets.iter().map(|&target| target as u8));
         row
     };
-    Some(Parts { symbols, rows: states.iter().zip(&targets).map(row).collect() })
+    let head = 1 + table.categories.len();
+    Some(Parts { symbols, head, rows: states.iter().zip(&targets).map(row).collect() })
 }
 
-/// The image with so many states in place of its own, each signal 0 with nothing shut and all targets 0.
+/// Any state of the table, reached or not.
+fn state(random: &mut Random, table: &Table) -> State {
+    let signal = random.below(table.signals.len());
+    let status = |c| {
+        let held = (2..=table.nodes.len() as u8 + 1).filter_map(|byte| read_status(table, signal, c, byte));
+        let held: Vec<Status> = held.collect();
+        match random.below(10) {
+            0..=2 => Status::Shut,
+            3..=5 if !held.is_empty() => random.pick(&held).clone(),
+            _ => Status::Open,
+        }
+    };
+    State { signal, status: (0..table.categories.len()).map(status).collect() }
+}
+
+/// The image with so many states in place of its own, each signal 0 with every category open and all targets 0.
 pub fn with_states(built: &[u8], count: usize) -> Vec<u8> {
     let mut parts = parts(built);
-    let row = vec![0; 2 + parts.symbols.len() / 3];
+    let row = vec![0; parts.head + parts.symbols.len() / 3];
     parts.rows = vec![row; count];
     parts.bytes()
 }
@@ -117,7 +136,7 @@ pub fn image(random: &mut Random, table: &[u8], built: &[u8]) -> Vec<u8> {
     match random.below(12) {
         0..=3 => (0..random.between(1, 2)).for_each(|_| parts.mistake(random)),
         4 => parts.renumber(random, true),
-        5 => parts.rows[0][random.below(2)] = random.below(3) as u8,
+        5 => parts.rows[0][random.below(parts.head)] = random.below(3) as u8,
         6 if !parts.symbols.is_empty() => {
             let i = random.below(parts.symbols.len());
             parts.symbols[i] = parts.symbols[i].wrapping_add(*random.pick(&[1, 2, 255]));

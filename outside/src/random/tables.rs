@@ -246,6 +246,21 @@ fn chains(categories: usize, parts: usize) -> Draft {
     Draft { categories: names, signals: vec![vec![], deep] }
 }
 
+/// Two leaves in one category and, in the other, seven paths of eight parts and one of six, each path a signal, and
+/// eight more whose places lie on them: most nodes can be held, beside every place of the first category.
+fn large() -> Draft {
+    let path = |name: usize, parts: usize| {
+        let parts: Vec<String> = (0..parts).map(|p| format!("x{name}-{p}")).collect();
+        vec![text(format!("b:{}", parts.join(":")))]
+    };
+    let mut signals = vec![vec![], vec![text("a:a0".to_string())], vec![text("a:a1".to_string())]];
+    signals.extend((0..7).map(|name| path(name, 8)));
+    signals.push(path(7, 6));
+    signals.extend((1..8).map(|parts| path(0, parts)));
+    signals.push(path(1, 7));
+    Draft { categories: vec![b"a".to_vec(), b"b".to_vec()], signals }
+}
+
 /// So many signals in one category, each with a leaf of its own.
 fn leaves(signals: usize) -> Draft {
     let mut all = vec![vec![]];
@@ -360,7 +375,8 @@ pub fn limits() -> Vec<Limit> {
         ("a URN of 255 bytes", urn_of(255), 0),
         ("8 parts", chains(1, 8), 0),
         ("9 parts", chains(1, 9), 7),
-        ("64 nodes, 256 states, 128 symbols", chains(8, 8), 0),
+        ("64 nodes, 256 states, 120 symbols", large(), 0),
+        ("64 nodes in 8 categories, 128 symbols", chains(8, 8), 13),
         ("65 nodes", with(chains(8, 8), "c0:q"), 12),
         ("66 nodes, two signals alike", alike, 11),
         ("256 states in 6 categories", singles(6), 0),

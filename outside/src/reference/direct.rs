@@ -1,19 +1,28 @@
 //! Direct resolution.
 use super::table::{is_proper_ancestor, Node, Table};
+use super::urn::Path;
 use super::value::uris;
 use crate::Resolution;
-use std::collections::BTreeSet;
 
-/// A current signal with the set of shut categories.
+/// What a category still takes: what lies under its place, what lies under the path last taken, or nothing.
+#[derive(Clone, PartialEq, Eq, Debug, Hash)]
+pub enum Status {
+    Open,
+    /// The URN last taken was this path: a node with nodes under it, and not said whole.
+    Held(Path),
+    Shut,
+}
+
+/// A current signal with the status of each category.
 #[derive(Clone, PartialEq, Eq, Debug, Hash)]
 pub struct State {
     pub signal: usize,
-    pub shut: BTreeSet<usize>,
+    pub status: Vec<Status>,
 }
 
 /// Signal 0 and every category open.
-pub fn start() -> State {
-    State { signal: 0, shut: BTreeSet::new() }
+pub fn start(table: &Table) -> State {
+    State { signal: 0, status: vec![Status::Open; table.categories.len()] }
 }
 
 /// The table's signal with place p in c and with the current signal's places in every other category.
@@ -29,20 +38,57 @@ fn signal_with(table: &Table, current: usize, c: usize, p: &[Vec<u8>]) -> Option
 pub fn step(table: &Table, state: &State, urn: &Node) -> State {
     let (c, u) = (urn.category, &urn.path);
     let place = &table.signals[state.signal][c];
-    if state.shut.contains(&c) || !is_proper_ancestor(place, u) {
+    let taken = match &state.status[c] {
+        Status::Open => is_proper_ancestor(place, u),
+        Status::Held(path) => is_proper_ancestor(path, u),
+        Status::Shut => false,
+    };
+    if !taken {
         return state.clone();
     }
     // The longest p that is u or an ancestor of u, no shorter than the present place.
     for length in (place.len()..=u.len()).rev() {
         if let Some(signal) = signal_with(table, state.signal, c, &u[..length]) {
-            let mut shut = state.shut.clone();
-            if length < u.len() {
-                shut.insert(c);
-            }
-            return State { signal, shut };
+            let mut status = state.status.clone();
+            status[c] = if length == u.len() {
+                Status::Open
+            } else if table.nodes_under(urn) {
+                Status::Held(u.clone())
+            } else {
+                Status::Shut
+            };
+            return State { signal, status };
         }
     }
     unreachable!("the current signal itself is the last candidate")
+}
+
+/// A status as stored: 0 open, 1 shut, 1 + n held at node n.
+pub fn write_status(table: &Table, c: usize, status: &Status) -> u8 {
+    match status {
+        Status::Open => 0,
+        Status::Shut => 1,
+        Status::Held(path) => {
+            let node = table.nodes.iter().position(|node| node.category == c && node.path == *path);
+            node.expect("a held path is a node") as u8 + 2
+        }
+    }
+}
+
+/// The status that a byte says of category c with the given signal's place there, or nothing: a category is held only
+/// at a node of its own that has nodes under it and lies under the place.
+pub fn read_status(table: &Table, signal: usize, c: usize, byte: u8) -> Option<Status> {
+    match byte {
+        0 => Some(Status::Open),
+        1 => Some(Status::Shut),
+        _ => {
+            let node = table.nodes.get(byte as usize - 2)?;
+            let held = node.category == c
+                && table.nodes_under(node)
+                && is_proper_ancestor(&table.signals[signal][c], &node.path);
+            held.then(|| Status::Held(node.path.clone()))
+        }
+    }
 }
 
 /// The plain resolver.
@@ -50,7 +96,7 @@ pub fn resolve(table: &[u8], value: &[u8]) -> Result<Resolution, u8> {
     let uris = uris(value)?;
     let table = Table::read(table)?;
     let used: Vec<Node> = uris.iter().filter_map(|uri| table.used(uri)).collect();
-    let end = used.iter().fold(start(), |state, urn| step(&table, &state, urn));
+    let end = used.iter().fold(start(&table), |state, urn| step(&table, &state, urn));
     Ok(Resolution {
         refusal: 0,
         signal: end.signal as u8,

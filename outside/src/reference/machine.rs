@@ -1,9 +1,9 @@
 //! The machine: discovery, the stored image, the checker, and the walk of an image.
-use super::direct::{start, step, State};
+use super::direct::{read_status, start, step, write_status, State, Status};
 use super::table::{Node, Symbol, Table};
 use super::value::uris;
 use crate::Resolution;
-use std::collections::{BTreeSet, HashMap};
+use std::collections::HashMap;
 
 /// States, and for each its row: the number of the state that each symbol leads to.
 pub type Machine = (Vec<State>, Vec<Vec<usize>>);
@@ -11,7 +11,7 @@ pub type Machine = (Vec<State>, Vec<Vec<usize>>);
 /// The states that some symbol sequence reaches, by breadth-first discovery, symbols in order, with their rows.
 /// Nothing if there are more than `limit`.
 pub fn discover(table: &Table, limit: usize) -> Option<Machine> {
-    discover_from(table, vec![start()], limit)
+    discover_from(table, vec![start(table)], limit)
 }
 
 /// The same from several states at once.
@@ -38,13 +38,21 @@ pub fn discover_from(table: &Table, mut states: Vec<State>, limit: usize) -> Opt
     Some((states, rows))
 }
 
-/// Bit c for category c.
-pub fn shut_bits(shut: &BTreeSet<usize>) -> u8 {
-    shut.iter().map(|c| 1 << c).sum()
+/// A state as stored, without its row: the signal, then one byte for each category.
+pub fn write_state(table: &Table, state: &State) -> Vec<u8> {
+    let status = state.status.iter().enumerate().map(|(c, status)| write_status(table, c, status));
+    std::iter::once(state.signal as u8).chain(status).collect()
 }
 
-fn shut_set(bits: u8) -> BTreeSet<usize> {
-    (0..8).filter(|c| bits >> c & 1 == 1).collect()
+/// The state of so many stored bytes, or nothing if they name no signal or a status that its places do not allow.
+fn read_state(table: &Table, stored: &[u8]) -> Option<State> {
+    let signal = stored[0] as usize;
+    if signal >= table.signals.len() {
+        return None;
+    }
+    let read = |(c, &byte)| read_status(table, signal, c, byte);
+    let status = stored[1..].iter().enumerate().map(read).collect::<Option<Vec<Status>>>()?;
+    Some(State { signal, status })
 }
 
 fn write_symbol(symbol: &Symbol) -> [u8; 3] {
@@ -59,7 +67,7 @@ pub fn build(table: &[u8], room: usize) -> Result<Vec<u8>, u8> {
     image.extend(table.symbols.iter().flat_map(write_symbol));
     image.extend((states.len() as u16).to_le_bytes());
     for (state, row) in states.iter().zip(&rows) {
-        image.extend([state.signal as u8, shut_bits(&state.shut)]);
+        image.extend(write_state(&table, state));
         image.extend(row.iter().map(|&target| target as u8));
     }
     if room < image.len() {
@@ -75,15 +83,16 @@ struct Image {
 }
 
 /// Number 15: too short to hold its two counts, or of another length than they give, symbols other than the table's,
-/// a state count outside 1 to 256, a signal not in the table, a shut bit at or above the category count, or a target
-/// at or above the state count.
+/// a state count outside 1 to 256, a signal not in the table, a status that its signal's place does not allow, or a
+/// target at or above the state count.
 fn read(table: &Table, image: &[u8]) -> Result<Image, u8> {
     let symbol_count = *image.first().ok_or(15)? as usize;
     let low = *image.get(1 + 3 * symbol_count).ok_or(15)?;
     let high = *image.get(2 + 3 * symbol_count).ok_or(15)?;
     let state_count = u16::from_le_bytes([low, high]) as usize;
     let (head, rest) = image.split_at(3 + 3 * symbol_count);
-    if rest.len() != state_count * (2 + symbol_count) || !(1..=256).contains(&state_count) {
+    let head_length = 1 + table.categories.len();
+    if rest.len() != state_count * (head_length + symbol_count) || !(1..=256).contains(&state_count) {
         return Err(15);
     }
     let symbols: Vec<u8> = table.symbols.iter().flat_map(write_symbol).collect();
@@ -91,16 +100,13 @@ fn read(table: &Table, image: &[u8]) -> Result<Image, u8> {
         return Err(15);
     }
     let mut read = Image { states: Vec::new(), rows: Vec::new() };
-    for stored in rest.chunks(2 + symbol_count) {
-        let state = State { signal: stored[0] as usize, shut: shut_set(stored[1]) };
-        let row: Vec<usize> = stored[2..].iter().map(|&target| target as usize).collect();
-        if state.signal >= table.signals.len()
-            || state.shut.iter().any(|&c| c >= table.categories.len())
-            || row.iter().any(|&target| target >= state_count)
-        {
+    for stored in rest.chunks(head_length + symbol_count) {
+        let (head, row) = stored.split_at(head_length);
+        let row: Vec<usize> = row.iter().map(|&target| target as usize).collect();
+        if row.iter().any(|&target| target >= state_count) {
             return Err(15);
         }
-        read.states.push(state);
+        read.states.push(read_state(table, head).ok_or(15)?);
         read.rows.push(row);
     }
     Ok(read)
@@ -110,7 +116,7 @@ fn read(table: &Table, image: &[u8]) -> Result<Image, u8> {
 pub fn check(table: &[u8], image: &[u8]) -> Result<(), u8> {
     let table = Table::read(table)?;
     let image = read(&table, image)?;
-    if image.states[0] != start() {
+    if image.states[0] != start(&table) {
         return Err(16);
     }
     let urns: Vec<Node> = table.symbols.iter().map(|&symbol| table.steps_as(symbol)).collect();

@@ -1,5 +1,5 @@
 //! The rules of resolution in plain Rust, one file a section, as simple as possible and with no regard to speed.
-//! A path is a list of names, a signal a list of paths, a state a signal with a set of shut categories.
+//! A path is a list of names, a signal a list of paths, a state a signal with a status for each category.
 pub mod direct;
 pub mod fields;
 pub mod machine;

@@ -168,6 +168,11 @@ impl Table {
         Match { refusal: 0, used: 1, category: urn.category as u8, node: node as u8, whole: whole as u8, compared }
     }
 
+    /// Whether some node lies under the path of this one, which need not be a node.
+    pub fn nodes_under(&self, urn: &Node) -> bool {
+        self.nodes.iter().any(|node| node.category == urn.category && is_proper_ancestor(&urn.path, &node.path))
+    }
+
     /// The URN as which a symbol steps: an Other symbol as its path with one more part that no node has.
     pub fn steps_as(&self, symbol: Symbol) -> Node {
         let mut path = if symbol.node == 0 { Vec::new() } else { self.nodes[symbol.node - 1].path.clone() };

@@ -74,7 +74,7 @@ fn limit(what: &str) -> Bytes {
 }
 
 fn machine(table: &[u8]) -> Bytes {
-    let mut buffer = vec![0; 33_667];
+    let mut buffer = vec![0; 35_459];
     let built = Reference::build(table, &mut buffer);
     assert_eq!(built.refusal, 0);
     buffer.truncate(built.len);
@@ -112,7 +112,7 @@ impl Inputs {
             table("T2: 9 signals, 16 states", example("T2.table")),
             table("32 signals, 33 states", limit("32 signals")),
             table("8,192 bytes, 256 states", limit("8,192 bytes")),
-            table("64 nodes, 256 states, 128 symbols", limit("64 nodes, 256 states, 128 symbols")),
+            table("64 nodes, 256 states, 120 symbols", limit("64 nodes, 256 states, 120 symbols")),
             table("64 nodes with long common beginnings", alike_paths()),
         ];
         let used = vec![
@@ -120,7 +120,7 @@ impl Inputs {
             urns(&["source:internal", "source:unclassified", "priority:high"], 1),
             urns(&["c:l31", "c:l7"], 32),
             urns(&["category-0:0", "category-7:7"], 32),
-            urns(&["c0:p0:p1:p2:p3", "c7:p0:p1:p2:p3:p4:p5:p6:p7"], 32),
+            urns(&["b:x6-0:x6-1:x6-2:x6-3", "a:a1"], 32),
             urns(&[&format!("c:{}", long_path(b'3'))], 15),
         ];
         let mut refused = [0, 10, 19]

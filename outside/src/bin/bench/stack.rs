@@ -39,7 +39,7 @@ fn touched(call: &Call, buffer: &mut [u8]) -> usize {
 }
 
 fn on_own_stack(call: &Call) -> usize {
-    let mut buffer = vec![0; 33_667];
+    let mut buffer = vec![0; 35_459];
     std::thread::scope(|scope| {
         let builder = std::thread::Builder::new().stack_size(4 * FILLED);
         builder.spawn_scoped(scope, || touched(call, &mut buffer)).expect("a thread").join().expect("no panic")

@@ -13,7 +13,7 @@ struct Timed<'a> {
 
 impl<'a> Timed<'a> {
     fn new(call: &'a Call<'a>) -> Timed<'a> {
-        let mut timed = Timed { call, buffer: vec![0; 33_667], calls: 1, best: f64::INFINITY };
+        let mut timed = Timed { call, buffer: vec![0; 35_459], calls: 1, best: f64::INFINITY };
         while timed.time() < Duration::from_micros(250) && timed.calls < 1 << 24 {
             timed.calls *= 2;
         }
@@ -58,7 +58,7 @@ pub fn show(nanoseconds: f64) -> String {
 /// Calls for a quarter of a second, so that the processor runs at its speed.
 pub fn warm_up(call: &Call) {
     let start = Instant::now();
-    let mut buffer = vec![0; 33_667];
+    let mut buffer = vec![0; 35_459];
     while start.elapsed() < Duration::from_millis(250) {
         call(&mut buffer);
     }
