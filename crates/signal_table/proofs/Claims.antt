@@ -16,7 +16,8 @@ use Rattle.machine_image.specs.Image.{machineImage}
 use Rattle.machine_image.specs.Refusals.{buildRefusal, buildLength, bufferOf, checkOf}
 use Rattle.machine_image.proofs.Build.{few-found, own-storable, reachable-accepted, longest-image, build-fits}
 use Rattle.machine_image.proofs.Check.{check-to, check-of}
-use Rattle.signal_table.specs.Built.{refused, builtOf, builtFrom, bufferFrom, checkFrom}
+use Rattle.machine_builder.specs.Built.{refused, builtOf}
+use Rattle.signal_table.specs.Built.{builtFrom, bufferFrom, checkFrom}
 use Rattle.signal_table.specs.Claims.{Builds, RefusedBuild, RightImage}
 use Rattle.signal_table.proofs.FormRight.{form-to-right, right-to-form}
 

@@ -1,16 +1,3 @@
-pub mod Over
-pub mod KeptLaws
-pub mod TurnLaws
-pub mod DiscoverLaws
-pub mod ImageLaws
-pub mod PairLaws
-pub mod SymbolLaws
-pub mod WriteLaws
-pub mod SymbolsRight
-pub mod PairsRight
-pub mod BuildRight
-pub mod CheckRight
-pub mod NumberRight
 pub mod TableRight
 pub mod FormRight
 pub mod MatchLaws

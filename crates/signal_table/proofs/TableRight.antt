@@ -18,16 +18,18 @@ use Rattle.stored_table.specs.Decoded.{Holds, Means}
 use Rattle.stored_table.specs.Accepted.{Accepted}
 use Rattle.stored_table.specs.declared.Decoded.{Decoded}
 use Rattle.stored_table.proofs.Accepting.{accepted}
-use Rattle.signal_table.specs.Built.{refused, builtFrom, bufferFrom, checkFrom}
-use Rattle.signal_table.specs.Listed.{tripleLists, symbolsOf, Listed, SymbolsIn}
-use Rattle.signal_table.specs.declared.symbols.Symbols.{Symbols}
-use Rattle.signal_table.proofs.SymbolLaws.{lists-listed}
-use Rattle.signal_table.specs.States.{nextState, builtBy, bufferBy}
-use Rattle.signal_table.specs.Checks.{formBy, checkBy}
+use Rattle.machine_builder.specs.Built.{refused}
+use Rattle.signal_table.specs.Built.{builtFrom, bufferFrom, checkFrom}
+use Rattle.machine_symbols.specs.Listed.{tripleLists, symbolsOf, Listed, SymbolsIn}
+use Rattle.machine_symbols.specs.declared.Symbols.{Symbols}
+use Rattle.machine_symbols.proofs.SymbolLaws.{lists-listed}
+use Rattle.machine_symbols.specs.Steps.{nextState}
+use Rattle.machine_builder.specs.States.{builtBy, bufferBy}
+use Rattle.machine_checker.specs.Checks.{formBy, checkBy}
 use Rattle.signal_table.proofs.Claims.{all-used}
-use Rattle.signal_table.proofs.SymbolsRight.{symbols-in}
-use Rattle.signal_table.proofs.BuildRight.{built-right, buffer-right}
-use Rattle.signal_table.proofs.CheckRight.{form-right, check-right}
+use Rattle.machine_symbols.proofs.SymbolsRight.{symbols-in}
+use Rattle.machine_builder.proofs.BuildRight.{built-right, buffer-right}
+use Rattle.machine_checker.proofs.CheckRight.{form-right, check-right}
 
 module _ (t : List ℕ) (r : Decoded) (m : Means t r) where
   -- a refused table

@@ -4,20 +4,10 @@ use mathlib.Core.Bool.{cond}
 use mathlib.Core.List.{List}
 use lib.Dec.{eqb}
 use lib.ListN.{replicate}
-use Rattle.resolution.specs.Table.{Table}
-use Rattle.machine_image.specs.Refusals.{buildRefusal, buildLength, bufferOf, checkOf}
+use Rattle.machine_image.specs.Refusals.{bufferOf, checkOf}
 use Rattle.stored_table.specs.Tables.{tableOf, tableRefusal}
-use Rattle.signal_table.specs.declared.write.Built.{Built}
-
-abbrev pub refused : ℕ → Built
-refused n = record { refusal = n; len = 0 }
-
-abbrev pub accepted : ℕ → Built
-accepted n = record { refusal = 0; len = n }
-
--- the answer of the build of a table's machine in so much room
-abbrev pub builtOf : Table → ℕ → Built
-builtOf T room = record { refusal = buildRefusal T room; len = buildLength T room }
+use Rattle.machine_builder.specs.declared.Built.{Built}
+use Rattle.machine_builder.specs.Built.{refused, builtOf}
 
 -- the answer for a stored table: its own refusal comes first
 unfoldable pub builtFrom : List ℕ → ℕ → Built

@@ -1,13 +1,9 @@
 // Signal tables and their machines: the builder and the checker, and the search for a URN's deepest node.
 pub mod c;
-pub mod image;
 mod matching;
-mod states;
-pub mod symbols;
-mod write;
 
 pub use crate::matching::Match;
-pub use crate::write::Built;
+pub use machine_builder::Built;
 ghost use mathlib.Core.Path.{_≡_};
 ghost use lib.ListN.{length};
 ghost use Rattle.stored_table.specs.Tables.{tableRefusal};
@@ -29,10 +25,10 @@ pub fn build(t: &[u8], buf: &mut [u8]) -> Built
     let d = stored_table::decode(t);
     let refused = d.refusal;
     if refused != 0 {
-        return write::refuse(buf, refused);
+        return machine_builder::refuse(buf, refused);
     }
-    let s = symbols::list(&d.category, &d.parent, d.nodes, d.categories);
-    write::build_by(
+    let s = machine_symbols::list(&d.category, &d.parent, d.nodes, d.categories);
+    machine_builder::build_by(
         &d.rows,
         &d.parent,
         &d.inner,
@@ -53,8 +49,8 @@ pub fn check(t: &[u8], image: &[u8]) -> u8
     if refused != 0 {
         return refused;
     }
-    let s = symbols::list(&d.category, &d.parent, d.nodes, d.categories);
-    image::check_by(
+    let s = machine_symbols::list(&d.category, &d.parent, d.nodes, d.categories);
+    machine_checker::check_by(
         &d.rows,
         &d.parent,
         &d.inner,

@@ -4,26 +4,16 @@ use Rattle.signal_table.proofs.TableRight.{refused-built, refused-buffe
 use borrow.Author.Needs.{needs}
 use Rattle.signal_table.proofs.build.Statement.{statement}
 use Rattle.signal_table.proofs.build.Tie as tie
-use Rattle.signal_table.proofs.build.Reads as reads
-use Rattle.signal_table.proofs.build.Lts as lts
-use Rattle.signal_table.proofs.symbols.list.Reads as list-reads
-use Rattle.signal_table.proofs.write.build_by.Reads as build-by-reads
-use Rattle.signal_table.proofs.write.refuse.Reads as refuse-reads
-use Rattle.stored_table.proofs.decode.Reads as decode-reads
 
--- src/lib.rt:29:13
 decode-requires : tie.Need-decode-requires
 decode-requires c κs = search needs
 
--- src/lib.rt:32:9
 refuse-requires : tie.Need-refuse-requires
 refuse-requires c κs = search needs
 
--- src/lib.rt:32:9
 same-length : tie.Need-same-length
 same-length c = search needs
 
--- src/lib.rt:32:9
 returns : tie.Need-returns
 returns c = let a = c .before .before .before .before .before .before .before .before .args in
     let d = c .before .before .before .before .before .decode in (
@@ -31,19 +21,15 @@ returns c = let a = c .before .before .before .before .before .before .before .b
       c .before .before .refuse .ensures .1 ∙ refused-buffer (a .t .now) (d .result) (d .ensures) (c .before .before .before .before .if1 .taken) (length (a .buf .now)),
     )
 
--- src/lib.rt:34:13
 list-requires : tie.Need-list-requires
 list-requires c κs = search needs
 
--- src/lib.rt:35:5
 build-by-requires : tie.Need-build-by-requires
 build-by-requires c κs = search needs
 
--- src/lib.rt:25:1
 same-length-2 : tie.Need-same-length-2
 same-length-2 c = search needs
 
--- src/lib.rt:25:1
 returns-2 : tie.Need-returns-2
 returns-2 c = let a = c .before .before .before .before .before .before .before .before .before .before .before .before .before .before .before .before .before .before .args in
     let d = c .before .before .before .before .before .before .before .before .before .before .before .before .before .before .before .decode in

@@ -22,13 +22,25 @@ returns-2 : tie.Need-returns-2
 unfolding plainOf
 returns-2 c = λ m. c .value-first .ensures ∙ refused-first _ _ _ (m .refusal) (c .before .if2 .taken)
 
+at-start-requires : tie.Need-at-start-requires
+at-start-requires c κs = search needs
+
 resolved-requires : tie.Need-resolved-requires
 resolved-requires c κs = search needs
 
 returns-3 : tie.Need-returns-3
-returns-3 c = λ m. let z = sym (m .refusal) ∙ c .before .before .before .if2 .left in c .resolved .ensures ∙ plain-right _ _ (m .holds z) _ _ (omega arith) z
+returns-3 c = λ m.
+    let z = sym (m .refusal) ∙ c .before .before .before .before .if2 .left in
+    c .resolved .ensures ∙ plain-right _ _ (m .holds z) _ (c .before .at-start .ensures) _ (omega arith) z
 
 pub plain-spec : {M : Type 1} → statement M
 plain-spec =
     tie.close
-    (tie.spec refused-requires returns value-first-requires returns-2 resolved-requires returns-3)
+    (tie.spec
+    refused-requires
+    returns
+    value-first-requires
+    returns-2
+    at-start-requires
+    resolved-requires
+    returns-3)

@@ -11,10 +11,10 @@ use Rattle.resolver.proofs.run.run.Statement.{statement}
 use Rattle.resolver.proofs.run.run.Tie as tie
 
 abbrev Inv-loop : tie.InvT-loop
-Inv-loop t branches index symbols count image from v d at₀ p₀ at p = (runFrom t d (record { branches = branches; index = index; symbols = symbols; count = count; categories = d .categories; image = image }) v from 0 ≡ runOf from (over v (after t d (record { branches = branches; index = index; symbols = symbols; count = count; categories = d .categories; image = image })) p (readingFrom v at))) × (p .used + p .skipped ≤ at) × (at ≤ length v)
+Inv-loop t index symbols count image from v d at₀ p₀ at p = (runFrom t d (record { index = index; symbols = symbols; count = count; categories = d .categories; image = image }) v from 0 ≡ runOf from (over v (after t d (record { index = index; symbols = symbols; count = count; categories = d .categories; image = image })) p (readingFrom v at))) × (p .used + p .skipped ≤ at) × (at ≤ length v)
 
 abbrev μ-loop : tie.MeasureT-loop
-μ-loop t branches index symbols count image from v d at₀ p₀ at p = length v - at
+μ-loop t index symbols count image from v d at₀ p₀ at p = length v - at
 
 loop-holds : tie.Need-loop-holds Inv-loop μ-loop
 unfolding runFrom
@@ -51,16 +51,16 @@ ended-requires-2 : tie.Need-ended-requires-2 Inv-loop μ-loop
 ended-requires-2 c κs = search needs
 
 returns-2 : tie.Need-returns-2 Inv-loop μ-loop
-returns-2 c = let a = after-uri _ _ _ _ _ (c .before .before .before .before .before .before .uses .ensures) (c .before .before .taken .ensures) in
-    (c .ended2 .ensures ∙ run-last _ _ _ _ _ _ (c .before .before .before .before .before .before .before .before .before .before .before .before .before .before .before .before .before .before .before .before .loop .inv .0) _ (c .before .before .before .before .before .before .before .before .before .before .before .before .before .before .before .before .before .before .before .entry-at .ensures .last (not-false _ (c .before .before .before .before .before .before .before .before .before .before .before .before .before .before .before .before .before .if1 .left)) (c .before .if2 .taken)) a, ended-few (c .ended2 .ensures) (omega (arith, after-counted _ _ _ _ _ a, c .before .before .before .before .before .before .before .before .before .before .before .before .before .before .before .before .before .before .before .before .before .before .before .before .pre .0, c .before .before .before .before .before .before .before .before .before .before .before .before .before .before .before .before .before .before .before .before .loop .inv)))
+returns-2 c = let a = after-uri _ _ _ _ _ (c .before .before .before .before .before .before .before .uses .ensures) (c .before .before .taken .ensures) in
+    (c .ended2 .ensures ∙ run-last _ _ _ _ _ _ (c .before .before .before .before .before .before .before .before .before .before .before .before .before .before .before .before .before .before .before .before .before .loop .inv .0) _ (c .before .before .before .before .before .before .before .before .before .before .before .before .before .before .before .before .before .before .before .before .entry-at .ensures .last (not-false _ (c .before .before .before .before .before .before .before .before .before .before .before .before .before .before .before .before .before .before .if1 .left)) (c .before .if2 .taken)) a, ended-few (c .ended2 .ensures) (omega (arith, after-counted _ _ _ _ _ a, c .before .before .before .before .before .before .before .before .before .before .before .before .before .before .before .before .before .before .before .before .before .before .before .before .before .pre .0, c .before .before .before .before .before .before .before .before .before .before .before .before .before .before .before .before .before .before .before .before .before .loop .inv)))
 
 loop-less : tie.Need-loop-less Inv-loop μ-loop
-loop-less c = omega (arith, c .before .before .before .before .before .before .before .before .before .before .before .before .before .before .before .before .before .before .entry-at .ensures .more (not-false _ (c .before .before .before .before .before .before .before .before .before .before .before .before .before .before .before .before .if1 .left)) (c .if2 .left))
+loop-less c = omega (arith, c .before .before .before .before .before .before .before .before .before .before .before .before .before .before .before .before .before .before .before .entry-at .ensures .more (not-false _ (c .before .before .before .before .before .before .before .before .before .before .before .before .before .before .before .before .before .if1 .left)) (c .if2 .left))
 
 loop-again : tie.Need-loop-again Inv-loop μ-loop
-loop-again c = let a = after-uri _ _ _ _ _ (c .before .before .before .before .before .uses .ensures) (c .before .taken .ensures) in
-    let m = c .before .before .before .before .before .before .before .before .before .before .before .before .before .before .before .before .before .before .entry-at .ensures .more (not-false _ (c .before .before .before .before .before .before .before .before .before .before .before .before .before .before .before .before .if1 .left)) (c .if2 .left) in
-    (run-more _ _ _ _ _ _ (c .before .before .before .before .before .before .before .before .before .before .before .before .before .before .before .before .before .before .before .loop .inv .0) _ _ (m .0) a, omega (arith, m .1, after-counted _ _ _ _ _ a, c .before .before .before .before .before .before .before .before .before .before .before .before .before .before .before .before .before .before .before .loop .inv), m .2)
+loop-again c = let a = after-uri _ _ _ _ _ (c .before .before .before .before .before .before .uses .ensures) (c .before .taken .ensures) in
+    let m = c .before .before .before .before .before .before .before .before .before .before .before .before .before .before .before .before .before .before .before .entry-at .ensures .more (not-false _ (c .before .before .before .before .before .before .before .before .before .before .before .before .before .before .before .before .before .if1 .left)) (c .if2 .left) in
+    (run-more _ _ _ _ _ _ (c .before .before .before .before .before .before .before .before .before .before .before .before .before .before .before .before .before .before .before .before .loop .inv .0) _ _ (m .0) a, omega (arith, m .1, after-counted _ _ _ _ _ a, c .before .before .before .before .before .before .before .before .before .before .before .before .before .before .before .before .before .before .before .before .loop .inv), m .2)
 
 pub run-spec : {M : Type 1} → statement M
 run-spec =

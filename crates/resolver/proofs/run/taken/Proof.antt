@@ -19,10 +19,10 @@ add-t20 : tie.Need-add-t20
 add-t20 c = search needs
 
 returns : tie.Need-returns
-returns c = after-skipped _ _ _ _ _ _ _ (c .before .enum-told .given .1)
+returns c = after-skipped _ _ _ _ _ _ _ _ (c .before .enum-told .given .1)
 
 returns-2 : tie.Need-returns-2
-returns-2 c = after-used _ _ _ _ _ _ _ (c .before .before .before .u .given .1) (c .before .moved-by .ensures)
+returns-2 c = after-used _ _ _ _ _ _ _ _ (c .before .before .before .u .given .1) (c .before .moved-by .ensures)
 
 pub taken-spec : {M : Type 1} → statement M
 taken-spec =

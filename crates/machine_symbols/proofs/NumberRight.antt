@@ -1,0 +1,125 @@
+-- The number of a used URN's symbol, by the arrays, is its symbol's place in the table's list.
+use Prim.Native.Nat.{ℕ, zero, suc, _+_, _<_}
+use mathlib.Core.Path.{_≡_, refl, sym, ap, ap₂, _∙_}
+use mathlib.Core.Logic.{inl, inr}
+use mathlib.Core.Bool.{Bool, true, false, cond, not, _&&_, _||_, and-eq-true-iff}
+use mathlib.Core.List.{List, []}
+use lib.Dec.{eqb}
+use borrow.Author.Tests.{eqb-true, eq-eqb, ne-eqb, le-leb}
+use lib.ListN.{drop, drop-of-length-le}
+use lib.Seq.{drop-cons}
+use native.Mathlib.Omega.{arith}
+use native.Mathlib.Nat.{add-zero, zero-add}
+use native.Mathlib.Numerals.{add-one}
+use Rattle.resolution.specs.Names.{Parts, sameParts}
+use Rattle.resolution.specs.Lists.{indexBy}
+use Rattle.resolution.specs.Table.{Urn, Table, WellFormed}
+use Rattle.resolution.specs.Nodes.{nodes, number, RootOrNode, leaf, deepest}
+use Rattle.resolution.specs.Symbols.{Symbol, other, symbols, symbolAt, symbolOf, isOther, sameSymbol, symbolIndex}
+use Rattle.resolution.proofs.Lists.{same-test, mem-at}
+use Rattle.resolution.proofs.Numbers.{number-node, number-same, root-number}
+use Rattle.resolution.proofs.Deepest.{deepest-node}
+use Rattle.resolution.proofs.Symbols.{symbol-exact, symbol-known}
+use Rattle.node_step.specs.Arrays.{childless, NodesIn, Numbers}
+use Rattle.machine_image.specs.Image.{kindOf}
+use Rattle.node_step.specs.Uses.{fewer}
+use Rattle.machine_symbols.specs.Listed.{SymbolsIn, isTriple, tripleIndex, kindFor, indexFrom, symbolNumber}
+use Rattle.machine_symbols.proofs.SymbolLaws.{by-index}
+use Rattle.node_step.proofs.Leaves.{leaf-is}
+use Rattle.machine_symbols.proofs.StepRight.{category-at, node-at, kind-at}
+
+kind-same : (a b : Bool) → kindOf a ≡ kindOf b → a ≡ b
+kind-same true true e = refl
+kind-same true false e = absurd (omega arith)
+kind-same false true e = absurd (omega arith)
+kind-same false false e = refl
+
+module _ (t ca pos len : List ℕ) (n : ℕ) (T : Table) (ni : NodesIn t ca pos len n T) (rows ps : List ℕ) (signals : ℕ) (nu : Numbers rows ps signals T)
+    (wf : WellFormed T) (sy : List ℕ) (count : ℕ) (si : SymbolsIn T sy count) where
+  abbrev ns : List Urn
+  ns = nodes T
+
+  -- the kind
+  kind-right : (c : ℕ) (d u : Parts) → RootOrNode ns c d → kindFor ps n (number ns c d) (sameParts d u) ≡ kindOf (isOther ns c u d)
+  unfolding kindFor leaf
+  kind-right c d u (inl e) =
+      ap (λ z. cond (sameParts d u) 0 (cond z 1 (cond (childless ps (number ns c d) n) 0 1))) (eq-eqb (number ns c d) 0 (ap (number ns c) e ∙ root-number T c))
+      ∙ by (sameParts d u) ∙ ap (λ z. kindOf (not (sameParts d u || leaf ns c z))) (sym e)
+    where
+      by : (b : Bool) → cond b 0 1 ≡ kindOf (not (b || false))
+      by true = refl
+      by false = refl
+  kind-right c d u (inr e) =
+      let w = number-node ns c d e in
+      let h : w .0 < n = omega (arith, w .1, ni .all-nodes) in
+      let l : leaf ns c d ≡ childless ps (w .0 + 1) n =
+      ap (λ z. leaf ns (z .cat) (z .path)) (sym (w .3)) ∙ leaf-is t ca pos len n T ni rows ps signals nu (w .0) h in
+      let m : number ns c d ≡ w .0 + 1 = w .2 ∙ sym (add-one (w .0)) in
+      ap (λ z. cond (sameParts d u) 0 (cond (eqb z 0) 1 (cond (childless ps z n) 0 1))) m
+      ∙ ap (λ z. cond (sameParts d u) 0 (cond z 1 (cond (childless ps (w .0 + 1) n) 0 1))) (ne-eqb (w .0 + 1) 0 (λ z. omega arith))
+      ∙ by (sameParts d u) (childless ps (w .0 + 1) n) ∙ ap (λ z. kindOf (not (sameParts d u || z))) (sym l)
+    where
+      by : (a b : Bool) → cond a 0 (cond b 0 1) ≡ kindOf (not (a || b))
+      by true b = refl
+      by false true = refl
+      by false false = refl
+
+  -- the search
+  module _ (s : Symbol) (g : RootOrNode ns (s .cat) (s .path)) where
+    abbrev num : ℕ
+    num = number ns (s .cat) (s .path)
+
+    test-right : (k : ℕ) → k < count → isTriple sy (s .cat) num (kindOf (s .other)) k ≡ sameSymbol s (symbolAt T k)
+    unfolding isTriple
+    test-right k h =
+        ap₂ (λ x y. eqb x (s .cat) && y) (category-at T wf rows ps signals nu sy count si k h)
+        (ap₂ (λ x y. eqb x num && eqb y (kindOf (s .other))) (node-at T wf rows ps signals nu sy count si k h) (kind-at T wf rows ps signals nu sy count si k h))
+        ∙ same-test (eqb (x .cat) (s .cat) && (eqb (number ns (x .cat) (x .path)) num && eqb (kindOf (x .other)) (kindOf (s .other)))) (sameSymbol s x) to of
+      where
+        x : Symbol
+        x = symbolAt T k
+
+        known : RootOrNode ns (x .cat) (x .path)
+        known = symbol-known T x (mem-at (symbols T) k (other 0 []) (omega (arith, si .all-symbols))) .1
+
+        to : eqb (x .cat) (s .cat) && (eqb (number ns (x .cat) (x .path)) num && eqb (kindOf (x .other)) (kindOf (s .other))) ≡ true → sameSymbol s x ≡ true
+        to e =
+            let a = and-eq-true-iff (eqb (x .cat) (s .cat)) (eqb (number ns (x .cat) (x .path)) num && eqb (kindOf (x .other)) (kindOf (s .other))) .0 e in
+            let b = and-eq-true-iff (eqb (number ns (x .cat) (x .path)) num) (eqb (kindOf (x .other)) (kindOf (s .other))) .0 (a .1) in
+            let p : x .cat ≡ s .cat = eqb-true (x .cat) (s .cat) (a .0) in
+            let q : x .path ≡ s .path = number-same T (s .cat) (x .path) (s .path) (rw p at known) g (ap (λ z. number ns z (x .path)) (sym p) ∙ eqb-true (number ns (x .cat) (x .path)) num (b .0)) in
+            let r : x .other ≡ s .other = kind-same (x .other) (s .other) (eqb-true (kindOf (x .other)) (kindOf (s .other)) (b .1)) in
+            let i : x ≡ s = λ j. record { cat = p j; path = q j; other = r j } in
+            ap (λ z. sameSymbol z x) (sym i) ∙ symbol-exact .self x
+
+        of : sameSymbol s x ≡ true → eqb (x .cat) (s .cat) && (eqb (number ns (x .cat) (x .path)) num && eqb (kindOf (x .other)) (kindOf (s .other))) ≡ true
+        of e =
+            let i : s ≡ x = symbol-exact .to s x e in
+            rw (eq-eqb (x .cat) (s .cat) (ap (λ z. z .cat) (sym i)), eq-eqb (number ns (x .cat) (x .path)) num (ap (λ z. number ns (z .cat) (z .path)) (sym i)))
+            (eq-eqb (kindOf (x .other)) (kindOf (s .other)) (ap (λ z. kindOf (z .other)) (sym i)))
+
+    index-right : (m i : ℕ) → i + m ≡ count → tripleIndex sy (s .cat) num (kindOf (s .other)) i m ≡ i + indexBy sameSymbol s (drop i (symbols T))
+    unfolding tripleIndex
+    index-right zero i h = rw (drop-of-length-le (symbols T) {i = i} (omega (arith, si .all-symbols))) (sym (add-zero i))
+    index-right (suc m) i h =
+        ap (λ z. cond z i (tripleIndex sy (s .cat) num (kindOf (s .other)) (i + 1) m)) (test-right i (omega arith))
+        ∙ go (sameSymbol s (symbolAt T i)) (index-right m (i + 1) (omega arith))
+        ∙ ap (λ z. i + indexBy sameSymbol s z) (sym (drop-cons (symbols T) i (other 0 []) (omega (arith, si .all-symbols))))
+      where
+        go : (b : Bool) → tripleIndex sy (s .cat) num (kindOf (s .other)) (i + 1) m ≡ i + 1 + indexBy sameSymbol s (drop (i + 1) (symbols T))
+            → cond b i (tripleIndex sy (s .cat) num (kindOf (s .other)) (i + 1) m) ≡ i + cond b zero (suc (indexBy sameSymbol s (drop (suc i) (symbols T))))
+        go true ih = sym (add-zero i)
+        go false ih = ih ∙ ap (λ z. i + 1 + indexBy sameSymbol s (drop z (symbols T))) (add-one i) ∙ omega arith
+
+  pub number-right : (ix : List ℕ) → ix ≡ indexFrom sy 0 (fewer count 128) → (u : Urn)
+      → symbolNumber ix sy count ps n (u .cat) (number ns (u .cat) (deepest ns (u .cat) (u .path))) (sameParts (deepest ns (u .cat) (u .path)) (u .path))
+      ≡ symbolIndex (symbolOf ns u) (symbols T)
+  unfolding symbolNumber
+  number-right ix xi u =
+      let g = deepest-node ns (u .cat) (u .path) in
+      by-index sy (u .cat) (number ns (u .cat) (deepest ns (u .cat) (u .path))) (kindFor ps (fewer n 64) (number ns (u .cat) (deepest ns (u .cat) (u .path))) (sameParts (deepest ns (u .cat) (u .path)) (u .path))) ix (fewer count 128) xi
+      ∙ ap₂ (λ x y. tripleIndex sy (u .cat) (number ns (u .cat) (deepest ns (u .cat) (u .path))) (kindFor ps x (number ns (u .cat) (deepest ns (u .cat) (u .path))) (sameParts (deepest ns (u .cat) (u .path)) (u .path))) 0 y)
+      (ap (λ b. cond b n 64) (le-leb n 64 (ni .few-nodes))) (ap (λ b. cond b count 128) (le-leb count 128 (si .few-symbols)))
+      ∙ ap (λ z. tripleIndex sy (u .cat) (number ns (u .cat) (deepest ns (u .cat) (u .path))) z 0 count) (kind-right (u .cat) (deepest ns (u .cat) (u .path)) (u .path) g)
+      ∙ index-right (symbolOf ns u) g count 0 (zero-add count)
+      ∙ zero-add (indexBy sameSymbol (symbolOf ns u) (symbols T))

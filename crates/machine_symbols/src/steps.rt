@@ -1,0 +1,44 @@
+// States with their statuses in one number: the step of a symbol, and whether two of them are the same.
+use node_step::stored::Packed;
+ghost use mathlib.Core.Path.{_≡_};
+ghost use Prim.Native.Nat.{_<_};
+ghost use Rattle.node_step.specs.StatusByte.{samePacked};
+ghost use Rattle.machine_symbols.specs.Steps.{nextState};
+
+// A byte as an index.
+pub fn wide(x: u8) -> usize
+    ensures { λ r. ⌜ (r ≡ x) × (r < 256) ⌝ }
+{
+    x as usize
+}
+
+// The state after symbol k, which is one of at most 128.
+pub fn next<'a>(
+    rows: &'a [u64; 32],
+    parents: &'a [u8; 64],
+    inner: &'a [bool; 64],
+    signals: usize,
+    symbols: &[u8; 384],
+    st: Packed,
+    k: usize,
+) -> Packed
+    ensures { λ r. ⌜ r ≡ nextState (now (rows .entry)) (now (parents .entry)) (now (inner .entry)) signals (now (symbols .entry)) st k ⌝ }
+{
+    if 128 <= k {
+        return st;
+    }
+    let at = 3 * k;
+    let c = wide(symbols[at]);
+    let d = symbols[at + 1];
+    let whole = symbols[at + 2] == 0;
+    node_step::stored::step_packed(rows, parents, inner, signals, st, c, d, whole)
+}
+
+pub fn same(a: Packed, b: Packed) -> bool
+    ensures { λ r. ⌜ r ≡ samePacked a b ⌝ }
+{
+    if a.signal != b.signal {
+        return false;
+    }
+    a.statuses == b.statuses
+}
