@@ -24,8 +24,9 @@ use Rattle.machine_image.proofs.Check.{check-to}
 use Rattle.machine_image.proofs.Walk.{image-claim}
 use Rattle.stored_table.specs.Tables.{tableRefusal, tableOf, categoryNames}
 use Rattle.stored_table.proofs.Accepting.{accepted}
-use Rattle.signal_table.specs.Built.{refused as without, builtOf, builtFrom, bufferFrom, checkFrom}
-use Rattle.signal_table.specs.declared.write.Built.{Built}
+use Rattle.machine_builder.specs.Built.{refused as without, builtOf}
+use Rattle.signal_table.specs.Built.{builtFrom, bufferFrom, checkFrom}
+use Rattle.machine_builder.specs.declared.Built.{Built}
 use Rattle.signal_table.proofs.Claims.{builds as every-build, refused-build, check-to-right, right-to-check}
 use Rattle.resolver.specs.declared.Resolution.{Resolution}
 use Rattle.resolver.specs.Resolve.{takenAs, directSignal, walkedSignal, refused, answered, unlessRefused, plainOf, machineOf}

@@ -22,11 +22,11 @@ use Rattle.resolver.proofs.FoldLaws.{Steps}
 use Rattle.resolver.proofs.AnswerLaws.{value-refused, refused-first, resolved-right}
 use Rattle.node_step.specs.StatusByte.{fitsBy}
 use Rattle.node_step.specs.Uses.{fewer}
-use Rattle.signal_table.specs.Listed.{SymbolsIn, tripleLists, symbolsOf, indexFrom}
-use Rattle.signal_table.specs.declared.symbols.Symbols.{Symbols}
-use Rattle.signal_table.specs.Checks.{formBy}
+use Rattle.machine_symbols.specs.Listed.{SymbolsIn, tripleLists, symbolsOf, indexFrom}
+use Rattle.machine_symbols.specs.declared.Symbols.{Symbols}
+use Rattle.machine_checker.specs.Checks.{formBy}
 use Rattle.signal_table.proofs.TableRight.{table-symbols, table-form}
-use Rattle.signal_table.proofs.NumberRight.{number-right}
+use Rattle.machine_symbols.proofs.NumberRight.{number-right}
 
 module _ (t : List ℕ) (d : Decoded) (h : Holds t (tableOf t) d) (m : Machine) (listed : SymbolsIn (tableOf t) (m .symbols) (m .count))
     (indexed : m .index ≡ indexFrom (m .symbols) 0 (fewer (m .count) 128)) (cats : m .categories ≡ d .categories) where

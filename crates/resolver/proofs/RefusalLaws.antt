@@ -19,7 +19,8 @@ use Rattle.machine_image.specs.Image.{machineImage, machineIn}
 use Rattle.machine_image.specs.Refusals.{buildRefusal, formOf, checkOf}
 use Rattle.stored_table.specs.Tables.{tableRefusal, tableOf}
 use Rattle.stored_table.proofs.RefusalNumbers.{refusal-numbers}
-use Rattle.signal_table.specs.Built.{refused as without, builtOf, builtFrom, checkFrom}
+use Rattle.machine_builder.specs.Built.{refused as without, builtOf}
+use Rattle.signal_table.specs.Built.{builtFrom, checkFrom}
 use Rattle.resolver.specs.declared.Resolution.{Resolution}
 use Rattle.resolver.specs.Resolve.{refused, answered, walkedSignal, unlessRefused, plainOf, machineOf}
 use Rattle.resolver.specs.Demands.{Among, ValueNumber, EntryNumber, TableNumber, PlainNumber, MachineNumber, BuildNumber, CheckNumber}

@@ -21,7 +21,7 @@ use Rattle.stored_table.specs.declared.Decoded.{Decoded}
 use Rattle.resolver.specs.declared.run.Current.{Current}
 use Rattle.resolver.specs.declared.run.Point.{Point}
 use Rattle.machine_image.specs.Image.{signalIn, targetIn}
-use Rattle.signal_table.specs.Listed.{symbolNumber}
+use Rattle.machine_symbols.specs.Listed.{symbolNumber}
 use Rattle.resolver.specs.Run.{Direct, Walk, Machine, useIn, moved, signalNow, afterUse, after, Met, over, runOf}
 use Rattle.resolver.specs.declared.run.Outcome.{Outcome}
 

@@ -21,7 +21,7 @@ use Rattle.resolver.specs.declared.run.Point.{Point}
 use Rattle.resolver.specs.declared.run.Outcome.{Outcome}
 use Rattle.machine_image.specs.Image.{signalIn, targetIn}
 use Rattle.resolver.specs.Resolve.{refused}
-use Rattle.signal_table.specs.Listed.{symbolNumber}
+use Rattle.machine_symbols.specs.Listed.{symbolNumber}
 
 -- what a URI is to the decoded table
 abbrev pub useIn : List ℕ → Decoded → List ℕ → Use

@@ -41,7 +41,7 @@ fn signal_in(categories: usize, image: &[u8], current: Current) -> u8
     ensures { λ r. ⌜ r ≡ signalNow categories (now (image .entry)) current ⌝ }
 {
     if current.walks {
-        return signal_table::image::signal(image, categories, current.number);
+        return machine_checker::image::signal(image, categories, current.number);
     }
     let st = current.state;
     st.signal

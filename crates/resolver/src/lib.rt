@@ -61,9 +61,9 @@ pub fn machine(t: &[u8], image: &[u8], v: &[u8]) -> Resolution
     let categories = d.categories;
     let nodes = d.nodes;
     let signals = d.signals;
-    let s = signal_table::symbols::list(&d.category, &d.parent, nodes, categories);
+    let s = machine_symbols::list(&d.category, &d.parent, nodes, categories);
     let count = s.count;
-    if !signal_table::image::formed(
+    if !machine_checker::form::formed(
         &d.rows,
         &d.parent,
         &d.inner,
@@ -77,7 +77,7 @@ pub fn machine(t: &[u8], image: &[u8], v: &[u8]) -> Resolution
     ) {
         return answer::value_first(v, 15);
     }
-    let index = signal_table::symbols::index(&s.bytes, count);
+    let index = machine_symbols::index(&s.bytes, count);
     answer::resolved(t, d, &index, &s.bytes, count, image, at_number(0), v)
 }
 

@@ -104,8 +104,8 @@ fn moved_by<'a>(
         ⌝ }
 {
     if current.walks {
-        let n = signal_table::symbols::number(index, symbols, count, parent, nodes, c, k, w);
-        let number = signal_table::image::target(image, categories, current.number, n);
+        let n = machine_symbols::number(index, symbols, count, parent, nodes, c, k, w);
+        let number = machine_checker::image::target(image, categories, current.number, n);
         return at_number(number);
     }
     let category = c as usize;
