@@ -15,7 +15,7 @@ use Rattle.stored_table.specs.Tables.{tableRefusal, tableOf}
 use Rattle.stored_table.specs.Decoded.{Means}
 use Rattle.stored_table.specs.declared.Decoded.{Decoded}
 use Rattle.early.specs.FirstEntries.{urisIn}
-use Rattle.early.specs.Early.{takenBy, numberOf, refused, reached, enough, answerFor, readOf, earlyOf}
+use Rattle.early.specs.Early.{takenAs, numberOf, refused, reached, enough, answerFor, readOf, earlyOf}
 use Rattle.early.specs.Run.{runFrom}
 use Rattle.early.specs.declared.Early.{Early}
 use Rattle.early.specs.declared.run.Reached.{Reached}
@@ -30,7 +30,7 @@ module _ (v : List ℕ) (k : ℕ) {n : ℕ} (is : n ≡ refusalOf v) where
 
 module _ (t v : List ℕ) where
   abbrev answer : Early
-  answer = answerFor (tableOf t) (takenBy t (urisIn v (readOf v))) (readOf v .ended) (numberOf t v)
+  answer = answerFor (tableOf t) (takenAs t (urisIn v (readOf v))) (readOf v .ended) (numberOf t v)
 
   pub early-refused : (b : Bool) → leb (length v) 4096 && eqb (tableRefusal t) 0 ≡ b → b ≡ false → refused (numberOf t v) ≡ earlyOf t v
   unfolding earlyOf
@@ -61,7 +61,7 @@ module _ (t v : List ℕ) where
     table-formed = sym (m .refusal) ∙ formed
 
     abbrev uris : List (Option Urn)
-    uris = takenBy t (urisIn v (readOf v))
+    uris = takenAs t (urisIn v (readOf v))
 
     -- what the run reached, as the theory has it
     reached-is : r ≡ record { enough = enough (tableOf t) uris (readOf v .ended); signal = reached (tableOf t) uris .signal; entries = needed (tableOf t) uris }

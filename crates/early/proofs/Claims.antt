@@ -25,7 +25,7 @@ use Rattle.node_step.specs.Uses.{usedUrn}
 use Rattle.stored_table.specs.Tables.{tableRefusal, tableOf, categoryNames}
 use Rattle.stored_table.proofs.Accepting.{accepted}
 use Rattle.early.specs.FirstEntries.{frontFrom, urisIn, Begins}
-use Rattle.early.specs.Early.{takenBy, numberOf, refused, reached, enough, answerFor, readOf, earlyOf}
+use Rattle.early.specs.Early.{takenAs, numberOf, refused, reached, enough, answerFor, readOf, earlyOf}
 use Rattle.early.specs.Claims.{stateAfter, ReadEnough, settled, ended, Needed, EarlyClaims, EarlyClaim}
 use Rattle.early.specs.declared.Early.{Early}
 use Rattle.early.proofs.FrontLaws.{front-claims}
@@ -44,7 +44,7 @@ module _ (t v : List ℕ) where
   first = urisIn v (readOf v)
 
   abbrev l : List (Option Urn)
-  l = takenBy t first
+  l = takenAs t first
 
   first-is : first ≡ take 64 uris
   first-is = map-take (partOf v) 64 (frontFrom v 0 .parts)
@@ -52,7 +52,7 @@ module _ (t v : List ℕ) where
   uris-parts : length uris ≡ length (frontFrom v 0 .parts)
   uris-parts = length-map (frontFrom v 0 .parts) (partOf v)
 
-  taken-long : (us : List (List ℕ)) → length (takenBy t us) ≡ length us
+  taken-long : (us : List (List ℕ)) → length (takenAs t us) ≡ length us
   taken-long us = length-map us (usedUrn (categoryNames t))
 
   first-long : length l ≡ min 64 (length uris)
@@ -63,20 +63,20 @@ module _ (t v : List ℕ) where
   answer = answerFor T l (readOf v .ended) (numberOf t v)
 
   -- over the first k of a list
-  taken-first : (us : List (List ℕ)) (k : ℕ) → afterFirst T (takenBy t us) k ≡ stateAfter t (take k us)
+  taken-first : (us : List (List ℕ)) (k : ℕ) → afterFirst T (takenAs t us) k ≡ stateAfter t (take k us)
   taken-first us k = ap (λ z. direct T (usedOf z)) (sym (map-take _ k us))
 
   -- all of a list are needed if after fewer the state is not settled
-  all-needed : WellFormed T → (us : List (List ℕ)) → ((k : ℕ) → k < length us → Settled T (stateAfter t (take k us)) → ⊥) → needed T (takenBy t us) ≡ length us
+  all-needed : WellFormed T → (us : List (List ℕ)) → ((k : ℕ) → k < length us → Settled T (stateAfter t (take k us)) → ⊥) → needed T (takenAs t us) ≡ length us
   all-needed wf us few =
-      let n : length (takenBy t us) ≡ length us = taken-long us in
-      needed-is T wf (takenBy t us) (length us) (omega arith) (λ j h. by j h (isSettled T (afterFirst T (takenBy t us) j)) refl) (inr (sym n))
+      let n : length (takenAs t us) ≡ length us = taken-long us in
+      needed-is T wf (takenAs t us) (length us) (omega arith) (λ j h. by j h (isSettled T (afterFirst T (takenAs t us) j)) refl) (inr (sym n))
     where
-      by : (j : ℕ) → j < length us → (b : Bool) → isSettled T (afterFirst T (takenBy t us) j) ≡ b → b ≡ false
+      by : (j : ℕ) → j < length us → (b : Bool) → isSettled T (afterFirst T (takenAs t us) j) ≡ b → b ≡ false
       by j h false e = refl
       by j h true e =
           absurd (few j h (subst (Settled T) (taken-first us j)
-          (settled-to T (afterFirst T (takenBy t us) j) (state-direct T wf (usedOf (take j (takenBy t us)))) e)))
+          (settled-to T (afterFirst T (takenAs t us) j) (state-direct T wf (usedOf (take j (takenAs t us)))) e)))
 
   given : (us : List (List ℕ)) → needed T l ≡ length us → reached T l ≡ stateAfter t us → enough T l (readOf v .ended) ≡ true
       → answer ≡ record { refusal = 0; signal = stateAfter t us .signal; entries = length us }
@@ -94,19 +94,19 @@ module _ (t v : List ℕ) where
       by : ReadEnough t v us → answer ≡ record { refusal = 0; signal = stateAfter t us .signal; entries = length us }
       by (settled b r e k s) =
           let f : take (length us) first ≡ us = ap (take (length us)) first-is ∙ take-take (length us) 64 uris (q .few) ∙ front-claims v .begins b r us k e in
-          let after = takenBy t (drop (length us) first) in
-          let split : l ≡ takenBy t us ++ after = ap (takenBy t) (sym (take-append-drop (length us) first) ∙ ap (λ z. z ++ drop (length us) first) f) ∙ map-append _ us (drop (length us) first) in
-          let n : needed T l ≡ length us = ap (needed T) split ∙ needed-ahead T (takenBy t us) after s ∙ all-needed wf us (q .fewest) in
+          let after = takenAs t (drop (length us) first) in
+          let split : l ≡ takenAs t us ++ after = ap (takenAs t) (sym (take-append-drop (length us) first) ∙ ap (λ z. z ++ drop (length us) first) f) ∙ map-append _ us (drop (length us) first) in
+          let n : needed T l ≡ length us = ap (needed T) split ∙ needed-ahead T (takenAs t us) after s ∙ all-needed wf us (q .fewest) in
           let r : reached T l ≡ stateAfter t us =
-          ap₂ (λ x k. direct T (usedOf (take k x))) split n ∙ ap (λ x. direct T (usedOf x)) (take-at (takenBy t us) after (length us) (taken-long us)) in
+          ap₂ (λ x k. direct T (usedOf (take k x))) split n ∙ ap (λ x. direct T (usedOf x)) (take-at (takenAs t us) after (length us) (taken-long us)) in
           given us n r (ap (λ b. readOf v .ended || b) (ap (isSettled T) r ∙ settled-of T (stateAfter t us) s) ∙ or-true (readOf v .ended))
       by (ended k) =
           let w = front-claims v .whole us .0 k in
           let short : length (frontFrom v 0 .parts) ≤ 64 = omega (arith, q .few, uris-parts, ap length (w .1)) in
           let f : first ≡ us = first-is ∙ take-all 64 uris (omega (arith, uris-parts)) ∙ w .1 in
-          let n : needed T l ≡ length us = ap (λ z. needed T (takenBy t z)) f ∙ all-needed wf us (q .fewest) in
+          let n : needed T l ≡ length us = ap (λ z. needed T (takenAs t z)) f ∙ all-needed wf us (q .fewest) in
           let r : reached T l ≡ stateAfter t us =
-          ap₂ (λ x k. direct T (usedOf (take k (takenBy t x)))) f n ∙ ap (λ x. direct T (usedOf x)) (take-all (length us) (takenBy t us) (omega (arith, taken-long us))) in
+          ap₂ (λ x k. direct T (usedOf (take k (takenAs t x)))) f n ∙ ap (λ x. direct T (usedOf x)) (take-all (length us) (takenAs t us) (omega (arith, taken-long us))) in
           given us n r (ap (λ b. b || isSettled T (reached T l)) (ap₂ _&&_ (w .0) (le-leb (length (frontFrom v 0 .parts)) 64 short)))
 
   -- an accepted value is read up to its end
@@ -119,7 +119,7 @@ module _ (t v : List ℕ) where
       (ap₂ _&&_ (w .0) (le-leb (length (frontFrom v 0 .parts)) 64 short), first-is ∙ take-all 64 uris (omega (arith, uris-parts)) ∙ x .1)
 
   -- the number 0 is given only where neither the value nor the table is refused
-  zero-number : numberOf t v ≡ 0 → (refusalOf v ≡ 0) × (tableRefusal t ≡ 0)
+  pub zero-number : numberOf t v ≡ 0 → (refusalOf v ≡ 0) × (tableRefusal t ≡ 0)
   zero-number = go (eqb (refusalOf v) 0) refl
     where
       go : (b : Bool) → eqb (refusalOf v) 0 ≡ b → cond b (tableRefusal t) (refusalOf v) ≡ 0 → (refusalOf v ≡ 0) × (tableRefusal t ≡ 0)

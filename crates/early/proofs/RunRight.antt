@@ -28,7 +28,7 @@ use Rattle.stored_table.specs.Tables.{tableOf, categoryNames}
 use Rattle.stored_table.specs.Decoded.{Holds}
 use Rattle.stored_table.specs.declared.Decoded.{Decoded}
 use Rattle.early.specs.FirstEntries.{Front, urisIn}
-use Rattle.early.specs.Early.{takenBy, reached, enough}
+use Rattle.early.specs.Early.{takenAs, reached, enough}
 use Rattle.early.specs.Run.{afterUse, afterUri, settledIn, runOver}
 use Rattle.early.specs.declared.run.Reached.{Reached}
 use Rattle.early.proofs.SettledRight.{settled-right}
@@ -102,7 +102,7 @@ module _ (t : List ℕ) (d : Decoded) (h : Holds t (tableOf t) d) where
 
   -- all entries
   over-right : (v : List ℕ) (s : State) → StateOf T s → (n : ℕ) (ps : List Span) (ended : Bool)
-      → runOver t d v (shown s) n ps ended ≡ over T s n (takenBy t (map (partOf v) ps)) ended
+      → runOver t d v (shown s) n ps ended ≡ over T s n (takenAs t (map (partOf v) ps)) ended
   unfolding runOver
   over-right v s g n [] ended = ap (λ b. reachedAt T (ended || b) s n) (in-right s g)
   over-right v s g n (p ∷ ps) ended =
@@ -117,9 +117,9 @@ module _ (t : List ℕ) (d : Decoded) (h : Holds t (tableOf t) d) where
   -- from the start
   pub run-right : (v : List ℕ) (f : Front)
       → runOver t d v (record { signal = 0; statuses = 0 }) 0 (f .parts) (f .ended)
-      ≡ reachedAt T (enough T (takenBy t (urisIn v f)) (f .ended)) (reached T (takenBy t (urisIn v f))) (needed T (takenBy t (urisIn v f)))
+      ≡ reachedAt T (enough T (takenAs t (urisIn v f)) (f .ended)) (reached T (takenAs t (urisIn v f))) (needed T (takenAs t (urisIn v f)))
   run-right v f =
-      let l = takenBy t (urisIn v f) in
+      let l = takenAs t (urisIn v f) in
       let s = start (T .cats) in
       ap (λ z. runOver t d v z 0 (f .parts) (f .ended)) begin-right
       ∙ over-right v s (state-start T (h .well-formed)) 0 (f .parts) (f .ended)

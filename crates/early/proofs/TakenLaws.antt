@@ -19,7 +19,7 @@ use Rattle.alert_urn.proofs.Fields.{fields-first}
 use Rattle.node_step.specs.Uses.{usedUrn}
 use Rattle.stored_table.specs.Stored.{Read, fault, got, Stored, stored}
 use Rattle.stored_table.specs.Tables.{tableOf, tableRead, categoryNames, namesRead}
-use Rattle.early.specs.Early.{takenBy}
+use Rattle.early.specs.Early.{takenAs}
 
 -- each category has a name
 pub names-count : (t : List ℕ) → length (categoryNames t) ≡ tableOf t .cats
@@ -61,15 +61,15 @@ module _ (t : List ℕ) where
       record { known = omega (arith, k .0, names-count t); some-part = k .1 }
 
   -- a list of URIs has used ones of the table only
-  pub taken-used : (uris : List (List ℕ)) → AllUsed (tableOf t) (takenBy t uris)
+  pub taken-used : (uris : List (List ℕ)) → AllUsed (tableOf t) (takenAs t uris)
   taken-used [] = λ u m. absurd (List·Memᴰ·not-nil m)
   taken-used (uri ∷ uris) = go (usedUrn (categoryNames t) uri) refl (taken-used uris)
     where
-      go : (o : Option Urn) → usedUrn (categoryNames t) uri ≡ o → AllUsed (tableOf t) (takenBy t uris) → AllUsed (tableOf t) (o ∷ takenBy t uris)
+      go : (o : Option Urn) → usedUrn (categoryNames t) uri ≡ o → AllUsed (tableOf t) (takenAs t uris) → AllUsed (tableOf t) (o ∷ takenAs t uris)
       go none e rest u m = rest u m
       go (some x) e rest u m = by (List·Memᴰ·cases-cons m)
         where
-          by : (u ≡ x) ⊎ List·Memᴰ u (usedOf (takenBy t uris)) → Used (tableOf t) u
+          by : (u ≡ x) ⊎ List·Memᴰ u (usedOf (takenAs t uris)) → Used (tableOf t) u
           by (inl i) = used-of uri u (e ∙ ap some (sym i))
           by (inr i) = rest u i
 

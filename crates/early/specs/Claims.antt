@@ -9,11 +9,11 @@ use Rattle.resolution.specs.Direct.{State, direct, usedOf}
 use Rattle.resolution.specs.Settled.{Settled}
 use Rattle.stored_table.specs.Tables.{tableRefusal, tableOf}
 use Rattle.early.specs.FirstEntries.{Begins}
-use Rattle.early.specs.Early.{takenBy, numberOf, refused, earlyOf}
+use Rattle.early.specs.Early.{takenAs, numberOf, refused, earlyOf}
 
 -- direct resolution's state after a list of URIs
 abbrev pub stateAfter : List ℕ → List (List ℕ) → State
-stateAfter t us = direct (tableOf t) (usedOf (takenBy t us))
+stateAfter t us = direct (tableOf t) (usedOf (takenAs t us))
 
 -- entries with the URIs us are read and enough: they stand at the value's front with a comma after each, and no sequence of symbols
 -- leads to another signal, whatever follows them; or they are the whole value

@@ -15,8 +15,8 @@ use Rattle.early.specs.FirstEntries.{Front, frontFrom, firstOf, urisIn}
 use Rattle.early.specs.declared.Early.{Early}
 
 -- a list of URIs as a stored table takes them: a used one with its URN, or skipped
-abbrev pub takenBy : List ℕ → List (List ℕ) → List (Option Urn)
-takenBy t uris = map (usedUrn (categoryNames t)) uris
+abbrev pub takenAs : List ℕ → List (List ℕ) → List (Option Urn)
+takenAs t uris = map (usedUrn (categoryNames t)) uris
 
 -- the number with which the full resolver refuses: the value's (1 to 3), else the table's (4 to 12), or 0
 abbrev pub numberOf : List ℕ → List ℕ → ℕ
@@ -46,5 +46,5 @@ readOf v = firstOf 64 (frontFrom v 0)
 unfoldable pub earlyOf : List ℕ → List ℕ → Early
 earlyOf t v =
     cond (leb (length v) 4096 && eqb (tableRefusal t) 0)
-    (answerFor (tableOf t) (takenBy t (urisIn v (readOf v))) (readOf v .ended) (numberOf t v))
+    (answerFor (tableOf t) (takenAs t (urisIn v (readOf v))) (readOf v .ended) (numberOf t v))
     (refused (numberOf t v))

@@ -6,3 +6,4 @@ pub mod Demands
 pub mod Examples
 pub mod DemandExample
 pub mod FieldsExample
+pub mod EarlyExample
