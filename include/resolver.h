@@ -49,6 +49,18 @@ typedef struct alert_record {
 alert_resolution resolve_feed(const uint8_t *table, size_t len, alert_record *record, const uint8_t *value,
                               size_t value_len);
 
+/* What the early question answers. Refused: the signal and the entries are 0. */
+typedef struct alert_early {
+    uint8_t refusal; /* 0 if answered */
+    uint8_t signal;  /* the number of the signal to give */
+    uint8_t entries; /* how many of the value's first entries were needed, perhaps none */
+} alert_early;
+
+/* The signal for a value as soon as no further URN could change it. What stands behind the entries needed and their
+ * commas may be anything, also what resolve_plain refuses with 2 or 3. A value that resolve_plain accepts gets the same
+ * signal. Where the entries that can be read are not enough, refused as by resolve_plain, with 1 to 12. */
+alert_early resolve_early(const uint8_t *table, size_t len, const uint8_t *value, size_t value_len);
+
 #ifdef __cplusplus
 }
 #endif

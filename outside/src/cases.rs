@@ -11,15 +11,16 @@
 //! | `check T M` | refusal |
 //! | `walk T M V` | refusal, signal, used, skipped of the machine resolver |
 //! | `feed T RECORD V` | refusal, signal, used, skipped, the record after it; a record is `signal/status,../values` |
+//! | `early T V` | refusal, signal, entries needed |
 //! | `match T URI` | refusal, category (-1 if the URI is skipped), node, whole, bytes compared |
 //! | `tally T RECORDS REFUSALS V` | refusal, records and refusal counts after it; `chosen:used:skipped` and counts, `;` between |
-use crate::{Match, Reader, Record, Resolution, Resolvers, Tables, Tallies, Tally};
+use crate::{Early, Match, Reader, Record, Resolution, Resolvers, Tables, Tallies, Tally};
 use std::fmt::Write;
 use std::path::{Path, PathBuf};
 
 /// One file for each command, the draft's worked examples, values with folded lines, messages of
 /// several fields, and URNs that a category holds.
-pub const FILES: [&str; 14] = [
+pub const FILES: [&str; 15] = [
     "value.txt",
     "entry.txt",
     "table.txt",
@@ -34,6 +35,7 @@ pub const FILES: [&str; 14] = [
     "tally.txt",
     "held.txt",
     "held_machine.txt",
+    "early.txt",
 ];
 
 /// Where the cases are.
@@ -62,7 +64,7 @@ impl Case {
         match self.words[0].as_str() {
             "value" | "entry" => Layer::Reader,
             "table" | "match" | "build" | "check" => Layer::Tables,
-            "plain" | "walk" | "feed" => Layer::Resolvers,
+            "plain" | "walk" | "feed" | "early" => Layer::Resolvers,
             "tally" => Layer::Tallies,
             other => panic!("{}: unknown command {other}", self.place),
         }
@@ -197,6 +199,10 @@ pub fn ask_resolvers<I: Resolvers>(case: &Case) -> String {
             let mut record = case.record(2);
             let answer = I::feed(&table, &mut record, &case.bytes(3));
             format!("{} {}", show(answer), show_record(&record))
+        }
+        "early" => {
+            let Early { refusal, signal, entries } = I::early(&table, &case.bytes(2));
+            format!("{refusal} {signal} {entries}")
         }
         other => panic!("{}: {other} is not the resolvers'", case.place),
     }

@@ -55,6 +55,21 @@ impl Resolution {
     }
 }
 
+/// What the early question answers: its refusal number, the signal, and how many entries it needed.
+#[repr(C)]
+#[derive(Clone, Copy, Debug, PartialEq, Eq)]
+pub struct Early {
+    pub refusal: u8,
+    pub signal: u8,
+    pub entries: u8,
+}
+
+impl Early {
+    pub fn refused(refusal: u8) -> Early {
+        Early { refusal, signal: 0, entries: 0 }
+    }
+}
+
 /// What one signal was heard: how many values chose it, and what these used and skipped in all.
 #[repr(C)]
 #[derive(Clone, Copy, Debug, Default, PartialEq, Eq)]
@@ -100,6 +115,8 @@ pub trait Resolvers {
     fn machine(table: &[u8], image: &[u8], value: &[u8]) -> Resolution;
     /// One value of a message that has several.
     fn feed(table: &[u8], record: &mut Record, value: &[u8]) -> Resolution;
+    /// The signal, as soon as no further URN could change it.
+    fn early(table: &[u8], value: &[u8]) -> Early;
 }
 
 /// The monthly count: what the library tally answers and leaves in the records and refusal counts.

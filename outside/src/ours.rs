@@ -8,7 +8,7 @@ use crate::Resolvers;
 #[cfg(feature = "signal_table")]
 use crate::{Built, Match, Tables};
 #[cfg(feature = "resolver")]
-use crate::Record;
+use crate::{Early, Record};
 #[cfg(feature = "tally")]
 use crate::{Tallies, Tally};
 
@@ -57,6 +57,7 @@ extern "C" {
         value: *const u8,
         value_len: usize,
     ) -> Resolution;
+    fn resolve_early(table: *const u8, len: usize, value: *const u8, value_len: usize) -> Early;
 }
 
 #[cfg(feature = "tally")]
@@ -129,6 +130,10 @@ impl Resolvers for Ours {
 
     fn feed(table: &[u8], record: &mut Record, value: &[u8]) -> Resolution {
         unsafe { resolve_feed(table.as_ptr(), table.len(), record, value.as_ptr(), value.len()) }
+    }
+
+    fn early(table: &[u8], value: &[u8]) -> Early {
+        unsafe { resolve_early(table.as_ptr(), table.len(), value.as_ptr(), value.len()) }
     }
 }
 

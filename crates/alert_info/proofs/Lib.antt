@@ -1,7 +1,7 @@
 pub mod Agree
 pub mod ByteLaws
 mod ClassTable
-mod Complete
+pub mod Complete
 pub mod EntryLaws
 pub mod Examples
 pub mod Lands
@@ -11,8 +11,8 @@ mod Place
 mod QuoteLaws
 pub mod ReadingLaws
 mod RunLaws
-mod Sound
+pub mod Sound
 mod Table
 pub mod Unfolded
-mod WalkLaws
+pub mod WalkLaws
 mod WhiteLaws

@@ -315,7 +315,7 @@ EndingReads s at (NextEntry c) = (p : List ℕ) × (w : List ℕ) × Params Whit
     (drop at s ≡ p ++ (w ++ (44 ∷ drop (c .at) s)))
 EndingReads s at NoEnding = Unit
 
-abbrev FoundReads : List ℕ → ℕ → Found → Type 0
+abbrev pub FoundReads : List ℕ → ℕ → Found → Type 0
 FoundReads s at (Last p) = (w : List ℕ) × (n : List ℕ) × (x : List ℕ) × White w × Entry White n (partOf s p) × White x ×
     (drop at s ≡ w ++ (n ++ x))
 FoundReads s at (More p c) =
@@ -434,7 +434,7 @@ module _ (s : List ℕ) where
   )
   closed-reads at w e r h u k i NoEnding q = tt
 
-  entry-reads : (at : ℕ) → FoundReads s at (entryAt s at)
+  pub entry-reads : (at : ℕ) → FoundReads s at (entryAt s at)
   unfolding entryAt
   entry-reads at =
       let w = whiteAt s at in

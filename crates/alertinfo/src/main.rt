@@ -1,5 +1,6 @@
 // Picks a ring from the command line: the libraries' answers, in plain words. Files are read up to 65,536 bytes, more
 // than the libraries take, so that a longer one is refused by its number.
+mod early_answer;
 mod fields;
 mod files;
 mod month;
@@ -14,6 +15,7 @@ fn usage(to: i32) {
     io::write_all(to, b"       alertinfo build TABLE MACHINE\n");
     io::write_all(to, b"       alertinfo check TABLE MACHINE\n");
     io::write_all(to, b"       alertinfo resolve TABLE VALUE [MACHINE]\n");
+    io::write_all(to, b"       alertinfo early TABLE VALUE\n");
     io::write_all(to, b"       alertinfo match TABLE URI\n");
     io::write_all(to, b"       alertinfo feed TABLE VALUE [VALUE ..]\n");
     io::write_all(to, b"       alertinfo tally TABLE FILE\n");
@@ -263,6 +265,12 @@ fn main() {
         }
         if n == 5 {
             resolve(true);
+            return;
+        }
+    }
+    if files::is(1, b"early") {
+        if n == 4 {
+            early_answer::ask();
             return;
         }
     }

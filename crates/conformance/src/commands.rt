@@ -6,6 +6,7 @@
 //   build T ROOM     refusal number, length, image; the bytes after it are told only if one is not 0
 //   check T M        refusal number
 //   walk T M V       refusal number, signal, used, skipped of the machine resolver
+//   early T V        refusal number, signal, entries needed
 //   match T URI      refusal number, category (-1 if the URI is skipped), node, whole, bytes compared
 use crate::print;
 use alert_info::Cursor;
@@ -99,6 +100,17 @@ pub fn plain(line: &[u8]) {
     let mut v = [0u8; 8192];
     let k = cases::decode(cases::word(line, 2), &mut v);
     resolution(resolver::plain(&t[..n], &v[..k]));
+}
+
+pub fn early(line: &[u8]) {
+    let mut t = [0u8; 16384];
+    let n = cases::decode(cases::word(line, 1), &mut t);
+    let mut v = [0u8; 8192];
+    let k = cases::decode(cases::word(line, 2), &mut v);
+    let r = early::resolve(&t[..n], &v[..k]);
+    print::number(r.refusal as usize);
+    print::next(r.signal as usize);
+    print::next(r.entries as usize);
 }
 
 pub fn walk(line: &[u8]) {

@@ -15,12 +15,22 @@ fn table_or_tally(line: &[u8]) {
     commands::table(line);
 }
 
+// `entry` and `early` begin alike.
+fn entry_or_early(line: &[u8]) {
+    let second = cases::first(cases::after(line, b'e'));
+    if second == b'a' {
+        commands::early(line);
+        return;
+    }
+    commands::entry(line);
+}
+
 // The answer to one line.
 fn answer(line: &[u8]) {
     let c = cases::first(line);
     match c {
         b'v' => commands::value(line),
-        b'e' => commands::entry(line),
+        b'e' => entry_or_early(line),
         b't' => table_or_tally(line),
         b'p' => commands::plain(line),
         b'b' => commands::build(line),
@@ -71,4 +81,5 @@ fn main() {
     answer_file(b"tally.txt");
     answer_file(b"held.txt");
     answer_file(b"held_machine.txt");
+    answer_file(b"early.txt");
 }

@@ -148,6 +148,28 @@ module _ (env : Env) (cats : ℕ) (ns : List Urn) (laws : EnvLaws env cats ns) w
           by (inl e) = rw (← e) (above-self p)
           by (inr k) = record { rest = k .0 ∷ k .1; joined = k .2 }
 
+  -- its category takes a URN by its deepest node alone
+  pub takes-at-node : (st : State) → Valid env cats ns st → (u : Urn) → u .cat < cats
+      → takesUrn (getD (st .status) (u .cat) Open) (getD (env .rows (st .signal)) (u .cat) []) (u .path)
+      ≡ nodeTakes (getD (st .status) (u .cat) Open) (getD (env .rows (st .signal)) (u .cat) []) (deepest ns (u .cat) (u .path)) (sameParts (deepest ns (u .cat) (u .path)) (u .path))
+  takes-at-node st g u known =
+      ap (takesUrn o (getD (env .rows (st .signal)) (u .cat) [])) (sym (a .joined))
+      ∙ sym (same-takes st g (u .cat) known d (a .rest)
+      (beyond env cats ns laws (env .rows (st .signal)) (u .cat) (u .path) (a .rest) (rw (g .wide) known) (a .joined))
+      (λ p n b. above-deep ns (u .cat) p (u .path) n (rw (a .joined) at b))
+      (λ x h e. rw (a .joined) (past-no-node ns (u .cat) (u .path) x h (ap (λ z. d ++ z) (sym e) ∙ a .joined)))
+      o (g .fits (u .cat) known))
+      ∙ ap (nodeTakes o (getD (env .rows (st .signal)) (u .cat) []) d) (isRoot-same d (a .rest) (u .path) (a .joined))
+    where
+      o : Status
+      o = getD (st .status) (u .cat) Open
+
+      d : Parts
+      d = deepest ns (u .cat) (u .path)
+
+      a : Above d (u .path)
+      a = deep-above ns (u .cat) (u .path)
+
   -- the step by a symbol, at its node or root
   pub symbol-at-node : (st : State) → Valid env cats ns st → (s : Symbol) → s .cat < cats
       → step env st (stepsAs s) ≡ nodeStep env st (s .cat) (s .path) (not (s .other))

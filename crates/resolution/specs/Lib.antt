@@ -12,6 +12,7 @@ pub mod Machine
 pub mod Discovery
 pub mod Build
 pub mod Claim
+pub mod Settled
 pub mod Laws
 pub mod Meaning
 pub mod MachineMeaning

@@ -31,8 +31,10 @@ use Rattle.signal_table.proofs.Claims.{builds as every-build, refused-build, ch
 use Rattle.resolver.specs.declared.Resolution.{Resolution}
 use Rattle.resolver.specs.Resolve.{takenAs, directSignal, walkedSignal, refused, answered, unlessRefused, plainOf, machineOf}
 use Rattle.resolver.specs.Demands.{WalkClaim, DemandOne, DemandTwo, DemandThree}
-use Rattle.resolver.proofs.TableLaws.{names-count, taken-append}
-use Rattle.resolver.proofs.FoldLaws.{used-urn}
+use Rattle.early.proofs.TakenLaws.{taken-used}
+use Rattle.early.proofs.Claims.{early-claim}
+use Rattle.resolver.proofs.TableLaws.{taken-append}
+use Rattle.resolver.proofs.EarlyLaws.{plain-signal, early-number, early-refused, early-signal}
 use Rattle.resolver.proofs.RefusalLaws.{value-number, entry-number, plain-number, machine-number, build-number, check-number}
 use Rattle.resolver.proofs.OneValueLaws.{feed-number, one-value}
 use Rattle.resolver.proofs.FeedingLaws.{ends-direct, never-refused, joined-alike}
@@ -77,19 +79,17 @@ demand-one t =
       plain-number = plain-number t;
       machine-number = machine-number t;
       feed-number = feed-number t;
+      early-number = early-number t;
       build-number = build-number t;
       check-number = check-number t;
       entry-refused = refused-entry;
       plain-refused = plain-refused t;
       machine-refused = machine-refused t;
+      early-refused = early-refused t;
       one-value = one-value t;
       never-refused = never-refused t;
       build-refused = build-refused t;
     }
-
-plain-signal : (t v : List ℕ) → refusalOf v ≡ 0 → tableRefusal t ≡ 0 → plainOf t v .signal ≡ directSignal t (urisOf v)
-unfolding plainOf
-plain-signal t v e z = simp (eq-eqb (refusalOf v) 0 e, eq-eqb (tableRefusal t) 0 z)
 
 image-written : (t : List ℕ) (room : ℕ) → builtFrom t room .refusal ≡ 0 → take (builtFrom t room .len) (bufferFrom t room) ≡ machineImage (tableOf t)
 unfolding builtFrom bufferFrom image.buildLength image.bufferOf
@@ -108,27 +108,13 @@ demand-two t =
     record {
       values = refused-exactly;
       plain-signal = plain-signal t;
+      early-signal = early-signal t;
+      early = early-claim t;
       ends-direct = ends-direct t;
       joined-alike = joined-alike t;
       image-written = image-written t;
       checked = λ im. (check-to-right t im, right-to-check t im);
     }
-
--- the used ones of every list are of the table
-taken-used : (t : List ℕ) → length (categoryNames t) ≡ tableOf t .cats → (l : List (List ℕ)) → AllUsed (tableOf t) (takenAs t l)
-taken-used t e [] u m = absurd (List·Memᴰ·not-nil m)
-taken-used t e (x ∷ l) u m = go (usedUrn (categoryNames t) x) refl m (taken-used t e l u)
-  where
-    go : (o : Option Urn) → usedUrn (categoryNames t) x ≡ o → List·Memᴰ u (usedOf (o ∷ takenAs t l)) → (List·Memᴰ u (usedOf (takenAs t l)) → Used (tableOf t) u) → Used (tableOf t) u
-    go none q k ih = ih k
-    go (some w) q k ih = here (List·Memᴰ·cases-cons k)
-      where
-        own : Used (tableOf t) w
-        own = let f = used-urn (categoryNames t) x w q in record { known = omega (arith, f .0, e); some-part = f .1 }
-
-        here : (u ≡ w) ⊎ List·Memᴰ u (usedOf (takenAs t l)) → Used (tableOf t) u
-        here (inl z) = subst (Used (tableOf t)) (sym z) own
-        here (inr j) = ih j
 
 -- changes over a list whose members are seen through a function
 changes-map : {S A B : Type 0} (signalOf : S → ℕ) (next : S → B → S) (g : A → B) (s : S) (l : List A)
@@ -155,7 +141,7 @@ module _ (t : List ℕ) (ok : tableRefusal t ≡ 0) where
       }
     where
       used : AllUsed (tableOf t) (takenAs t before ++ takenAs t after)
-      used = subst (AllUsed (tableOf t)) (taken-append t before after) (taken-used t (names-count t) (before ++ after))
+      used = subst (AllUsed (tableOf t)) (taken-append t before after) (taken-used t (before ++ after))
 
       c : ImageClaim (tableOf t) im (takenAs t before) (takenAs t after)
       c = image-claim (tableOf t) (accepted t ok .well) im (sym (check-image im) ∙ e) (takenAs t before) (takenAs t after) used

@@ -1,55 +1,23 @@
 -- What a run over a list of URIs comes to: a fold over their URNs, and two counts.
 use Prim.Native.Nat.{ℕ, suc, _+_, _<_}
 use mathlib.Core.Path.{_≡_, refl, ap, ap₂, _∙_}
-use mathlib.Core.Logic.{_≢_}
-use mathlib.Core.Bool.{Bool, true, false, cond, _&&_, and-eq-true-iff}
 use mathlib.Core.Option.{Option, none, some}
 use mathlib.Core.List.{List, [], _∷_, foldl}
-use lib.ListN.{length, drop}
 use native.Mathlib.Omega.{arith}
-use Rattle.resolution.specs.Lists.{memberBy, indexBy}
-use Rattle.resolution.specs.Names.{Name, Parts, sameName, sameParts}
+use Rattle.resolution.specs.Names.{Parts, sameParts}
 use Rattle.resolution.specs.Table.{Urn, Table}
 use Rattle.resolution.specs.Nodes.{nodes, deepest, number}
 use Rattle.resolution.specs.Direct.{Used, usedOf, usedCount, skippedCount}
-use Rattle.resolution.proofs.Lists.{index-member}
-use Rattle.resolution.proofs.Names.{name-exact}
-use Rattle.alert_urn.specs.Text.{fields}
-use Rattle.alert_urn.specs.Urn.{lowered, alertUrn, categoryOf, pathOf}
-use Rattle.alert_urn.proofs.Fields.{fields-first}
 use Rattle.node_step.specs.Uses.{usedUrn, useOf}
 use Rattle.node_step.proofs.UseRight.{uses-right}
 use Rattle.stored_table.specs.Tables.{categoryNames}
 use Rattle.stored_table.specs.Decoded.{Holds}
 use Rattle.stored_table.specs.declared.Decoded.{Decoded}
+use Rattle.early.proofs.TakenLaws.{used-urn}
 use Rattle.resolver.specs.declared.run.Current.{Current}
 use Rattle.resolver.specs.declared.run.Point.{Point}
 use Rattle.resolver.specs.Resolve.{takenAs}
 use Rattle.resolver.specs.Run.{Machine, moved, afterUse, after}
-
--- a path cut at colons has at least one part
-some-field : (s : List ℕ) → fields 58 s ≢ []
-some-field s e = let f = fields-first 58 s in let z : _≡_ {A = ℕ} 0 1 = cc (f .1) in omega arith
-
--- the URN of a used URI is of a category of the table, and has a part
-pub used-urn : (names : List Name) (uri : List ℕ) (u : Urn) → usedUrn names uri ≡ some u → (u .cat < length names) × (u .path ≢ [])
-unfolding usedUrn
-used-urn names uri u = go (alertUrn uri && memberBy sameName (categoryOf (lowered (drop 10 uri))) names) refl
-  where
-    name : Name
-    name = categoryOf (lowered (drop 10 uri))
-
-    path : Parts
-    path = fields 58 (pathOf (lowered (drop 10 uri)))
-
-    go : (b : Bool) → alertUrn uri && memberBy sameName name names ≡ b
-        → cond b (some (record { cat = indexBy sameName name names; path = path })) none ≡ some u → (u .cat < length names) × (u .path ≢ [])
-    go true e q =
-        let c : u .cat ≡ indexBy sameName name names = cc in
-        let p : path ≡ u .path = cc in
-        let m = and-eq-true-iff (alertUrn uri) (memberBy sameName name names) .0 e .1 in
-        (omega (arith, index-member sameName name-exact [] name names m .0), λ z. some-field (pathOf (lowered (drop 10 uri))) (p ∙ z))
-    go false e q = absurd (let z : _≡_ {A = ℕ} 0 1 = cc in omega arith)
 
 module _ (t : List ℕ) (T : Table) (d : Decoded) (h : Holds t T d) (m : Machine) where
   deep : Urn → Parts

@@ -9,9 +9,9 @@ pub mod ReadLaws
 pub mod OneValueLaws
 pub mod Join
 pub mod FeedingLaws
+pub mod EarlyLaws
 pub mod DemandLaws
 pub mod Examples
 pub mod DemandExample
 pub mod FieldsExample
-pub mod NumberExamples
-pub mod Numbers
+pub mod EarlyExample

@@ -18,6 +18,8 @@ use Rattle.stored_table.specs.Tables.{tableRefusal, tableOf, categoryNames}
 use Rattle.carried_record.specs.declared.Carried.{Carried}
 use Rattle.signal_table.specs.Built.{builtFrom, bufferFrom, checkFrom}
 use Rattle.signal_table.specs.Claims.{RightImage}
+use Rattle.early.specs.Early.{refused as notAnswered, earlyOf}
+use Rattle.early.specs.Claims.{EarlyClaims}
 use Rattle.resolver.specs.Resolve.{takenAs, directSignal, walkedSignal, refused, plainOf, machineOf}
 use Rattle.resolver.specs.Feed.{feedOf}
 use Rattle.resolver.specs.Feeding.{OneValue, EndsDirect, NeverRefused, JoinedAlike}
@@ -27,7 +29,7 @@ abbrev pub Among : ℕ → ℕ → ℕ → Type 0
 Among lo hi n = (lo ≤ n) × (n ≤ hi)
 
 -- the numbers that may be given, 0 for accepted: by the question about a value, by that about an entry, by that about a table,
--- by the plain resolver, by the machine resolver, for one of several values, by the builder and by the checker
+-- by the plain resolver and by the early question, by the machine resolver, for one of several values, by the builder and by the checker
 abbrev pub ValueNumber : ℕ → Type 0
 ValueNumber n = (n ≡ 0) ⊎ Among 1 3 n
 
@@ -62,6 +64,7 @@ pub record Demand1 (t : List ℕ) : Type 0 where
   pub plain-number : (v : List ℕ) → PlainNumber (plainOf t v .refusal)
   pub machine-number : (im v : List ℕ) → MachineNumber (machineOf t im v .refusal)
   pub feed-number : (r : Carried) (v : List ℕ) → FeedNumber (feedOf t r v .answer .refusal)
+  pub early-number : (v : List ℕ) → PlainNumber (earlyOf t v .refusal)
   pub build-number : (room : ℕ) → BuildNumber (builtFrom t room .refusal)
   pub check-number : (im : List ℕ) → CheckNumber (checkFrom t im)
   -- an entry is refused exactly if its part is empty
@@ -69,6 +72,8 @@ pub record Demand1 (t : List ℕ) : Type 0 where
   -- a refused resolution is signal 0 with both counts 0
   pub plain-refused : (v : List ℕ) → (plainOf t v .refusal ≡ 0 → ⊥) → plainOf t v ≡ refused (plainOf t v .refusal)
   pub machine-refused : (im v : List ℕ) → (machineOf t im v .refusal ≡ 0 → ⊥) → machineOf t im v ≡ refused (machineOf t im v .refusal)
+  -- a refused early question has the plain resolver's number, with signal 0 and no entries
+  pub early-refused : (v : List ℕ) → (earlyOf t v .refusal ≡ 0 → ⊥) → earlyOf t v ≡ notAnswered (plainOf t v .refusal)
   -- of several values, what each does by its number, whatever record it is fed with; no record that feeding gave is refused with 28
   pub one-value : (r : Carried) (v : List ℕ) → OneValue t r v
   pub never-refused : NeverRefused t
@@ -81,7 +86,11 @@ pub record Demand2 (t : List ℕ) : Type 0 where
   pub values : RefusedExactly
   -- the plain resolver gives direct resolution's signal
   pub plain-signal : (v : List ℕ) → refusalOf v ≡ 0 → tableRefusal t ≡ 0 → plainOf t v .signal ≡ directSignal t (urisOf v)
-  -- so does feeding several values one after another, over the URNs of the accepted ones in order
+  -- so does the early answer, for every value that the plain resolver accepts
+  pub early-signal : (v : List ℕ) → plainOf t v .refusal ≡ 0 → (earlyOf t v .refusal ≡ 0) × (earlyOf t v .signal ≡ plainOf t v .signal)
+  -- and which entries it needs is told in the words of the grammar and of the theory, both ways
+  pub early : (v : List ℕ) → EarlyClaims t v
+  -- feeding several values one after another gives it too, over the URNs of the accepted ones in order
   pub ends-direct : EndsDirect t
   -- and it gives what the values joined by commas give
   pub joined-alike : JoinedAlike t

@@ -6,4 +6,4 @@ pub mod Demands
 pub mod Examples
 pub mod DemandExample
 pub mod FieldsExample
-pub mod Numbers
+pub mod EarlyExample

@@ -1,21 +1,15 @@
 -- What the two resolvers answer.
 use Prim.Native.Nat.{ℕ}
 use mathlib.Core.Bool.{cond}
-use mathlib.Core.Option.{Option}
-use mathlib.Core.List.{List, map}
+use mathlib.Core.List.{List}
 use lib.Dec.{eqb}
 use Rattle.alert_info.specs.Value.{refusalOf, urisOf}
-use Rattle.resolution.specs.Table.{Urn}
 use Rattle.resolution.specs.Direct.{direct, usedOf, usedCount, skippedCount}
-use Rattle.node_step.specs.Uses.{usedUrn}
 use Rattle.machine_image.specs.Refusals.{formOf}
 use Rattle.machine_image.specs.Walk.{walkSignal}
-use Rattle.stored_table.specs.Tables.{tableRefusal, tableOf, categoryNames}
+use Rattle.stored_table.specs.Tables.{tableRefusal, tableOf}
+pub use Rattle.early.specs.Early.{takenAs}
 use Rattle.resolver.specs.declared.Resolution.{Resolution}
-
--- a list of URIs as a stored table takes them: a used one with its URN, or skipped
-abbrev pub takenAs : List ℕ → List (List ℕ) → List (Option Urn)
-takenAs t uris = map (usedUrn (categoryNames t)) uris
 
 -- direct resolution's signal over a list of URIs
 abbrev pub directSignal : List ℕ → List (List ℕ) → ℕ

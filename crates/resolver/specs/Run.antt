@@ -8,12 +8,13 @@ use lib.ListN.{length, replicate}
 use lib.Dec.{ltb}
 use Rattle.alert_info.specs.Value.{Reading, unfit, spans, add, partOf, readingFrom}
 use Rattle.node_step.specs.Step.{stepNumbers}
-use Rattle.node_step.specs.Uses.{fewer, usesOf}
+use Rattle.node_step.specs.Uses.{fewer}
 use Rattle.node_step.specs.declared.Status.the-variants.{Open}
 use Rattle.node_step.specs.declared.State.{State}
 use Rattle.node_step.specs.declared.uses.Use.{Use}
 use Rattle.node_step.specs.declared.uses.Use.the-variants.{Skipped, Used}
 use Rattle.stored_table.specs.declared.Decoded.{Decoded}
+pub use Rattle.early.specs.Run.{useIn}
 use Rattle.resolver.specs.declared.Resolution.{Resolution}
 use Rattle.resolver.specs.declared.run.Current.{Current}
 use Rattle.resolver.specs.declared.run.Entry.{Entry}
@@ -22,10 +23,6 @@ use Rattle.resolver.specs.declared.run.Outcome.{Outcome}
 use Rattle.machine_image.specs.Image.{signalIn, targetIn}
 use Rattle.resolver.specs.Resolve.{refused}
 use Rattle.machine_symbols.specs.Listed.{symbolNumber}
-
--- what a URI is to the decoded table
-abbrev pub useIn : List ℕ → Decoded → List ℕ → Use
-useIn t d uri = usesOf t (d .«name_at») (d .«name_len») (d .categories) (d .category) (d .at) (d .len) (d .shared) (d .inner) (d .nodes) uri
 
 -- signal 0, and every category open
 abbrev pub startNow : State

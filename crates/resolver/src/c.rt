@@ -1,9 +1,11 @@
 // The resolvers for C: a table, an image and a value are each a pointer and a length, a carried record is 10 bytes.
 use crate::Resolution;
+use early::Early;
 ghost use mathlib.Core.Path.{_≡_};
 ghost use Rattle.resolver.specs.Resolve.{plainOf, machineOf};
 ghost use Rattle.carried_record.specs.Record.{carriedIn, carriedBytes};
 ghost use Rattle.resolver.specs.Feed.{feedOf};
+ghost use Rattle.early.specs.Early.{earlyOf};
 
 // typedef struct { uint8_t refusal, signal, used, skipped; } alert_resolution;
 // alert_resolution resolve_plain(const uint8_t *table, size_t len, const uint8_t *value, size_t value_len);
@@ -34,4 +36,14 @@ pub extern "C" fn resolve_feed(t: &[u8], b: &mut [u8; 10], v: &[u8]) -> Resoluti
     let f = crate::feed(t, carried_record::load(b), v);
     carried_record::store(b, f.carried);
     f.answer
+}
+
+// typedef struct { uint8_t refusal, signal, entries; } alert_early;
+// alert_early resolve_early(const uint8_t *table, size_t len, const uint8_t *value, size_t value_len);
+// The signal as soon as no further URN could change it, and how many entries that took.
+#[no_mangle]
+pub extern "C" fn resolve_early(t: &[u8], v: &[u8]) -> Early
+    ensures { λ r. ⌜ r ≡ earlyOf (now (t .entry)) (now (v .entry)) ⌝ }
+{
+    early::resolve(t, v)
 }

@@ -1,4 +1,5 @@
 //! The same answers in plain Rust without allocation, written for speed: what the proved libraries are timed against.
+mod early;
 mod machine;
 mod resolve;
 mod table;
@@ -6,7 +7,7 @@ mod tally;
 mod urn;
 mod value;
 
-use crate::{Built, Match, Reader, Record, Resolution, Resolvers, Tables, Tallies, Tally};
+use crate::{Built, Early, Match, Reader, Record, Resolution, Resolvers, Tables, Tallies, Tally};
 
 pub struct Baseline;
 
@@ -69,6 +70,10 @@ impl Resolvers for Baseline {
 
     fn feed(table: &[u8], record: &mut Record, value: &[u8]) -> Resolution {
         resolve::feed(table, record, value).unwrap_or_else(Resolution::refused)
+    }
+
+    fn early(table: &[u8], value: &[u8]) -> Early {
+        early::ask(table, value).unwrap_or_else(Early::refused)
     }
 }
 

@@ -325,6 +325,28 @@ impl<'a> Decoded<'a> {
         State { signal: state.signal, status: kept | (missed as u64) << shift }
     }
 
+    /// Whether no URN leads from this state to another signal. Such a signal differs in one category only, where its
+    /// place is further down, and above or under what was last taken there if the category is held.
+    pub fn is_settled(&self, state: State) -> bool {
+        let row = self.rows[state.signal as usize];
+        self.rows[..self.signal_count].iter().all(|&other| {
+            let differs = row ^ other;
+            if differs == 0 {
+                return true;
+            }
+            let shift = differs.trailing_zeros() & !7;
+            if differs & !(0xFF << shift) != 0 {
+                return true;
+            }
+            let (place, to) = ((row >> shift) as u8, (other >> shift) as u8);
+            match (state.status >> shift) as u8 {
+                SHUT => true,
+                OPEN => !self.is_above(place, to),
+                held => !self.is_above(place, to) || !self.is_above(held - 1, to) && !self.is_above(to, held - 1),
+            }
+        })
+    }
+
     /// Whether a state may have this status byte in a category, beside this signal.
     pub fn fits(&self, signal: u8, category: usize, status: u8) -> bool {
         if status <= SHUT {

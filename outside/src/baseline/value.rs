@@ -96,6 +96,33 @@ fn pass_parameters(value: &[u8], mut at: usize) -> Option<usize> {
     }
 }
 
+/// An entry: where its URI starts and ends, and where the next one begins unless it is the last.
+pub struct Entry {
+    pub start: usize,
+    pub end: usize,
+    pub next: Option<usize>,
+}
+
+/// The entry at `at`, up to and with its comma or up to the end of the value.
+#[inline(always)]
+pub fn entry_at(value: &[u8], at: usize) -> Option<Entry> {
+    let at = pass_white(value, at);
+    if value.get(at) != Some(&b'<') {
+        return None;
+    }
+    let end = pass_some(value, at + 1, URI)?;
+    if value.get(end) != Some(&b'>') {
+        return None;
+    }
+    let after = pass_parameters(value, end + 1)?;
+    let next = match value.get(after) {
+        None => None,
+        Some(b',') => Some(after + 1),
+        _ => return None,
+    };
+    Some(Entry { start: at + 1, end, next })
+}
+
 /// Hands each URI's number, start and end to `each`. The number of entries, or the refusal number.
 #[inline(always)]
 pub fn scan(value: &[u8], mut each: impl FnMut(usize, usize, usize)) -> Result<usize, u8> {
@@ -105,21 +132,12 @@ pub fn scan(value: &[u8], mut each: impl FnMut(usize, usize, usize)) -> Result<u
     let mut at = 0;
     let mut count = 0;
     loop {
-        at = pass_white(value, at);
-        if value.get(at) != Some(&b'<') {
-            return Err(2);
-        }
-        let end = pass_some(value, at + 1, URI).ok_or(2)?;
-        if value.get(end) != Some(&b'>') {
-            return Err(2);
-        }
-        each(count, at + 1, end);
+        let entry = entry_at(value, at).ok_or(2)?;
+        each(count, entry.start, entry.end);
         count += 1;
-        at = pass_parameters(value, end + 1).ok_or(2)?;
-        match value.get(at) {
+        match entry.next {
             None => break,
-            Some(b',') => at += 1,
-            _ => return Err(2),
+            Some(next) => at = next,
         }
     }
     if count > 64 {

@@ -8,7 +8,7 @@ use outside::cases::{show_counts, show_record, show_records, to_hex};
 use outside::random::tables::{self, Limit};
 use outside::random::{images, records, values, Random};
 use outside::reference::Reference;
-use outside::{Built, Match, Reader, Record, Resolution, Resolvers, Tables, Tallies, Tally as Counts};
+use outside::{Built, Early, Match, Reader, Record, Resolution, Resolvers, Tables, Tallies, Tally as Counts};
 use std::collections::BTreeMap;
 use std::fmt::Debug;
 use std::process::exit;
@@ -21,7 +21,7 @@ use outside::ours::Ours;
 const LONGEST: usize = 35_459;
 
 /// Every function with the refusal numbers that it may give.
-const FUNCTIONS: [(&str, &[u8]); 12] = [
+const FUNCTIONS: [(&str, &[u8]); 13] = [
     ("alert_info_refusal", &[0, 1, 2, 3]),
     ("alert_info_entries", &[0, 1, 2, 3]),
     ("alert_info_entry", &[0, 1, 2, 3, 18]),
@@ -33,6 +33,7 @@ const FUNCTIONS: [(&str, &[u8]); 12] = [
     ("resolve_plain", &[0, 1, 2, 3, 4, 5, 6, 7, 8, 9, 10, 11, 12]),
     ("resolve_machine", &[0, 1, 2, 3, 4, 5, 6, 7, 8, 9, 10, 11, 12, 15]),
     ("resolve_feed", &[0, 1, 2, 3, 4, 5, 6, 7, 8, 9, 10, 11, 12, 19, 28]),
+    ("resolve_early", &[0, 1, 2, 3, 4, 5, 6, 7, 8, 9, 10, 11, 12]),
     ("tally_value", &[0, 1, 2, 3, 4, 5, 6, 7, 8, 9, 10, 11, 12, 20]),
 ];
 
@@ -158,6 +159,10 @@ fn feed<I: Resolvers>(table: &[u8], record: &Record, value: &[u8]) -> (Resolutio
     (answer, after)
 }
 
+fn early<I: Resolvers>(table: &[u8], value: &[u8]) -> Early {
+    I::early(table, value)
+}
+
 /// The answer with the records and counts after it.
 fn tally_value<I: Tallies>(
     table: &[u8],
@@ -261,6 +266,29 @@ fn hold_resolvers(tally: &mut Tally, table: &[u8], image: &[u8], value: &[u8]) {
     tally.hold("resolve_machine", answers[0].1.refusal, &answers, line);
 }
 
+/// Bytes that may follow the entries that are needed.
+const TAILS: [&[u8]; 5] = [b"", b",", b", <a>", b", <", b" x"];
+
+/// The early answer to a value, whole and cut off somewhere, with something behind it. An accepted value has the plain
+/// resolver's signal.
+fn hold_early(tally: &mut Tally, random: &mut Random, table: &[u8], value: &[u8]) {
+    let cut = &value[..random.below(value.len() + 1)];
+    let commas: Vec<usize> = (0..value.len()).filter(|&i| value[i] == b',').collect();
+    let at_comma = if commas.is_empty() { value } else { &value[..commas[random.below(commas.len())]] };
+    for front in [value, cut, at_comma] {
+        let asked = [front, TAILS[random.below(TAILS.len())]].concat();
+        let answers = answers!("resolver", early, table, &asked);
+        let line = || format!("early {} {}", to_hex(table), to_hex(&asked));
+        tally.hold("resolve_early", answers[0].1.refusal, &answers, line);
+        let plain = Reference::plain(table, &asked);
+        let early = answers[0].1;
+        if plain.refusal == 0 && (early.refusal, early.signal) != (0, plain.signal) {
+            println!("the early answer differs from the plain one: {}", line());
+            tally.wrong += 1;
+        }
+    }
+}
+
 /// One value more. The reference's answer with the record after it.
 fn hold_feed(tally: &mut Tally, table: &[u8], record: &Record, value: &[u8]) -> (Resolution, Record) {
     let answers = answers!("resolver", feed, table, record, value);
@@ -328,6 +356,7 @@ fn round(tally: &mut Tally, random: &mut Random, other: &mut Vec<u8>) {
         hold_resolvers(tally, &table, &image, &value);
         hold_tally(tally, random, &table, &value);
         hold_agreement(tally, &table, &image, &value);
+        hold_early(tally, random, &table, &value);
         hold_feed(tally, &table, &records::record(random, &draft), &value);
         message.push(value);
     }
@@ -348,6 +377,7 @@ fn limits(tally: &mut Tally, random: &mut Random) {
         hold_check(tally, &table, &machine);
         for value in [&b"<urn:alert:c0:p0>"[..], b"<", b"<a>"] {
             hold_tally(tally, random, &table, value);
+            hold_early(tally, random, &table, value);
         }
         for _ in 0..5 {
             hold_check(tally, &table, &images::image(random, &table, &machine));
@@ -405,6 +435,7 @@ fn every_byte(tally: &mut Tally, random: &mut Random) {
             hold_value(tally, random, &value);
             hold_matches(tally, table, &value);
             hold_resolvers(tally, table, &image, &value);
+            hold_early(tally, random, table, &value);
         }
         for at in 0..table.len() {
             let mut changed = table.to_vec();

@@ -1,6 +1,7 @@
 //! The rules of resolution in plain Rust, one file a section, as simple as possible and with no regard to speed.
 //! A path is a list of names, a signal a list of paths, a state a signal with a status for each category.
 pub mod direct;
+pub mod early;
 pub mod fields;
 pub mod machine;
 pub mod table;
@@ -8,7 +9,7 @@ pub mod tally;
 pub mod urn;
 pub mod value;
 
-use crate::{Built, Match, Reader, Record, Resolution, Resolvers, Tables, Tallies, Tally};
+use crate::{Built, Early, Match, Reader, Record, Resolution, Resolvers, Tables, Tallies, Tally};
 use table::Table;
 
 pub struct Reference;
@@ -71,6 +72,10 @@ impl Resolvers for Reference {
 
     fn feed(table: &[u8], record: &mut Record, value: &[u8]) -> Resolution {
         fields::feed(table, record, value).unwrap_or_else(Resolution::refused)
+    }
+
+    fn early(table: &[u8], value: &[u8]) -> Early {
+        early::ask(table, value).unwrap_or_else(Early::refused)
     }
 }
 

@@ -102,44 +102,55 @@ fn after_white(at: At) -> Option<At> {
     }
 }
 
-/// The places of the URIs, start and end, or nothing if the value is not of the form.
-fn fit(value: &[u8]) -> Option<Vec<(usize, usize)>> {
+/// The places of the URIs of the entries that are read, start and end, and whether the value ends with the last of
+/// them. An entry is read once its text fits up to and with the comma after it, or up to the end of the value.
+fn read(value: &[u8]) -> (Vec<(usize, usize)>, bool) {
     let mut at = At::BeforeEntry;
     // how many bytes of a fold stand right before
     let mut fold = 0;
     let mut start = 0;
     let mut places = Vec::new();
+    // how many entries have their comma
+    let mut commas = 0;
     for (i, &b) in value.iter().enumerate() {
-        match (fold, b) {
-            (0, b'\r') => {
-                at = after_white(at)?;
-                fold = 1;
-                continue;
-            }
-            (1, b'\n') => {
-                fold = 2;
-                continue;
-            }
-            (2, b) if is_white(b) => {
-                fold = 0;
-                continue;
-            }
-            (0, _) => {}
-            _ => return None,
-        }
-        let then = next(at, b, start == i)?;
+        let then = match (fold, b) {
+            (0, b'\r') => after_white(at),
+            (1, b'\n') => Some(at),
+            (2, b) if is_white(b) => Some(at),
+            (0, _) => next(at, b, start == i),
+            _ => None,
+        };
+        let Some(then) = then else {
+            places.truncate(commas);
+            return (places, false);
+        };
+        fold = match (fold, b) {
+            (0, b'\r') => 1,
+            (1, _) => 2,
+            _ => 0,
+        };
         if at == At::BeforeEntry && then == At::Uri {
             start = i + 1;
         }
         if at == At::Uri && then == At::EntryDone {
             places.push((start, i));
         }
+        if at != At::BeforeEntry && then == At::BeforeEntry {
+            commas += 1;
+        }
         at = then;
     }
-    match at {
-        At::EntryDone | At::Name | At::NameDone | At::Setting if fold == 0 => Some(places),
-        _ => None,
+    let ended = fold == 0 && matches!(at, At::EntryDone | At::Name | At::NameDone | At::Setting);
+    if !ended {
+        places.truncate(commas);
     }
+    (places, ended)
+}
+
+/// The URIs of the entries that are read, and whether the value ends with the last of them.
+pub fn front(value: &[u8]) -> (Vec<&[u8]>, bool) {
+    let (places, ended) = read(value);
+    (places.iter().map(|&(start, end)| &value[start..end]).collect(), ended)
 }
 
 /// The URIs of an accepted value in order, or the refusal number.
@@ -147,11 +158,11 @@ pub fn uris(value: &[u8]) -> Result<Vec<&[u8]>, u8> {
     if value.len() > 4096 {
         return Err(1);
     }
-    let places = fit(value).ok_or(2)?;
-    if places.len() > 64 {
-        return Err(3);
+    match front(value) {
+        (_, false) => Err(2),
+        (uris, true) if uris.len() > 64 => Err(3),
+        (uris, true) => Ok(uris),
     }
-    Ok(places.iter().map(|&(start, end)| &value[start..end]).collect())
 }
 
 /// The URI of entry k, counted from 0, or the refusal number.

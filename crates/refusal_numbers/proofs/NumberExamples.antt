@@ -22,7 +22,7 @@ use Rattle.stored_table.specs.Tables.{any, distinct, fewNodes, formed, isListed
 use Rattle.stored_table.specs.Examples.{least}
 use Rattle.carried_record.specs.Record.{carriedFits}
 use Rattle.signal_table.specs.Built.{builtFrom, checkFrom}
-use Rattle.resolver.specs.Numbers.{image, wrongImages, manyStates, afterValues}
+use Rattle.refusal_numbers.specs.Numbers.{image, wrongImages, manyStates, afterValues}
 
 pub many-formed : tableRefusal manyStates ≡ 0
 unfolding all fields labelByte labelOk nameOk onFirst past upTo noCapital storedName urnOk bytes bytesFrom andThen byteIn counted stored storedFrom text times any distinct fewNodes formed isListed judged judgedRead listed noTwo plain single tableRefusal uses verdict nodes

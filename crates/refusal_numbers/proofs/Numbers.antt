@@ -22,15 +22,15 @@ use Rattle.carried_record.specs.Record.{fresh}
 use Rattle.carried_record.specs.declared.Carried.{Carried}
 use Rattle.machine_builder.specs.Built.{refused as without, builtOf}
 use Rattle.signal_table.specs.Built.{builtFrom, checkFrom}
 use Rattle.resolver.specs.declared.Resolution.{Resolution}
 use Rattle.resolver.specs.Resolve.{unlessRefused, refused, answered, directSignal, walkedSignal, plainOf, machineOf}
 use Rattle.resolver.specs.Feed.{feedOf}
 use Rattle.resolver.specs.Demands.{ValueNumber, EntryNumber, PlainNumber, MachineNumber, FeedNumber, BuildNumber, CheckNumber}
-use Rattle.resolver.specs.Numbers.{EachNumber, image, wrongImages, manyStates, afterValues}
+use Rattle.refusal_numbers.specs.Numbers.{EachNumber, image, wrongImages, manyStates, afterValues}
 use Rattle.resolver.proofs.AnswerLaws.{value-refused, table-refused, none-refused}
 use Rattle.resolver.proofs.OneValueLaws.{one-value}
 use Rattle.resolver.proofs.FeedingLaws.{never-refused}
-use Rattle.resolver.proofs.NumberExamples.{many-formed, over-many, fits-room, no-room, right-image, wrong-images, right-form, no-form, sixteen-fit, seventeen-unfit}
+use Rattle.refusal_numbers.proofs.NumberExamples.{many-formed, over-many, fits-room, no-room, right-image, wrong-images, right-form, no-form, sixteen-fit, seventeen-unfit}
 
 -- an accepted value
 value : (v : List ℕ) × (refusalOf v ≡ 0)

@@ -1,0 +1,9 @@
+pub mod FrontLaws
+pub mod TakenLaws
+pub mod Moves
+pub mod SettledLaws
+pub mod SettledRight
+pub mod RunLaws
+pub mod RunRight
+pub mod AnswerLaws
+pub mod Claims
