@@ -1,18 +1,16 @@
 -- The step by numbers and the two steps of the theory: direct resolution's, at a used URN, and the machine's, at a symbol.
-use Prim.Native.Nat.{ℕ, zero, suc, _+_, _*_, _/_, _%_, _^_, _≤_, _<_}
+use Prim.Native.Nat.{ℕ, zero, suc, _≤_, _<_}
 use mathlib.Core.Path.{_≡_, refl, sym, ap, ap₂, subst, _∙_}
 use mathlib.Core.Logic.{inr}
 use mathlib.Core.Bool.{Bool, true, not, and-eq-true-iff}
 use mathlib.Core.List.{List, [], _∷_}
-use lib.Dec.{eqb}
-use borrow.Author.Tests.{eqb-true, eq-eqb}
 use lib.ListN.{length, getD, replicate, List·getD-eq-default}
 use native.Mathlib.Omega.{arith}
 use native.Mathlib.Nat.{zero-add}
 use native.Mathlib.Decide.{decLt}
 use Rattle.resolution.specs.Names.{Parts, sameParts, properAncestor}
 use Rattle.resolution.specs.Table.{Urn, Table, rowOf, WellFormed}
-use Rattle.resolution.specs.Nodes.{nodes, isNode, RootOrNode, isBranch, deepest}
+use Rattle.resolution.specs.Nodes.{nodes, isNode, RootOrNode, isInner, deepest}
 use Rattle.resolution.proofs.TableStep.{table-laws}
 use Rattle.resolution.specs.Nodes.{number}
 use Rattle.resolution.proofs.Numbers.{number-node, number-same}
@@ -24,28 +22,28 @@ use Rattle.resolution.specs.Symbols.{Symbol, stepsAs}
 use Rattle.resolution.proofs.Step.{Valid}
 use Rattle.resolution.proofs.NodeStep.{direct-at-node, symbol-at-node}
 use Rattle.node_step.specs.Step.{codedStatus, progressFrom, coded, statusIn, stepNumbers}
-use Rattle.node_step.specs.Arrays.{Numbers, BranchesIn}
+use Rattle.node_step.specs.Arrays.{Numbers, InnerIn}
 use Rattle.node_step.proofs.ProgressLaws.{progress-length, progress-at, same-lists}
 use Rattle.node_step.specs.StatusByte.{packed, unpacked, packedOf, ofPacked, samePacked}
 use Rattle.node_step.proofs.ByteLaws.{Numbered, pack-again}
 use Rattle.node_step.proofs.PackedStep.{packed-exact}
 use Rattle.node_step.proofs.StepRight.{step-right}
-use Rattle.resolution.proofs.Deepest.{deepest-node, branch-node}
+use Rattle.resolution.proofs.Deepest.{deepest-node, inner-node}
 use Rattle.node_step.specs.declared.Status.the-variants.{Open}
 use Rattle.node_step.specs.declared.State.{State}
 
-module _ (rows ps : List ℕ) (bs : List Bool) (n : ℕ) (t : Table) (wf : WellFormed t) (nu : Numbers rows ps n t) (br : BranchesIn bs t) (st : direct.State) (g : Valid (envOf t) (t .cats) (nodes t) st) where
+module _ (rows ps : List ℕ) (inner : List Bool) (n : ℕ) (t : Table) (wf : WellFormed t) (nu : Numbers rows ps n t) (ii : InnerIn inner t) (st : direct.State) (g : Valid (envOf t) (t .cats) (nodes t) st) where
   pub step-direct : (u : Urn) → u .cat < t .cats
-      → stepNumbers rows ps bs n (coded t st) (u .cat) (number (nodes t) (u .cat) (deepest (nodes t) (u .cat) (u .path))) (sameParts (deepest (nodes t) (u .cat) (u .path)) (u .path))
+      → stepNumbers rows ps inner n (coded t st) (u .cat) (number (nodes t) (u .cat) (deepest (nodes t) (u .cat) (u .path))) (sameParts (deepest (nodes t) (u .cat) (u .path)) (u .path))
       ≡ coded t (step (envOf t) st u)
   step-direct u h =
-      step-right rows ps bs n t wf nu br st g (u .cat) h (deepest (nodes t) (u .cat) (u .path)) (deepest-node (nodes t) (u .cat) (u .path)) (sameParts (deepest (nodes t) (u .cat) (u .path)) (u .path))
+      step-right rows ps inner n t wf nu ii st g (u .cat) h (deepest (nodes t) (u .cat) (u .path)) (deepest-node (nodes t) (u .cat) (u .path)) (sameParts (deepest (nodes t) (u .cat) (u .path)) (u .path))
       ∙ ap (coded t) (sym (direct-at-node (envOf t) (t .cats) (nodes t) (table-laws t wf) st g u h))
 
   pub step-symbol : (s : Symbol) → s .cat < t .cats → RootOrNode (nodes t) (s .cat) (s .path)
-      → stepNumbers rows ps bs n (coded t st) (s .cat) (number (nodes t) (s .cat) (s .path)) (not (s .other)) ≡ coded t (step (envOf t) st (stepsAs s))
+      → stepNumbers rows ps inner n (coded t st) (s .cat) (number (nodes t) (s .cat) (s .path)) (not (s .other)) ≡ coded t (step (envOf t) st (stepsAs s))
   step-symbol s h a =
-      step-right rows ps bs n t wf nu br st g (s .cat) h (s .path) a (not (s .other))
+      step-right rows ps inner n t wf nu ii st g (s .cat) h (s .path) a (not (s .other))
       ∙ ap (coded t) (sym (symbol-at-node (envOf t) (t .cats) (nodes t) (table-laws t wf) st g s h))
 
 -- the start is signal 0 with every category open
@@ -74,7 +72,7 @@ status-same t c p q (direct.Held v) (direct.Held w) f g e =
     ap direct.Held (number-same t c v w (inr (node p v f)) (inr (node q w g)) i)
   where
     node : (p w : Parts) → statusFits (nodes t) c p (direct.Held w) ≡ true → isNode (nodes t) c w ≡ true
-    node p w h = branch-node (nodes t) c w (and-eq-true-iff (properAncestor p w) (isBranch (nodes t) c w) .0 h .1)
+    node p w h = inner-node (nodes t) c w (and-eq-true-iff (properAncestor p w) (isInner (nodes t) c w) .0 h .1)
 status-same t c p q (direct.Held v) direct.Shut f g e = let z : _≡_ {A = ℕ} 0 1 = cc in absurd (omega arith)
 status-same t c p q direct.Shut direct.Open f g e = let z : _≡_ {A = ℕ} 0 1 = cc in absurd (omega arith)
 status-same t c p q direct.Shut (direct.Held w) f g e = let z : _≡_ {A = ℕ} 0 1 = cc in absurd (omega arith)
@@ -103,7 +101,7 @@ module _ (t : Table) (few : t .cats ≤ 8) (few-nodes : length (nodes t) ≤ 64)
   numbered : (c : ℕ) (p : Parts) (s : direct.Status) → statusFits (nodes t) c p s ≡ true → Numbered (codedStatus (nodes t) c s)
   numbered c p direct.Open e = tt
   numbered c p (direct.Held w) e =
-      let k = branch-node (nodes t) c w (and-eq-true-iff (properAncestor p w) (isBranch (nodes t) c w) .0 e .1) in
+      let k = inner-node (nodes t) c w (and-eq-true-iff (properAncestor p w) (isInner (nodes t) c w) .0 e .1) in
       let v = number-node (nodes t) c w k in
       (omega (arith, v .2), omega (arith, v .1, v .2))
   numbered c p direct.Shut e = tt
@@ -116,12 +114,6 @@ module _ (t : Table) (few : t .cats ≤ 8) (few-nodes : length (nodes t) ≤ 64)
       by k (no i) =
           let z : length (st .status) ≤ k = omega (arith, g .sized) in
           rw (List·getD-eq-default (st .status) direct.Open z) tt
-
-  -- two states with one signal and one number are one
-  pub packed-same : (a b : direct.State) → StateOf t a → StateOf t b → a .signal ≡ b .signal → packed (coded t a .categories) 0 8 ≡ packed (coded t b .categories) 0 8 → a ≡ b
-  packed-same a b ga gb e f =
-      coded-same t few a b ga gb
-      (ap₂ (λ s l. record { signal = s; categories = l }) e (sym (coded-again a ga) ∙ ap (λ x. unpacked x 8) f ∙ coded-again b gb))
 
   -- a packed state tells the state
   pub of-packed : (st : direct.State) → StateOf t st → ofPacked (packedOf (coded t st)) ≡ coded t st

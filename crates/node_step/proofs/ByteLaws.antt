@@ -1,13 +1,12 @@
 -- Laws of statuses as bytes, and of all of a state's in one number.
 use Prim.Native.Nat.{ℕ, zero, suc, _+_, _-_, _*_, _^_, _≤_, _<_}
-use mathlib.Core.Path.{_≡_, refl, sym, ap, ap₂, _∙_}
+use mathlib.Core.Path.{_≡_, refl, sym, ap, _∙_}
 use mathlib.Core.Bool.{Bool, true, false, cond}
 use mathlib.Core.List.{List, [], _∷_}
 use lib.Dec.{ltb}
-use lib.ListN.{length, getD, set, replicate, length-replicate, length-set}
+use lib.ListN.{length, getD, set, length-replicate, length-set}
 use lib.Seq.{getD-set-same, getD-set-other}
-use native.Mathlib.Numerals.{add-one}
-use native.Mathlib.Nat.{add-zero, zero-add, pow-le-pow-right, pow-succ'}
+use native.Mathlib.Nat.{add-zero, zero-add, pow-succ'}
 use borrow.Author.Tests.{lt-ltb, le-ltb, eq-eqb, ne-eqb, ltb-true}
 use native.Mathlib.Omega.{arith}
 use native.Mathlib.Decide.{ℕ-discrete}
@@ -78,26 +77,6 @@ unfolding packed
 packed-small l c zero = omega arith
 packed-small l c (suc n) = rw (pow-succ' 256 n) (omega (arith, byte-small (statusIn l c), packed-small l (suc c) n))
 
--- one turn, from the last category down
-pub packed-fits : (l : List Progress) (c x b : ℕ) → 0 < c → c ≤ 8 → x ≡ packed l c (8 - c) → b < 256 → x * 256 + b < 2 ^ 64
-packed-fits l c x b h k e f =
-    let y : 8 - c ≤ 7 = omega arith in
-    let z : 256 ^ (8 - c) ≤ 256 ^ 7 = pow-le-pow-right (omega arith) y in
-    omega (arith, packed-small l c (8 - c), z)
-
-pub packed-more : (l : List Progress) (c : ℕ) (x b : ℕ) (s : Status) → 0 < c → c ≤ 8 → x ≡ packed l c (8 - c) → s ≡ statusIn l (c - 1) → b ≡ byteOf s
-    → x * 256 + b ≡ packed l (c - 1) (8 - (c - 1))
-unfolding packed
-packed-more l zero x b s h k e f g = absurd (omega arith)
-packed-more l (suc c) x b s h k e f g =
-    let z : suc c - 1 ≡ c = omega arith in
-    let y : 8 - c ≡ suc (8 - suc c) = omega arith in
-    let w : s ≡ statusIn l c = rw z at f in
-    rw (z, y) (omega (arith, e, g, ap byteOf w))
-
-pub packed-end : (l : List Progress) (c x : ℕ) → c ≤ 0 → x ≡ packed l c (8 - c) → x ≡ packed l 0 8
-packed-end l c x h e = let z : c ≡ 0 = omega arith in rw z at e
-
 -- the bytes as a list
 abbrev pub bytesFrom : List Progress → ℕ → ℕ → List ℕ
 bytesFrom l c zero = []
@@ -141,15 +120,6 @@ unpacked-at x (suc n) k p h l = go (ℕ-discrete k n) (λ i. unpacked-at x n k p
         → getD (set (unpacked x n) n (record { status = statusOf (digit x n) })) k p ≡ record { status = statusOf (digit x k) }
     go (yes e) ih = rw e (getD-set-same (unpacked x n) n (record { status = statusOf (digit x n) }) p (omega (arith, unpacked-length x n)))
     go (no e) ih = getD-set-other (unpacked x n) n k (record { status = statusOf (digit x n) }) p e ∙ ih (omega arith)
-
--- one turn
-pub unpacked-more : (x c b : ℕ) {l : List Progress} {s : Status} → l ≡ unpacked x c → b ≡ digit x c → s ≡ statusOf b → set l c (record { status = s }) ≡ unpacked x (c + 1)
-unfolding unpacked
-unpacked-more x c b e f g =
-    ap₂ (λ z s. set z c (record { status = s })) e (g ∙ ap statusOf f) ∙ sym (ap (unpacked x) (add-one c))
-
-pub unpacked-end : (x c : ℕ) {l : List Progress} → c ≤ 8 → 8 ≤ c → l ≡ unpacked x c → l ≡ unpacked x 8
-unpacked-end x c h i e = let z : c ≡ 8 = omega arith in e ∙ ap (unpacked x) z
 
 -- unpacking gives back what was packed
 pub pack-again : (l : List Progress) → length l ≡ 8 → ((k : ℕ) → k < 8 → Numbered (statusIn l k)) → unpacked (packed l 0 8) 8 ≡ l

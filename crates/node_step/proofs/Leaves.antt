@@ -1,23 +1,23 @@
 -- Leaves by the parents: a node is a leaf if it is nobody's parent.
-use Prim.Native.Nat.{ℕ, zero, suc, _+_, _≤_, _<_}
+use Prim.Native.Nat.{ℕ, zero, suc, _+_, _<_}
 use mathlib.Core.Path.{_≡_, refl, sym, ap, ap₂, _∙_}
 use mathlib.Core.Logic.{_⊎_, inl, inr, _≢_}
-use mathlib.Core.Bool.{Bool, true, false, not, _&&_, true≢false, false≢true, and-false}
-use mathlib.Core.List.{List, [], _∷_, _++_, append-assoc, List·Memᴰ, List·Memᴰ·head, List·Memᴰ·tail}
+use mathlib.Core.Bool.{Bool, true, false, not, _&&_, true≢false, and-false}
+use mathlib.Core.List.{List, [], _∷_, _++_, append-assoc}
 use lib.Dec.{eqb}
 use borrow.Author.Tests.{eqb-true, eq-eqb}
 use lib.ListN.{length, getD, length-append}
 use native.Mathlib.Omega.{arith}
 use native.Mathlib.Decide.{ℕ-discrete}
 use native.Mathlib.Numerals.{add-one}
-use Rattle.resolution.specs.Names.{Name, Parts, properAncestor}
+use Rattle.resolution.specs.Names.{Name, Parts}
 use Rattle.resolution.specs.Table.{Urn, urn, Table}
 use Rattle.resolution.specs.Nodes.{sameUrn, nodes, isNode, number, nodeAt, RootOrNode, hasUnder, isRoot, leaf}
 use Rattle.resolution.proofs.Lists.{same-test, mem-at, member-of}
-use Rattle.resolution.proofs.Names.{proper-to, snoc-view}
+use Rattle.resolution.proofs.Names.{snoc-view}
 use Rattle.resolution.proofs.Nodes.{urn-exact, root-free}
-use Rattle.resolution.proofs.Numbers.{number-node, number-at, ancestor-node}
-use Rattle.resolution.proofs.Deepest.{leaf-ends}
+use Rattle.resolution.proofs.Numbers.{number-node, number-positive, number-at, ancestor-node}
+use Rattle.resolution.proofs.Deepest.{under-to, leaf-ends}
 use Rattle.node_step.specs.Arrays.{NodesIn, childless, Numbers}
 
 -- a node with a child
@@ -41,31 +41,6 @@ childless-to ps d (suc n) e = go (eqb (getD ps n 0) d) refl (childless ps d n) r
     go true f a g ih = (n, omega arith, eqb-true (getD ps n 0) d f)
     go false f false g ih = let w = ih g in (w .0, omega (arith, w .1), w .2)
     go false f true g ih = absurd (true≢false (rw (f, g) at e))
-
--- a path with a node under it
-under-to : (l : List Urn) (c : ℕ) (p : Parts) → hasUnder l c p ≡ true → (v : Urn) × List·Memᴰ v l × (v .cat ≡ c) × (properAncestor p (v .path) ≡ true)
-under-to [] c p e = absurd (false≢true e)
-under-to (u ∷ l) c p e = go (eqb (u .cat) c) refl (properAncestor p (u .path)) refl (under-to l c p)
-  where
-    more : (v : Urn) × List·Memᴰ v l × (v .cat ≡ c) × (properAncestor p (v .path) ≡ true) → (v : Urn) × List·Memᴰ v (u ∷ l) × (v .cat ≡ c) × (properAncestor p (v .path) ≡ true)
-    more w = (w .0, List·Memᴰ·tail (w .1), w .2, w .3)
-
-    go : (a : Bool) → eqb (u .cat) c ≡ a → (b : Bool) → properAncestor p (u .path) ≡ b
-        → (hasUnder l c p ≡ true → (v : Urn) × List·Memᴰ v l × (v .cat ≡ c) × (properAncestor p (v .path) ≡ true))
-        → (v : Urn) × List·Memᴰ v (u ∷ l) × (v .cat ≡ c) × (properAncestor p (v .path) ≡ true)
-    go true f true g ih = (u, List·Memᴰ·head refl, eqb-true (u .cat) c f, g)
-    go true f false g ih = more (ih (rw (f, g) at e))
-    go false f b g ih = more (ih (rw f at e))
-
-number-positive : (ns : List Urn) (c : ℕ) (p : Parts) (k : ℕ) → number ns c p ≡ suc k → isNode ns c p ≡ true
-number-positive ns c p k e = go (isNode ns c p) refl
-  where
-    go : (b : Bool) → isNode ns c p ≡ b → b ≡ true
-    go true f = refl
-    go false f = absurd (omega (arith, e, the (number ns c p ≡ 0) (rw f)))
-      where
-        the : (A : Type 0) → A → A
-        the A x = x
 
 module _ (t ca pos len : List ℕ) (n : ℕ) (T : Table) (ni : NodesIn t ca pos len n T) (rows ps : List ℕ) (signals : ℕ) (nu : Numbers rows ps signals T) where
   abbrev ns : List Urn
@@ -105,18 +80,16 @@ module _ (t ca pos len : List ℕ) (n : ℕ) (T : Table) (ni : NodesIn t ca pos 
 
     has-child : hasUnder ns c p ≡ true → false ≡ childless ps (k + 1) n
     has-child f =
-        let v = under-to ns c p f in
-        let w = proper-to p (v .0 .path) (v .3) in
-        let m : isNode ns c (v .0 .path) ≡ true = ap (λ z. isNode ns z (v .0 .path)) (sym (v .2)) ∙ member-of sameUrn urn-exact (v .0) ns (v .1) in
-        on w (ancestor-node T c (p ++ w .0 ∷ []) (v .0 .path) (record { rest = w .1; joined = append-assoc p (w .0 ∷ []) (w .1) ∙ w .2 }) (inr m))
+        let w = under-to ns c ns p f in
+        on (w .0) (ancestor-node T c (p ++ w .0 ∷ []) (p ++ w .0 ∷ w .1) (record { rest = w .1; joined = append-assoc p (w .0 ∷ []) (w .1) }) (inr (w .2)))
       where
-        on : (w : (x : Name) × (r : Parts) × (p ++ x ∷ r ≡ under-to ns c p f .0 .path)) → RootOrNode ns c (p ++ w .0 ∷ []) → false ≡ childless ps (k + 1) n
-        on w (inl z) = absurd (omega (arith, length-append p (w .0 ∷ []), ap length z))
-        on w (inr z) =
-            let i = number-node ns c (p ++ w .0 ∷ []) z in
+        on : (x : Name) → RootOrNode ns c (p ++ x ∷ []) → false ≡ childless ps (k + 1) n
+        on x (inl z) = absurd (omega (arith, length-append p (x ∷ []), ap length z))
+        on x (inr z) =
+            let i = number-node ns c (p ++ x ∷ []) z in
             let l : i .0 < n = omega (arith, i .1, ni .all-nodes) in
             child-found ps (k + 1) n (i .0) l
-            (nu .parent-at (i .0) (i .1) p (w .0) (ap (λ z. z .path) (i .3)) ∙ ap (λ z. number ns (z .cat) p) (i .3) ∙ number-at T k (there k h) ∙ sym (add-one k))
+            (nu .parent-at (i .0) (i .1) p x (ap (λ z. z .path) (i .3)) ∙ ap (λ z. number ns (z .cat) p) (i .3) ∙ number-at T k (there k h) ∙ sym (add-one k))
 
     pub leaf-is : leaf ns c p ≡ childless ps (k + 1) n
     unfolding leaf

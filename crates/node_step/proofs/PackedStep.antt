@@ -1,14 +1,14 @@
 -- Laws of the step over states whose categories' bytes are in one number.
 use Prim.Native.Nat.{ℕ, zero, suc, _+_, _-_, _*_, _/_, _%_, _^_, _≤_, _<_}
 use mathlib.Core.Path.{_≡_, refl, sym, ap, ap₂, _∙_}
-use mathlib.Core.Bool.{Bool, true, false, cond, not, _&&_, and-eq-true-iff}
+use mathlib.Core.Bool.{Bool, true, false, _&&_, and-eq-true-iff}
 use mathlib.Core.List.{List}
-use lib.Dec.{eqb, leb, ltb}
+use lib.Dec.{eqb}
 use lib.Arith.{mod-mul}
 use lib.Pow.{pow-add}
 use lib.ListN.{length, getD, set, length-set}
 use lib.Seq.{getD-set-same, getD-set-other}
-use borrow.Author.Tests.{eqb-true, eq-eqb, ne-eqb, le-leb, lt-leb, lt-ltb, le-ltb, not-true, not-false}
+use borrow.Author.Tests.{eqb-true, eq-eqb, ne-eqb, le-leb, lt-leb, lt-ltb, le-ltb}
 use native.Mathlib.Nat.{zero-add, div-div-eq-div-mul, pow-succ', one-le-pow}
 use native.Mathlib.Decide.{ℕ-discrete}
 use native.Mathlib.Omega.{arith}
@@ -16,7 +16,6 @@ use Rattle.resolution.proofs.Lists.{Exact}
 use Rattle.node_step.specs.declared.Status.{Status}
 use Rattle.node_step.specs.declared.Status.the-variants.{Open}
 use Rattle.node_step.specs.declared.Progress.{Progress}
-use Rattle.node_step.specs.declared.State.{State}
 use Rattle.node_step.specs.declared.Hit.{Hit}
 use Rattle.node_step.specs.declared.stored.Packed.{Packed}
 use Rattle.node_step.specs.Step.{few, digit, put, rowAt, seek, extends, statusIn, takes, statusFrom, moved, stepNumbers}
@@ -80,32 +79,32 @@ packed-set l c s e h =
             ∙ sym (getD-set-other (bytesFrom l 0 8) c k (byteOf s) 0 z)
 
 -- the state after a search
-module _ (bs : List Bool) (st : Packed) (c d : ℕ) (whole : Bool) (h : Hit) where
-  pub moved-found : h .found ≡ true → {x : ℕ} → x ≡ put (st .statuses) c (byteOf (statusFrom bs d whole (h .node)))
-      → record { signal = h .signal; statuses = x } ≡ movedPacked bs st c d whole h
+module _ (inner : List Bool) (st : Packed) (c d : ℕ) (whole : Bool) (h : Hit) where
+  pub moved-found : h .found ≡ true → {x : ℕ} → x ≡ put (st .statuses) c (byteOf (statusFrom inner d whole (h .node)))
+      → record { signal = h .signal; statuses = x } ≡ movedPacked inner st c d whole h
   unfolding movedPacked
   moved-found f e = ap (λ z. record { signal = h .signal; statuses = z }) e ∙ sym (rw f)
 
-  pub moved-lost : h .found ≡ false → st ≡ movedPacked bs st c d whole h
+  pub moved-lost : h .found ≡ false → st ≡ movedPacked inner st c d whole h
   unfolding movedPacked
   moved-lost f = sym (rw f)
 
 -- the step, test by test
-module _ (rows ps : List ℕ) (bs : List Bool) (n : ℕ) (st : Packed) (c d : ℕ) (whole : Bool) (fits : st .statuses < 2 ^ 64) where
+module _ (rows ps : List ℕ) (inner : List Bool) (n : ℕ) (st : Packed) (c d : ℕ) (whole : Bool) (fits : st .statuses < 2 ^ 64) where
   again : packedOf (ofPacked st) ≡ st
   again = ap (λ z. record { signal = st .signal; statuses = z }) (unpack-again (st .statuses) fits)
 
-  pub packed-past : 8 ≤ c → st ≡ stepPacked rows ps bs n st c d whole
+  pub packed-past : 8 ≤ c → st ≡ stepPacked rows ps inner n st c d whole
   unfolding stepPacked stepNumbers
   packed-past h = sym (rw (le-leb 8 c h) again)
 
-  moved-is : c < 8 → (i : Hit) (f : Bool) → i .found ≡ f → packedOf (moved bs (ofPacked st) c d whole i) ≡ movedPacked bs st c d whole i
+  moved-is : c < 8 → (i : Hit) (f : Bool) → i .found ≡ f → packedOf (moved inner (ofPacked st) c d whole i) ≡ movedPacked inner st c d whole i
   unfolding moved movedPacked
   moved-is h i true e =
       rw e
       (ap (λ z. record { signal = i .signal; statuses = z })
-      (packed-set (unpacked (st .statuses) 8) c (statusFrom bs d whole (i .node)) (unpacked-length (st .statuses) 8) h
-      ∙ ap (λ z. put z c (byteOf (statusFrom bs d whole (i .node)))) (unpack-again (st .statuses) fits)))
+      (packed-set (unpacked (st .statuses) 8) c (statusFrom inner d whole (i .node)) (unpacked-length (st .statuses) 8) h
+      ∙ ap (λ z. put z c (byteOf (statusFrom inner d whole (i .node)))) (unpack-again (st .statuses) fits)))
   moved-is h i false e = rw e again
 
   module _ (h : c < 8) {row q x : ℕ} {o : Status} {b : Bool} (r : row ≡ rowAt rows (st .signal)) (e : q ≡ digit row c) (f : x ≡ digit (st .statuses) c) (g : o ≡ statusOf x)
@@ -119,47 +118,47 @@ module _ (rows ps : List ℕ) (bs : List Bool) (n : ℕ) (st : Packed) (c d : �
     test-is : takes ps (statusIn (unpacked (st .statuses) 8) c) (digit (rowAt rows (st .signal)) c) d whole ≡ b
     test-is = sym (t ∙ ap₂ (λ x y. takes ps x y d whole) status-is q-is)
 
-    pub packed-stay : b ≡ false → st ≡ stepPacked rows ps bs n st c d whole
+    pub packed-stay : b ≡ false → st ≡ stepPacked rows ps inner n st c d whole
     unfolding stepPacked stepNumbers
     packed-stay z = let a = test-is ∙ z in sym (rw (lt-leb 8 c h, a) again)
 
-    module _ {m : ℕ} {i : Hit} {res : Packed} (z : b ≡ true) (em : m ≡ few n) (ei : i ≡ seek rows ps m row c q 9 d) (er : res ≡ movedPacked bs st c d whole i) where
+    module _ {m : ℕ} {i : Hit} {res : Packed} (z : b ≡ true) (em : m ≡ few n) (ei : i ≡ seek rows ps m row c q 9 d) (er : res ≡ movedPacked inner st c d whole i) where
       abbrev hit : Hit
       hit = seek rows ps (few n) (rowAt rows (st .signal)) c (digit (rowAt rows (st .signal)) c) 9 d
 
       hit-is : i ≡ hit
       hit-is = ei ∙ ap₂ (λ x y. seek rows ps m x c y 9 d) r q-is ∙ ap (λ x. seek rows ps x (rowAt rows (st .signal)) c (digit (rowAt rows (st .signal)) c) 9 d) em
 
-      pub packed-goes : res ≡ stepPacked rows ps bs n st c d whole
+      pub packed-goes : res ≡ stepPacked rows ps inner n st c d whole
       unfolding stepPacked stepNumbers
-      packed-goes = let a = test-is ∙ z in er ∙ ap (movedPacked bs st c d whole) hit-is ∙ sym (rw (lt-leb 8 c h, a) (moved-is h hit (hit .found) refl))
+      packed-goes = let a = test-is ∙ z in er ∙ ap (movedPacked inner st c d whole) hit-is ∙ sym (rw (lt-leb 8 c h, a) (moved-is h hit (hit .found) refl))
 
 -- a byte that a category can have, test by test
-module _ (rows ps : List ℕ) (bs : List Bool) (ca : List ℕ) (n s c b : ℕ) where
-  pub fits-low : b ≤ 1 → true ≡ fitsBy rows ps bs ca n s c b
+module _ (rows ps : List ℕ) (inner : List Bool) (ca : List ℕ) (n s c b : ℕ) where
+  pub fits-low : b ≤ 1 → true ≡ fitsBy rows ps inner ca n s c b
   unfolding fitsBy
   fits-low h = sym (rw (le-leb b 1 h))
 
   module _ (h : 1 < b) where
-    pub fits-past : 8 ≤ c → false ≡ fitsBy rows ps bs ca n s c b
+    pub fits-past : 8 ≤ c → false ≡ fitsBy rows ps inner ca n s c b
     unfolding fitsBy
     fits-past l = sym (rw (lt-leb b 1 h, le-leb 8 c l))
 
     module _ (l : c < 8) {m : ℕ} (e : m ≡ fewer n 64) where
-      pub fits-out : m ≤ b - 2 → false ≡ fitsBy rows ps bs ca n s c b
+      pub fits-out : m ≤ b - 2 → false ≡ fitsBy rows ps inner ca n s c b
       unfolding fitsBy
       fits-out k = sym (rw (lt-leb b 1 h, lt-leb 8 c l, ← e, le-ltb (b - 2) m k))
 
       module _ (k : b - 2 < m) {x : ℕ} (f : x ≡ getD ca (b - 2) 0) where
-        pub fits-other : (x ≡ c → ⊥) → false ≡ fitsBy rows ps bs ca n s c b
+        pub fits-other : (x ≡ c → ⊥) → false ≡ fitsBy rows ps inner ca n s c b
         unfolding fitsBy
         fits-other z = sym (rw (lt-leb b 1 h, lt-leb 8 c l, ← e, lt-ltb (b - 2) m k, ← f, ne-eqb x c z))
 
-        module _ (g : x ≡ c) {y : Bool} (i : y ≡ getD bs (b - 2) false) where
-          pub fits-leaf : y ≡ false → false ≡ fitsBy rows ps bs ca n s c b
+        module _ (g : x ≡ c) {y : Bool} (i : y ≡ getD inner (b - 2) false) where
+          pub fits-leaf : y ≡ false → false ≡ fitsBy rows ps inner ca n s c b
           unfolding fitsBy
           fits-leaf z = sym (rw (lt-leb b 1 h, lt-leb 8 c l, ← e, lt-ltb (b - 2) m k, ← f, eq-eqb x c g, ← i, z))
 
-          pub fits-rest : y ≡ true → {r : Bool} → r ≡ extends ps (digit (rowAt rows s) c) (b - 1) true → r ≡ fitsBy rows ps bs ca n s c b
+          pub fits-rest : y ≡ true → {r : Bool} → r ≡ extends ps (digit (rowAt rows s) c) (b - 1) true → r ≡ fitsBy rows ps inner ca n s c b
           unfolding fitsBy
           fits-rest z t = t ∙ sym (rw (lt-leb b 1 h, lt-leb 8 c l, ← e, lt-ltb (b - 2) m k, ← f, eq-eqb x c g, ← i, z))

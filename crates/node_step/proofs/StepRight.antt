@@ -14,9 +14,9 @@ use Rattle.resolution.specs.Names.{Name, Parts, sameParts, below, somePart, pro
 use Rattle.resolution.proofs.Names.{parts-exact, row-exact, below-to, below-self, proper-above, above-trans, snoc-view, candidates-snoc, someBelow, some-above, above-some, above-none, above-snoc}
 use Rattle.resolution.specs.Table.{Table, Row, rowOf, sameRow, find, WellFormed}
 use Rattle.resolution.proofs.Table.{row-length, find-below}
-use Rattle.resolution.specs.Nodes.{nodes, isNode, RootOrNode, isBranch}
+use Rattle.resolution.specs.Nodes.{nodes, isNode, RootOrNode, hasUnder, isInner}
 use Rattle.resolution.proofs.Nodes.{root-free, row-nodes}
-use Rattle.resolution.proofs.Deepest.{branch-node}
+use Rattle.resolution.proofs.Deepest.{inner-node}
 use Rattle.resolution.proofs.TableStep.{table-laws}
 use Rattle.resolution.specs.Nodes.{number, nodeAt}
 use Rattle.resolution.proofs.Numbers.{number-node, root-number, number-same, number-test, parent-node}
@@ -30,8 +30,8 @@ use Rattle.node_step.specs.declared.Status.{Status}
 use Rattle.node_step.specs.declared.Status.the-variants.{Open, Held, Shut}
 use Rattle.node_step.specs.declared.State.{State}
 use Rattle.node_step.specs.declared.Hit.{Hit}
-use Rattle.node_step.specs.Step.{codedStatus, progressFrom, coded, few, digit, put, rowAt, parentOf, branchAt, reaches, findRow, noHit, hitAt, seek, extends, statusIn, takes, statusFrom, moved, stepNumbers}
-use Rattle.node_step.specs.Arrays.{pack, numbersFrom, Numbers, BranchesIn}
+use Rattle.node_step.specs.Step.{codedStatus, progressFrom, coded, few, digit, put, rowAt, parentOf, innerAt, reaches, findRow, noHit, hitAt, seek, extends, statusIn, takes, statusFrom, moved, stepNumbers}
+use Rattle.node_step.specs.Arrays.{pack, numbersFrom, Numbers, InnerIn}
 use Rattle.node_step.proofs.PackedLaws.{pack-digit, pack-set, pack-same}
 use Rattle.node_step.proofs.ProgressLaws.{progress-at, progress-set}
 use Rattle.node_step.proofs.NumberLaws.{numbers-length, numbers-at, numbers-set, numbers-bytes, Anchored, numbers-same, foundRow, finds}
@@ -217,18 +217,18 @@ few-parts-at t nu c d (inr e) =
     omega (arith, nu .few-parts (w .0) (w .1), ap (λ u. length (u .path)) (w .3))
 
 -- a node or root's number tells whether it has nodes under it
-pub branch-right : (bs : List Bool) (t : Table) → BranchesIn bs t → length (nodes t) ≤ 64 → (c : ℕ) (d : Parts) → RootOrNode (nodes t) c d
-    → branchAt bs (number (nodes t) c d) ≡ isBranch (nodes t) c d
-branch-right bs t br few c d (inl e) =
+pub inner-right : (inner : List Bool) (t : Table) → InnerIn inner t → length (nodes t) ≤ 64 → (c : ℕ) (d : Parts) → RootOrNode (nodes t) c d
+    → innerAt inner (number (nodes t) c d) ≡ isInner (nodes t) c d
+inner-right inner t ii few c d (inl e) =
     let z : number (nodes t) c d ≡ 0 = ap (number (nodes t) c) e ∙ root-number t c in
     let n : isNode (nodes t) c d ≡ false = ap (isNode (nodes t) c) e ∙ root-free t c in
     rw (eq-eqb (number (nodes t) c d) 0 z, n)
-branch-right bs t br few c d (inr e) =
+inner-right inner t ii few c d (inr e) =
     let w = number-node (nodes t) c d e in
     let i : suc (w .0) - 1 ≡ w .0 = omega arith in
-    ap (branchAt bs) (w .2)
+    ap (innerAt inner) (w .2)
     ∙ rw (ne-eqb (suc (w .0)) 0 (λ z. omega arith), le-leb (suc (w .0)) 64 (omega (arith, w .1)), i)
-    (br .branch-at (w .0) (w .1) ∙ ap (λ u. isBranch (nodes t) (u .cat) (u .path)) (w .3))
+    (ii (w .0) (w .1) ∙ ap (λ u. hasUnder (nodes t) (u .cat) (u .path)) (w .3) ∙ sym (ap (λ b. b && hasUnder (nodes t) c d) e))
 
 module _ (rows ps : List ℕ) (n : ℕ) (t : Table) (wf : WellFormed t) (nu : Numbers rows ps n t) (c : ℕ) (known : c < t .cats) (d : Parts) (ad : RootOrNode (nodes t) c d) (whole : Bool) where
   -- p is a proper ancestor of what is said
@@ -272,7 +272,7 @@ place-extends rows ps n t wf nu c known s h w e =
     by (some []) = refl
     by (some (x ∷ r)) = refl
 
-module _ (rows ps : List ℕ) (bs : List Bool) (n : ℕ) (t : Table) (wf : WellFormed t) (nu : Numbers rows ps n t) (br : BranchesIn bs t)
+module _ (rows ps : List ℕ) (inner : List Bool) (n : ℕ) (t : Table) (wf : WellFormed t) (nu : Numbers rows ps n t) (ii : InnerIn inner t)
     (st : direct.State) (g : Valid (envOf t) (t .cats) (nodes t) st) (c : ℕ) (known : c < t .cats) (d : Parts) (ad : RootOrNode (nodes t) c d) (whole : Bool) where
   abbrev env : Env
   env = envOf t
@@ -299,8 +299,8 @@ module _ (rows ps : List ℕ) (bs : List Bool) (n : ℕ) (t : Table) (wf : WellF
   -- where the category is held: a node below the place
   held-node : (w : Parts) → statusFits (nodes t) c here (direct.Held w) ≡ true → (isNode (nodes t) c w ≡ true) × Above here w
   held-node w e =
-      let k = and-eq-true-iff (properAncestor here w) (isBranch (nodes t) c w) .0 e in
-      (branch-node (nodes t) c w (k .1), proper-above here w (k .0))
+      let k = and-eq-true-iff (properAncestor here w) (isInner (nodes t) c w) .0 e in
+      (inner-node (nodes t) c w (k .1), proper-above here w (k .0))
 
   -- the test
   takes-right : (o : direct.Status) → statusFits (nodes t) c here o ≡ true → takes ps (codedStatus (nodes t) c o) (no here) (no d) whole ≡ nodeTakes o here d whole
@@ -310,11 +310,11 @@ module _ (rows ps : List ℕ) (bs : List Bool) (n : ℕ) (t : Table) (wf : WellF
 
   -- the status after a hit
   status-right : (h : direct.Hit) → RootOrNode (nodes t) c (h .at)
-      → statusFrom bs (no d) whole (no (h .at)) ≡ codedStatus (nodes t) c (openOr (whole && sameParts (h .at) d) (heldIf (whole && isBranch (nodes t) c d) d))
+      → statusFrom inner (no d) whole (no (h .at)) ≡ codedStatus (nodes t) c (openOr (whole && sameParts (h .at) d) (heldIf (whole && isInner (nodes t) c d) d))
   unfolding statusFrom
   status-right h a =
-      ap₂ (λ x y. cond whole (cond x Open (cond y (Held (no d)) Shut)) Shut) (number-test t c (h .at) d a ad) (branch-right bs t br (nu .few-nodes) c d ad)
-      ∙ by whole (sameParts (h .at) d) (isBranch (nodes t) c d)
+      ap₂ (λ x y. cond whole (cond x Open (cond y (Held (no d)) Shut)) Shut) (number-test t c (h .at) d a ad) (inner-right inner t ii (nu .few-nodes) c d ad)
+      ∙ by whole (sameParts (h .at) d) (isInner (nodes t) c d)
     where
       by : (w x y : Bool) → cond w (cond x Open (cond y (Held (no d)) Shut)) Shut ≡ codedStatus (nodes t) c (openOr (w && x) (heldIf (w && y) d))
       by false x y = refl
@@ -324,10 +324,10 @@ module _ (rows ps : List ℕ) (bs : List Bool) (n : ℕ) (t : Table) (wf : WellF
 
   -- the move
   move-right : (r : Parts) → here ++ r ≡ d
-      → moved bs (coded t st) c (no d) whole (seek rows ps n packs c (no here) 9 (no d)) ≡ coded t (nodeMove env st c d whole (firstHit env (rowOf t (st .signal)) c (candidates here r)))
+      → moved inner (coded t st) c (no d) whole (seek rows ps n packs c (no here) 9 (no d)) ≡ coded t (nodeMove env st c d whole (firstHit env (rowOf t (st .signal)) c (candidates here r)))
   unfolding moved
   move-right r j =
-      ap (moved bs (coded t st) c (no d) whole)
+      ap (moved inner (coded t st) c (no d) whole)
       (ap (λ z. seek rows ps n packs c (no here) 9 (no z)) (sym j)
       ∙ seek-right rows ps n t wf nu c known (st .signal) low 9 r (omega (arith, few-parts-at t nu c d ad, length-append here r, ap length j)) (rw j ad))
       ∙ go (firstHit env (rowOf t (st .signal)) c (candidates here r)) refl
@@ -339,13 +339,13 @@ module _ (rows ps : List ℕ) (bs : List Bool) (n : ℕ) (t : Table) (wf : WellF
       put-status s = rw (zero-add c) at (progress-set (nodes t) (st .status) 0 8 c s low-c (omega (arith, g .sized)))
 
       go : (h : Option direct.Hit) → firstHit env (rowOf t (st .signal)) c (candidates here r) ≡ h
-          → moved bs (coded t st) c (no d) whole (hitOf rows ps n t wf nu c known (st .signal) low h) ≡ coded t (nodeMove env st c d whole h)
+          → moved inner (coded t st) c (no d) whole (hitOf rows ps n t wf nu c known (st .signal) low h) ≡ coded t (nodeMove env st c d whole h)
       go none e = refl
       go (some h) e =
           let w = search-hit env (rowOf t (st .signal)) c (candidates here r) h e in
           let a = hit-node env (t .cats) (nodes t) (table-laws t wf) (rowOf t (st .signal)) c (h .at) (h .signal) (wide rows ps n t wf nu c known (st .signal) low) (w .0) in
           ap (λ z. record { signal = h .signal; categories = set (progressFrom (nodes t) (st .status) 0 8) c (record { status = z }) }) (status-right h a)
-          ∙ ap (λ z. record { signal = h .signal; categories = z }) (put-status (openOr (whole && sameParts (h .at) d) (heldIf (whole && isBranch (nodes t) c d) d)))
+          ∙ ap (λ z. record { signal = h .signal; categories = z }) (put-status (openOr (whole && sameParts (h .at) d) (heldIf (whole && isInner (nodes t) c d) d)))
 
   -- what is taken lies at or under the place
   taken-above : (o : direct.Status) → statusFits (nodes t) c here o ≡ true → nodeTakes o here d whole ≡ true → someBelow (below here d) ≡ true
@@ -355,27 +355,27 @@ module _ (rows ps : List ℕ) (bs : List Bool) (n : ℕ) (t : Table) (wf : WellF
 
   -- the whole step, by the test
   by-test : (b : Bool) → nodeTakes now here d whole ≡ b
-      → cond b (moved bs (coded t st) c (no d) whole (seek rows ps n packs c (no here) 9 (no d))) (coded t st) ≡ coded t (nodeIfTaken env st c d whole b (below here d))
+      → cond b (moved inner (coded t st) c (no d) whole (seek rows ps n packs c (no here) 9 (no d))) (coded t st) ≡ coded t (nodeIfTaken env st c d whole b (below here d))
   by-test false e = refl
   by-test true e = go (below here d) refl
     where
       go : (u : Option Parts) → below here d ≡ u
-          → moved bs (coded t st) c (no d) whole (seek rows ps n packs c (no here) 9 (no d)) ≡ coded t (nodeIfTaken env st c d whole true u)
+          → moved inner (coded t st) c (no d) whole (seek rows ps n packs c (no here) 9 (no d)) ≡ coded t (nodeIfTaken env st c d whole true u)
       go none f = absurd (false≢true (rw f at (taken-above now (g .fits c known) e)))
       go (some r) f = move-right r (below-to here d r f)
 
   -- the step by numbers is the step at the node
-  pub step-right : stepNumbers rows ps bs n (coded t st) c (number (nodes t) c d) whole ≡ coded t (nodeStep (envOf t) st c d whole)
+  pub step-right : stepNumbers rows ps inner n (coded t st) c (number (nodes t) c d) whole ≡ coded t (nodeStep (envOf t) st c d whole)
   unfolding stepNumbers nodeStep
   step-right =
       ap (λ b. cond b (coded t st) body) (lt-leb 8 c (let k = nu .few-cats in omega arith))
-      ∙ ap₂ (λ r m. cond (takes ps (statusIn (progressFrom (nodes t) (st .status) 0 8) c) (digit r c) (no d) whole) (moved bs (coded t st) c (no d) whole (seek rows ps m r c (digit r c) 9 (no d))) (coded t st))
+      ∙ ap₂ (λ r m. cond (takes ps (statusIn (progressFrom (nodes t) (st .status) 0 8) c) (digit r c) (no d) whole) (moved inner (coded t st) c (no d) whole (seek rows ps m r c (digit r c) 9 (no d))) (coded t st))
       (row-is rows ps n t wf nu c known (st .signal) low)
       (few-is n (nu .few-signals))
-      ∙ ap₂ (λ s z. cond (takes ps s z (no d) whole) (moved bs (coded t st) c (no d) whole (seek rows ps n packs c z 9 (no d))) (coded t st))
+      ∙ ap₂ (λ s z. cond (takes ps s z (no d) whole) (moved inner (coded t st) c (no d) whole (seek rows ps n packs c z 9 (no d))) (coded t st))
       status-is
       (digit-is rows ps n t wf nu c known (st .signal) low)
-      ∙ ap (λ b. cond b (moved bs (coded t st) c (no d) whole (seek rows ps n packs c (no here) 9 (no d))) (coded t st)) (takes-right now (g .fits c known))
+      ∙ ap (λ b. cond b (moved inner (coded t st) c (no d) whole (seek rows ps n packs c (no here) 9 (no d))) (coded t st)) (takes-right now (g .fits c known))
       ∙ by-test (nodeTakes now here d whole) refl
     where
       few-is : (n : ℕ) → n ≤ 32 → few n ≡ n
@@ -389,5 +389,5 @@ module _ (rows ps : List ℕ) (bs : List Bool) (n : ℕ) (t : Table) (wf : WellF
       body : State
       body =
           cond (takes ps (statusIn (progressFrom (nodes t) (st .status) 0 8) c) (digit (rowAt rows (st .signal)) c) (no d) whole)
-          (moved bs (coded t st) c (no d) whole (seek rows ps (few n) (rowAt rows (st .signal)) c (digit (rowAt rows (st .signal)) c) 9 (no d)))
+          (moved inner (coded t st) c (no d) whole (seek rows ps (few n) (rowAt rows (st .signal)) c (digit (rowAt rows (st .signal)) c) 9 (no d)))
           (coded t st)

@@ -2,23 +2,14 @@
 -- Node k of the table stands at k - 1 in each array of nodes; 0 is the root.
 use Prim.Native.Nat.{ℕ, zero, suc, _+_, _*_, _≤_, _<_}
 use mathlib.Core.Path.{_≡_}
-<<<<<<< HEAD
 use mathlib.Core.Bool.{Bool, true, false, cond, not, _&&_}
-=======
-use mathlib.Core.Bool.{Bool, false}
->>>>>>> b8e7a93 (prototype: held, on the base)
 use mathlib.Core.List.{List, [], _∷_, _++_}
 use lib.Dec.{eqb}
 use lib.ListN.{getD, length, take, drop}
 use Rattle.resolution.specs.Names.{Name, Parts}
 use Rattle.resolution.specs.Table.{Urn, Table, Row, rowOf}
-<<<<<<< HEAD
 use Rattle.resolution.specs.Nodes.{nodes, number, nodeAt, hasUnder}
 use Rattle.alert_urn.specs.Text.{fields, common}
-=======
-use Rattle.resolution.specs.Nodes.{nodes, number, nodeAt, isBranch}
-use Rattle.alert_urn.specs.Text.{fields}
->>>>>>> b8e7a93 (prototype: held, on the base)
 
 -- the bytes of t at the i-th of the places in `at`, as many as `len` says
 abbrev pub stretch : List ℕ → List ℕ → List ℕ → ℕ → List ℕ
@@ -75,7 +66,3 @@ pub record Numbers (rows parents : List ℕ) (n : ℕ) (T : Table) : Type 0 wher
   pub packed : (s : ℕ) → s < n → getD rows s 0 ≡ pack (numbersFrom (nodes T) 0 (rowOf T s))
   pub parent-at : (k : ℕ) → k < length (nodes T) → (p : Parts) (x : Name) → nodeAt (nodes T) k .path ≡ p ++ x ∷ []
       → getD parents k 0 ≡ number (nodes T) (nodeAt (nodes T) k .cat) p
-
--- which nodes have nodes under them
-pub record BranchesIn (branches : List Bool) (T : Table) : Type 0 where
-  pub branch-at : (k : ℕ) → k < length (nodes T) → getD branches k false ≡ isBranch (nodes T) (nodeAt (nodes T) k .cat) (nodeAt (nodes T) k .path)

@@ -47,20 +47,20 @@ samePacked a b = eqb (a .signal) (b .signal) && eqb (a .statuses) (b .statuses)
 
 -- the step over them
 unfoldable pub stepPacked : List ℕ → List ℕ → List Bool → ℕ → Packed → ℕ → ℕ → Bool → Packed
-stepPacked rows ps bs n st c d whole = packedOf (stepNumbers rows ps bs n (ofPacked st) c d whole)
+stepPacked rows ps inner n st c d whole = packedOf (stepNumbers rows ps inner n (ofPacked st) c d whole)
 
 -- the state after the search: the signal found, and the new byte of c
 unfoldable pub movedPacked : List Bool → Packed → ℕ → ℕ → Bool → Hit → Packed
-movedPacked bs st c d whole h =
+movedPacked inner st c d whole h =
     cond (h .found)
-    (record { signal = h .signal; statuses = put (st .statuses) c (byteOf (statusFrom bs d whole (h .node))) })
+    (record { signal = h .signal; statuses = put (st .statuses) c (byteOf (statusFrom inner d whole (h .node))) })
     st
 
 -- a byte of category c at signal s: 0, 1, or 1 + n for a node n of c that has nodes under it and lies beyond the place of s
 unfoldable pub fitsBy : List ℕ → List ℕ → List Bool → List ℕ → ℕ → ℕ → ℕ → ℕ → Bool
-fitsBy rows ps bs category n s c b =
+fitsBy rows ps inner category n s c b =
     cond (leb b 1) true
     (cond (leb 8 c) false
     (cond (ltb (b - 2) (fewer n 64))
-    (eqb (getD category (b - 2) 0) c && (getD bs (b - 2) false && extends ps (digit (rowAt rows s) c) (b - 1) true))
+    (eqb (getD category (b - 2) 0) c && (getD inner (b - 2) false && extends ps (digit (rowAt rows s) c) (b - 1) true))
     false))

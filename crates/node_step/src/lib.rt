@@ -1,16 +1,12 @@
-<<<<<<< HEAD
 pub mod marks;
-=======
-pub mod branches;
 pub mod stored;
->>>>>>> b8e7a93 (prototype: held, on the base)
 pub mod uses;
 
 ghost use mathlib.Core.Path.{_≡_};
 ghost use mathlib.Core.Bool.{_&&_, false};
 ghost use Prim.Native.Nat.{_≤_, _<_};
 ghost use lib.Dec.{eqb};
-ghost use Rattle.node_step.specs.Step.{few, rowAt, digit, put, parentOf, branchAt, reaches, findRow, seek, extends, statusIn, takes, statusFrom, moved, stepNumbers};
+ghost use Rattle.node_step.specs.Step.{few, rowAt, digit, put, parentOf, innerAt, reaches, findRow, seek, extends, progressIn, takes, statusFrom, moved, stepNumbers};
 
 // What a category remembers of the URN last taken there: it is open at its place, held at a node, or shut for good.
 pub enum Status {
@@ -94,15 +90,15 @@ fn parent(parents: &[u8; 64], d: u8) -> u8
 }
 
 // Node d has nodes under it.
-fn branch_at(branches: &[bool; 64], d: u8) -> bool
-    ensures { λ r. ⌜ r ≡ branchAt (now (branches .entry)) d ⌝ }
+fn inner_at(inner: &[bool; 64], d: u8) -> bool
+    ensures { λ r. ⌜ r ≡ innerAt (now (inner .entry)) d ⌝ }
 {
     if d == 0 {
         return false;
     }
     if d <= 64 {
         let i = d as usize - 1;
-        return branches[i];
+        return inner[i];
     }
     false
 }
@@ -203,19 +199,19 @@ pub(crate) fn extends_of(parents: &[u8; 64], q: u8, d: u8, whole: bool) -> bool
     reaches_of(parents, q, d)
 }
 
-// The status of category c.
-pub(crate) fn status_in(categories: [Progress; 8], c: usize) -> Status
+// The progress of category c.
+pub(crate) fn progress_in(categories: [Progress; 8], c: usize) -> Progress
     requires { ⌜ c < 8 ⌝ }
-    ensures { λ r. ⌜ r ≡ statusIn categories c ⌝ }
+    ensures { λ r. ⌜ r ≡ progressIn categories c ⌝ }
 {
-    let progress = categories[c];
-    progress.status
+    categories[c]
 }
 
-// A category with this status and the place q takes what is said.
-pub(crate) fn takes_at(parents: &[u8; 64], status: Status, q: u8, d: u8, whole: bool) -> bool
-    ensures { λ r. ⌜ r ≡ takes (now (parents .entry)) status q d whole ⌝ }
+// A category with this progress and the place q takes what is said.
+pub(crate) fn takes_at(parents: &[u8; 64], progress: Progress, q: u8, d: u8, whole: bool) -> bool
+    ensures { λ r. ⌜ r ≡ takes (now (parents .entry)) (progress .status) q d whole ⌝ }
 {
+    let status = progress.status;
     match status {
         Status::Open => extends_of(parents, q, d, whole),
         Status::Held(w) => extends_of(parents, w, d, whole),
@@ -223,31 +219,39 @@ pub(crate) fn takes_at(parents: &[u8; 64], status: Status, q: u8, d: u8, whole: 
     }
 }
 
-// A category's status after a signal was found at node p: open if all of what is said was found, else held at d, or shut.
-pub(crate) fn status_from(branches: &[bool; 64], d: u8, whole: bool, p: u8) -> Status
-    ensures { λ r. ⌜ r ≡ statusFrom (now (branches .entry)) d whole p ⌝ }
+// A category's progress after a signal was found at node p: open if all of what is said was found, else held at d, or shut.
+pub(crate) fn progress_from(inner: &[bool; 64], d: u8, whole: bool, p: u8) -> Progress
+    ensures { λ r. ⌜ r .status ≡ statusFrom (now (inner .entry)) d whole p ⌝ }
 {
-    if whole {
-        if p == d {
-            return Status::Open;
-        }
-        if branch_at(branches, d) {
-            return Status::Held(d);
-        }
-        return Status::Shut;
+    if !whole {
+        return Progress {
+            status: Status::Shut,
+        };
     }
-    Status::Shut
+    if p == d {
+        return Progress {
+            status: Status::Open,
+        };
+    }
+    if inner_at(inner, d) {
+        return Progress {
+            status: Status::Held(d),
+        };
+    }
+    Progress {
+        status: Status::Shut,
+    }
 }
 
 // The state after a search.
-fn moved_by(branches: &[bool; 64], st: State, c: usize, d: u8, whole: bool, h: Hit) -> State
+fn moved_by(inner: &[bool; 64], st: State, c: usize, d: u8, whole: bool, h: Hit) -> State
     requires { ⌜ c < 8 ⌝ }
-    ensures { λ r. ⌜ r ≡ moved (now (branches .entry)) st c d whole h ⌝ }
+    ensures { λ r. ⌜ r ≡ moved (now (inner .entry)) st c d whole h ⌝ }
 {
     if h.found {
-        let status = status_from(branches, d, whole, h.node);
+        let progress = progress_from(inner, d, whole, h.node);
         let mut categories = st.categories;
-        categories[c] = Progress { status };
+        categories[c] = progress;
         return State {
             signal: h.signal,
             categories,
@@ -260,14 +264,14 @@ fn moved_by(branches: &[bool; 64], st: State, c: usize, d: u8, whole: bool, h: H
 pub fn step<'a>(
     rows: &'a [u64; 32],
     parents: &'a [u8; 64],
-    branches: &'a [bool; 64],
+    inner: &'a [bool; 64],
     signals: usize,
     st: State,
     c: usize,
     d: u8,
     whole: bool,
 ) -> State
-    ensures { λ r. ⌜ r ≡ stepNumbers (now (rows .entry)) (now (parents .entry)) (now (branches .entry)) signals st c d whole ⌝ }
+    ensures { λ r. ⌜ r ≡ stepNumbers (now (rows .entry)) (now (parents .entry)) (now (inner .entry)) signals st c d whole ⌝ }
 {
     if 8 <= c {
         return st;
@@ -275,11 +279,11 @@ pub fn step<'a>(
     let row = row_at(rows, st.signal);
     let q = digit_at(row, c);
     let categories = st.categories;
-    let status = status_in(categories, c);
-    if takes_at(parents, status, q, d, whole) {
+    let progress = progress_in(categories, c);
+    if takes_at(parents, progress, q, d, whole) {
         let n = few_of(signals);
         let h = seek_from(rows, parents, n, row, c, q, d);
-        return moved_by(branches, st, c, d, whole, h);
+        return moved_by(inner, st, c, d, whole, h);
     }
     st
 }

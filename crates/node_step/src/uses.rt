@@ -32,11 +32,7 @@ struct Search {
 
 // A number as an index.
 pub(crate) fn wide8(x: u8) -> usize
-<<<<<<< HEAD
     ensures { λ r. ⌜ (r ≡ x) × (r ≤ 255) ⌝ }
-=======
-    ensures { λ r. ⌜ r ≡ x ⌝ }
->>>>>>> b8e7a93 (prototype: held, on the base)
 {
     x as usize
 }
@@ -215,11 +211,7 @@ fn search_nodes<'a>(
 }
 
 // n, or m if that is less.
-<<<<<<< HEAD
 pub fn at_most(n: usize, m: usize) -> usize
-=======
-pub(crate) fn at_most(n: usize, m: usize) -> usize
->>>>>>> b8e7a93 (prototype: held, on the base)
     ensures { λ r. ⌜ (r ≡ fewer n m) × (r ≤ m) ⌝ }
 {
     if n <= m {

@@ -10,52 +10,41 @@ use Rattle.node_step.proofs.few_of.Reads as few-of-reads
 use Rattle.node_step.proofs.row_at.Reads as row-at-reads
 use Rattle.node_step.proofs.seek_from.Reads as seek-from-reads
 use Rattle.node_step.proofs.stored.moved_packed.Reads as moved-packed-reads
-use Rattle.node_step.proofs.stored.status_of.Reads as status-of-reads
+use Rattle.node_step.proofs.stored.progress_of.Reads as progress-of-reads
 use Rattle.node_step.proofs.takes_at.Reads as takes-at-reads
 
--- src/stored.rt:127:9
 returns : tie.Need-returns
-returns c = let a = c .before .args in packed-past (a .rows .now) (a .parents .now) (a .branches .now) (a .signals) (a .st) (a .c) (a .d) (a .whole) (omega arith) (c .if1 .taken)
+returns c = let a = c .before .args in packed-past (a .rows .now) (a .parents .now) (a .inner .now) (a .signals) (a .st) (a .c) (a .d) (a .whole) (omega arith) (c .if1 .taken)
 
--- src/stored.rt:129:9
 row-at-requires : tie.Need-row-at-requires
 row-at-requires c κs = search needs
 
--- src/stored.rt:130:9
 digit-at-requires : tie.Need-digit-at-requires
 digit-at-requires c κs = search needs
 
--- src/stored.rt:131:9
 digit-at-requires-2 : tie.Need-digit-at-requires-2
 digit-at-requires-2 c κs = search needs
 
--- src/stored.rt:132:9
-status-of-requires : tie.Need-status-of-requires
-status-of-requires c κs = search needs
+progress-of-requires : tie.Need-progress-of-requires
+progress-of-requires c κs = search needs
 
--- src/stored.rt:133:8
 takes-at-requires : tie.Need-takes-at-requires
 takes-at-requires c κs = search needs
 
--- src/stored.rt:134:13
 few-of-requires : tie.Need-few-of-requires
 few-of-requires c κs = search needs
 
--- src/stored.rt:135:13
 seek-from-requires : tie.Need-seek-from-requires
 seek-from-requires c κs = search needs
 
--- src/stored.rt:136:9
 moved-packed-requires : tie.Need-moved-packed-requires
 moved-packed-requires c κs = search needs
 
--- src/stored.rt:136:9
 returns-2 : tie.Need-returns-2
-returns-2 c = let a = c .before .before .before .before .before .before .before .before .before .before .args in packed-goes (a .rows .now) (a .parents .now) (a .branches .now) (a .signals) (a .st) (a .c) (a .d) (a .whole) (omega (arith, c .before .before .before .before .before .before .before .before .before .before .good .1 .1 .1 .1 .0)) (c .before .before .before .before .before .before .before .before .before .if1 .left) (c .before .before .before .before .before .before .before .before .row-at .ensures) (c .before .before .before .before .before .before .before .digit-at .ensures) (c .before .before .before .before .before .before .digit-at2 .ensures) (c .before .before .before .before .before .status-of .ensures) (c .before .before .before .before .takes-at .ensures) (c .before .before .before .if2 .taken) (c .before .before .few-of .ensures .0) (c .before .seek-from .ensures) (c .moved-packed .ensures)
+returns-2 c = let a = c .before .before .before .before .before .before .before .before .before .before .args in packed-goes (a .rows .now) (a .parents .now) (a .inner .now) (a .signals) (a .st) (a .c) (a .d) (a .whole) (omega (arith, c .before .before .before .before .before .before .before .before .before .before .good .1 .1 .1 .1 .0)) (c .before .before .before .before .before .before .before .before .before .if1 .left) (c .before .before .before .before .before .before .before .before .row-at .ensures) (c .before .before .before .before .before .before .before .digit-at .ensures) (c .before .before .before .before .before .before .digit-at2 .ensures) (c .before .before .before .before .before .progress-of .ensures) (c .before .before .before .before .takes-at .ensures) (c .before .before .before .if2 .taken) (c .before .before .few-of .ensures .0) (c .before .seek-from .ensures) (c .moved-packed .ensures)
 
--- src/stored.rt:114:1
 returns-3 : tie.Need-returns-3
-returns-3 c = let a = c .before .before .before .before .before .before .before .args in packed-stay (a .rows .now) (a .parents .now) (a .branches .now) (a .signals) (a .st) (a .c) (a .d) (a .whole) (omega arith) (c .before .before .before .before .before .before .if1 .left) (c .before .before .before .before .before .row-at .ensures) (c .before .before .before .before .digit-at .ensures) (c .before .before .before .digit-at2 .ensures) (c .before .before .status-of .ensures) (c .before .takes-at .ensures) (c .if2 .left)
+returns-3 c = let a = c .before .before .before .before .before .before .before .args in packed-stay (a .rows .now) (a .parents .now) (a .inner .now) (a .signals) (a .st) (a .c) (a .d) (a .whole) (omega arith) (c .before .before .before .before .before .before .if1 .left) (c .before .before .before .before .before .row-at .ensures) (c .before .before .before .before .digit-at .ensures) (c .before .before .before .digit-at2 .ensures) (c .before .before .progress-of .ensures) (c .before .takes-at .ensures) (c .if2 .left)
 
 pub step-packed-spec : {M : Type 1} → statement M
 step-packed-spec =
@@ -65,7 +54,7 @@ step-packed-spec =
     row-at-requires
     digit-at-requires
     digit-at-requires-2
-    status-of-requires
+    progress-of-requires
     takes-at-requires
     few-of-requires
     seek-from-requires
