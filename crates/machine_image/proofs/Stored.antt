@@ -15,7 +15,7 @@ use Rattle.resolution.specs.Nodes.{nodes}
 use Rattle.resolution.specs.Symbols.{symbols}
 use Rattle.resolution.specs.Machine.{Machine, blank, machineState, target, signalAt}
 use Rattle.machine_image.specs.Image.{joined, storedSymbols, statusByte, statusBytes, stateBytes, imageOf, symbolCount, stateCount, signalIn, byteIn, targetIn, statusOf, statusIn, stateIn, machineIn}
-use Rattle.machine_image.specs.Refusals.{byteFits, statusFormed}
+use Rattle.machine_image.specs.Refusals.{statusFormed}
 use Rattle.machine_image.specs.Storable.{Storable}
 use Rattle.machine_image.proofs.Joined.{joined-length, joined-at, stored-length, tabulate-entries}
 use Rattle.machine_image.proofs.Statuses.{bytes-length, bytes-at, status-read, status-formed}
@@ -40,31 +40,18 @@ module _ (T : Table) (m : Machine) where
   unfolding imageOf
   image-symbols = refl
 
-<<<<<<< HEAD
   -- the state count, its low byte first
   pub image-low : getD (imageOf T m) (3 * count + 1) 0 ≡ length m % 256
-  image-low = rw image-parts (getD-at front (length m % 256) (length m / 256 ∷ joined stateBytes m) 0 (3 * count + 1) front-length)
-=======
-  pub image-states : stateCount (imageOf T m) ≡ length m
-  image-states = rw image-symbols (omega (arith, low, high))
-    where
-      low : getD (imageOf T m) (3 * count + 1) 0 ≡ length m % 256
-      low = rw image-parts (getD-at front (length m % 256) (length m / 256 ∷ joined (stateBytes (nodes T)) m) 0 (3 * count + 1) front-length)
->>>>>>> b8e7a93 (prototype: held, on the base)
+  image-low = rw image-parts (getD-at front (length m % 256) (length m / 256 ∷ joined (stateBytes (nodes T)) m) 0 (3 * count + 1) front-length)
 
   pub image-high : getD (imageOf T m) (3 * count + 2) 0 ≡ length m / 256
-  image-high = rw (image-parts, place) (getD-append-add front (length m % 256 ∷ length m / 256 ∷ joined stateBytes m) 1 0)
+  image-high = rw (image-parts, place) (getD-append-add front (length m % 256 ∷ length m / 256 ∷ joined (stateBytes (nodes T)) m) 1 0)
     where
       place : 3 * count + 2 ≡ length front + 1
       place = omega (arith, front-length)
 
-<<<<<<< HEAD
   pub image-states : stateCount (imageOf T m) ≡ length m
   image-states = rw image-symbols (omega (arith, image-low, image-high))
-=======
-      high : getD (imageOf T m) (3 * count + 2) 0 ≡ length m / 256
-      high = rw (image-parts, place) (getD-append-add front (length m % 256 ∷ length m / 256 ∷ joined (stateBytes (nodes T)) m) 1 0)
->>>>>>> b8e7a93 (prototype: held, on the base)
 
   -- byte i after the state count
   rows-at : (i : ℕ) → getD (imageOf T m) (3 + 3 * count + i) 0 ≡ getD (joined (stateBytes (nodes T)) m) i 0
@@ -89,13 +76,8 @@ module _ (T : Table) (m : Machine) (ok : Storable T m) where
       )
 
   -- byte k of state j
-<<<<<<< HEAD
-  pub state-byte : (j k : ℕ) → j < length m → k < count T m + 2
-      → getD (imageOf T m) (3 + 3 * count T m + (j * (count T m + 2) + k)) 0 ≡ getD (stateBytes (machineState m j)) k 0
-=======
-  state-byte : (j k : ℕ) → j < length m → k < width
+  pub state-byte : (j k : ℕ) → j < length m → k < width
       → getD (imageOf T m) (3 + 3 * count T m + (j * width + k)) 0 ≡ getD (stateBytes (nodes T) (machineState m j)) k 0
->>>>>>> b8e7a93 (prototype: held, on the base)
   state-byte j k h i =
       rows-at T m (j * width + k)
       ∙ joined-at (stateBytes (nodes T)) width blank m state-width j k h i

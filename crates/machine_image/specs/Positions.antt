@@ -1,14 +1,15 @@
 -- Where everything stands in an image, byte by byte; where a walk of it goes; which images are of right form, and what the
 -- check says of them. proofs/Positions.antt proves each.
-use Prim.Native.Nat.{ℕ, _+_, _*_, _/_, _%_, _^_, _<_}
+use Prim.Native.Nat.{ℕ, _+_, _*_, _/_, _%_, _<_}
 use mathlib.Core.Path.{_≡_}
 use mathlib.Core.Logic.{_≢_}
 use mathlib.Core.Bool.{true, false}
 use mathlib.Core.Option.{Option, none, some}
 use mathlib.Core.List.{List, [], _∷_, _++_, List·Memᴰ}
 use lib.ListN.{length, getD}
+use Rattle.resolution.specs.Names.{Parts}
 use Rattle.resolution.specs.Table.{Urn, Table}
-use Rattle.resolution.specs.Direct.{Open, Shut, start}
+use Rattle.resolution.specs.Direct.{Open, Held, Shut, start}
 use Rattle.resolution.specs.Nodes.{nodes, number}
 use Rattle.resolution.specs.Symbols.{symbols, symbolOf, symbolAt, symbolIndex, stepAt}
 use Rattle.resolution.specs.Machine.{Machine, machineState, target, Accepted, signalAt}
@@ -29,24 +30,26 @@ pub record LayoutLaw (T : Table) (m : Machine) : Type 0 where
   -- the state count, its low byte first
   pub low-byte : getD (imageOf T m) (1 + 3 * length (symbols T)) 0 ≡ length m % 256
   pub high-byte : getD (imageOf T m) (2 + 3 * length (symbols T)) 0 ≡ length m / 256
-  -- state j: its signal, its shut set with bit c for category c, and one target for each symbol
-  pub signal : (j : ℕ) → j < length m → getD (imageOf T m) (3 + 3 * length (symbols T) + j * (length (symbols T) + 2)) 0 ≡ signalAt m j
-  pub open-bit : (j c : ℕ) → j < length m → getD (machineState m j .pair .status) c Open ≡ Open
-      → getD (imageOf T m) (4 + 3 * length (symbols T) + j * (length (symbols T) + 2)) 0 / 2 ^ c % 2 ≡ 0
-  pub shut-bit : (j c : ℕ) → j < length m → getD (machineState m j .pair .status) c Open ≡ Shut
-      → getD (imageOf T m) (4 + 3 * length (symbols T) + j * (length (symbols T) + 2)) 0 / 2 ^ c % 2 ≡ 1
+  -- state j: its signal, one byte for each category (0 open, 1 shut, 1 + n held at node n), and one target for each symbol
+  pub signal : (j : ℕ) → j < length m → getD (imageOf T m) (3 + 3 * length (symbols T) + j * (length (symbols T) + T .cats + 1)) 0 ≡ signalAt m j
+  pub open-byte : (j c : ℕ) → j < length m → c < T .cats → getD (machineState m j .pair .status) c Open ≡ Open
+      → getD (imageOf T m) (4 + 3 * length (symbols T) + j * (length (symbols T) + T .cats + 1) + c) 0 ≡ 0
+  pub shut-byte : (j c : ℕ) → j < length m → c < T .cats → getD (machineState m j .pair .status) c Open ≡ Shut
+      → getD (imageOf T m) (4 + 3 * length (symbols T) + j * (length (symbols T) + T .cats + 1) + c) 0 ≡ 1
+  pub held-byte : (j c : ℕ) → j < length m → c < T .cats → (p : Parts) → getD (machineState m j .pair .status) c Open ≡ Held p
+      → getD (imageOf T m) (4 + 3 * length (symbols T) + j * (length (symbols T) + T .cats + 1) + c) 0 ≡ 1 + number (nodes T) c p
   pub row : (j k : ℕ) → j < length m → k < length (symbols T)
-      → getD (imageOf T m) (5 + 3 * length (symbols T) + j * (length (symbols T) + 2) + k) 0 ≡ target m j k
+      → getD (imageOf T m) (4 + T .cats + 3 * length (symbols T) + j * (length (symbols T) + T .cats + 1) + k) 0 ≡ target m j k
   -- and nothing after the states
-  pub ends : length (imageOf T m) ≡ 3 + 3 * length (symbols T) + length m * (length (symbols T) + 2)
+  pub ends : length (imageOf T m) ≡ 3 + 3 * length (symbols T) + length m * (length (symbols T) + T .cats + 1)
 
 -- the walk of an image begins in state 0; a used URI leads to the target that the present state's row holds for its symbol, a
 -- skipped one changes nothing, and the signal is the state's
 pub record ImageWalkLaw (T : Table) (im : List ℕ) : Type 0 where
   pub at-start : walkIn T im [] ≡ 0
-  pub used : (l : List (Option Urn)) (u : Urn) → walkIn T im (l ++ some u ∷ []) ≡ targetIn im (walkIn T im l) (symbolIndex (symbolOf (nodes T) u) (symbols T))
+  pub used : (l : List (Option Urn)) (u : Urn) → walkIn T im (l ++ some u ∷ []) ≡ targetIn (T .cats) im (walkIn T im l) (symbolIndex (symbolOf (nodes T) u) (symbols T))
   pub skipped : (l : List (Option Urn)) → walkIn T im (l ++ none ∷ []) ≡ walkIn T im l
-  pub signal : (l : List (Option Urn)) → walkSignal T im l ≡ signalIn im (walkIn T im l)
+  pub signal : (l : List (Option Urn)) → walkSignal T im l ≡ signalIn (T .cats) im (walkIn T im l)
 
 -- an image of bytes is of right form exactly if it is the image of a machine of the table's form: the machine in it
 pub record FormLaw (T : Table) (im : List ℕ) : Type 0 where

@@ -30,7 +30,7 @@ use Rattle.node_step.specs.declared.Status.{Status}
 use Rattle.node_step.specs.declared.Status.the-variants.{Open, Held, Shut}
 use Rattle.node_step.specs.declared.State.{State}
 use Rattle.node_step.specs.declared.Hit.{Hit}
-use Rattle.node_step.specs.Step.{codedStatus, progressFrom, coded, few, digit, put, rowAt, parentOf, innerAt, reaches, findRow, noHit, hitAt, seek, extends, statusIn, takes, statusFrom, moved, hitNumbers, stepNumbers}
+use Rattle.node_step.specs.Step.{codedStatus, progressFrom, coded, few, digit, put, rowAt, parentOf, innerAt, reaches, findRow, noHit, hitAt, seek, extends, statusIn, isShut, lastTaken, takesPast, takes, statusFrom, moved, hitNumbers, stepNumbers}
 use Rattle.node_step.specs.Arrays.{pack, numbersFrom, Numbers, InnerIn}
 use Rattle.node_step.proofs.PackedLaws.{pack-digit, pack-set, pack-same}
 use Rattle.node_step.proofs.ProgressLaws.{progress-at, progress-set}
@@ -304,6 +304,7 @@ module _ (rows ps : List ℕ) (inner : List Bool) (n : ℕ) (t : Table) (wf : We
 
   -- the test
   takes-right : (o : direct.Status) → statusFits (nodes t) c here o ≡ true → takes ps (codedStatus (nodes t) c o) (no here) (no d) whole ≡ nodeTakes o here d whole
+  unfolding isShut lastTaken takesPast
   takes-right direct.Open ok = extends-right rows ps n t wf nu c known d ad whole here here-anchor
   takes-right (direct.Held w) ok = extends-right rows ps n t wf nu c known d ad whole w (inr (held-node w ok .0))
   takes-right direct.Shut ok = refl

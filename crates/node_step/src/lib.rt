@@ -4,10 +4,10 @@ pub mod tries;
 pub mod uses;
 
 ghost use mathlib.Core.Path.{_≡_};
-ghost use mathlib.Core.Bool.{_&&_, false};
+ghost use mathlib.Core.Bool.{_&&_};
 ghost use Prim.Native.Nat.{_≤_, _<_};
 ghost use lib.Dec.{eqb};
-ghost use Rattle.node_step.specs.Step.{few, rowAt, digit, put, parentOf, innerAt, reaches, findRow, seek, extends, progressIn, takes, statusFrom, moved, hitNumbers, stepNumbers};
+ghost use Rattle.node_step.specs.Step.{few, rowAt, digit, put, parentOf, innerAt, reaches, findRow, seek, extends, progressIn, isShut, lastTaken, takesPast, statusFrom, moved, hitNumbers, stepNumbers};
 
 // What a category remembers of the URN last taken there: it is open at its place, held at a node, or shut for good.
 pub enum Status {
@@ -208,16 +208,37 @@ pub(crate) fn progress_in(categories: [Progress; 8], c: usize) -> Progress
     categories[c]
 }
 
-// A category with this progress and the place q takes what is said.
-pub(crate) fn takes_at(parents: &[u8; 64], progress: Progress, q: u8, d: u8, whole: bool) -> bool
-    ensures { λ r. ⌜ r ≡ takes (now (parents .entry)) (progress .status) q d whole ⌝ }
+fn is_shut(progress: Progress) -> bool
+    ensures { λ r. ⌜ r ≡ isShut (progress .status) ⌝ }
 {
     let status = progress.status;
     match status {
-        Status::Open => extends_of(parents, q, d, whole),
-        Status::Held(w) => extends_of(parents, w, d, whole),
-        Status::Shut => false,
+        Status::Open => false,
+        Status::Held(_) => false,
+        Status::Shut => true,
     }
+}
+
+// The node of the URN last taken in a category with the place q, or the root.
+pub(crate) fn last_taken(progress: Progress, q: u8) -> u8
+    ensures { λ r. ⌜ r ≡ lastTaken (progress .status) q ⌝ }
+{
+    let status = progress.status;
+    match status {
+        Status::Open => q,
+        Status::Held(w) => w,
+        Status::Shut => q,
+    }
+}
+
+// A category takes what is said: it is not shut, and what is said properly extends the URN last taken there.
+pub(crate) fn takes_at(parents: &[u8; 64], progress: Progress, last: u8, d: u8, whole: bool) -> bool
+    ensures { λ r. ⌜ r ≡ takesPast (now (parents .entry)) (progress .status) last d whole ⌝ }
+{
+    if is_shut(progress) {
+        return false;
+    }
+    extends_of(parents, last, d, whole)
 }
 
 // A category's progress after a signal was found at node p: open if all of what is said was found, else held at d, or shut.
@@ -278,7 +299,8 @@ fn hit_for<'a>(
     let q = digit_at(row, c);
     let categories = st.categories;
     let progress = progress_in(categories, c);
-    if takes_at(parents, progress, q, d, whole) {
+    let last = last_taken(progress, q);
+    if takes_at(parents, progress, last, d, whole) {
         let n = few_of(signals);
         return seek_from(rows, parents, n, row, c, q, d);
     }

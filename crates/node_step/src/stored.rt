@@ -5,6 +5,7 @@ use crate::Status;
 use crate::digit_at;
 use crate::extends_of;
 use crate::few_of;
+use crate::last_taken;
 use crate::progress_from;
 use crate::put_at;
 use crate::row_at;
@@ -106,7 +107,8 @@ pub fn step_packed<'a>(
     let q = digit_at(row, c);
     let b = digit_at(st.statuses, c);
     let progress = progress_of(b);
-    if takes_at(parents, progress, q, d, whole) {
+    let last = last_taken(progress, q);
+    if takes_at(parents, progress, last, d, whole) {
         let n = few_of(signals);
         let h = seek_from(rows, parents, n, row, c, q, d);
         return moved_packed(inner, st, c, b, d, whole, h);

@@ -1,3 +1,4 @@
+use Rattle.node_step.proofs.StepLaws.{takes-last}
 use Rattle.node_step.proofs.PackedStep.{packed-past, packed-stay, packed-goes}
 use native.Mathlib.Omega.{arith}
 use borrow.Author.Needs.{needs}
@@ -28,6 +29,9 @@ digit-at-requires-2 c κs = search needs
 progress-of-requires : tie.Need-progress-of-requires
 progress-of-requires c κs = search needs
 
+last-taken-requires : tie.Need-last-taken-requires
+last-taken-requires c κs = search needs
+
 takes-at-requires : tie.Need-takes-at-requires
 takes-at-requires c κs = search needs
 
@@ -41,10 +45,10 @@ moved-packed-requires : tie.Need-moved-packed-requires
 moved-packed-requires c κs = search needs
 
 returns-2 : tie.Need-returns-2
-returns-2 c = let a = c .before .before .before .before .before .before .before .before .before .before .args in packed-goes (a .rows .now) (a .parents .now) (a .inner .now) (a .signals) (a .st) (a .c) (a .d) (a .whole) (omega (arith, c .before .before .before .before .before .before .before .before .before .before .good .1 .1 .1 .1 .0)) (c .before .before .before .before .before .before .before .before .before .if1 .left) (c .before .before .before .before .before .before .before .before .row-at .ensures) (c .before .before .before .before .before .before .before .digit-at .ensures) (c .before .before .before .before .before .before .digit-at2 .ensures) (c .before .before .before .before .before .progress-of .ensures) (c .before .before .before .before .takes-at .ensures) (c .before .before .before .if2 .taken) (c .before .before .few-of .ensures .0) (c .before .seek-from .ensures) (c .moved-packed .ensures)
+returns-2 c = let a = c .before .before .before .before .before .before .before .before .before .before .before .args in packed-goes (a .rows .now) (a .parents .now) (a .inner .now) (a .signals) (a .st) (a .c) (a .d) (a .whole) (omega (arith, c .before .before .before .before .before .before .before .before .before .before .before .good .1 .1 .1 .1 .0)) (c .before .before .before .before .before .before .before .before .before .before .if1 .left) (c .before .before .before .before .before .before .before .before .before .row-at .ensures) (c .before .before .before .before .before .before .before .before .digit-at .ensures) (c .before .before .before .before .before .before .before .digit-at2 .ensures) (c .before .before .before .before .before .before .progress-of .ensures) (takes-last _ _ _ _ _ (c .before .before .before .before .before .last-taken .ensures) (c .before .before .before .before .takes-at .ensures)) (c .before .before .before .if2 .taken) (c .before .before .few-of .ensures .0) (c .before .seek-from .ensures) (c .moved-packed .ensures)
 
 returns-3 : tie.Need-returns-3
-returns-3 c = let a = c .before .before .before .before .before .before .before .args in packed-stay (a .rows .now) (a .parents .now) (a .inner .now) (a .signals) (a .st) (a .c) (a .d) (a .whole) (omega arith) (c .before .before .before .before .before .before .if1 .left) (c .before .before .before .before .before .row-at .ensures) (c .before .before .before .before .digit-at .ensures) (c .before .before .before .digit-at2 .ensures) (c .before .before .progress-of .ensures) (c .before .takes-at .ensures) (c .if2 .left)
+returns-3 c = let a = c .before .before .before .before .before .before .before .before .args in packed-stay (a .rows .now) (a .parents .now) (a .inner .now) (a .signals) (a .st) (a .c) (a .d) (a .whole) (omega arith) (c .before .before .before .before .before .before .before .if1 .left) (c .before .before .before .before .before .before .row-at .ensures) (c .before .before .before .before .before .digit-at .ensures) (c .before .before .before .before .digit-at2 .ensures) (c .before .before .before .progress-of .ensures) (takes-last _ _ _ _ _ (c .before .before .last-taken .ensures) (c .before .takes-at .ensures)) (c .if2 .left)
 
 pub step-packed-spec : {M : Type 1} → statement M
 step-packed-spec =
@@ -55,6 +59,7 @@ step-packed-spec =
     digit-at-requires
     digit-at-requires-2
     progress-of-requires
+    last-taken-requires
     takes-at-requires
     few-of-requires
     seek-from-requires
