@@ -1,32 +1,121 @@
--- The test of a record says what it is to say, byte by byte.
-use Prim.Native.Nat.{ℕ, zero, suc, _-_, _≤_}
-use mathlib.Core.Path.{_≡_, refl, subst}
-use mathlib.Core.Bool.{true, and-eq-true-iff}
-use mathlib.Core.List.{List, [], _∷_}
-use lib.Dec.{leb, ltb}
-use lib.ListN.{getD}
-use borrow.Author.Tests.{le-leb, ltb-true, ltb-false}
+-- The test of a record: test by test as the code goes, by the arrays of a table, and in words.
+use Prim.Native.Nat.{ℕ, zero, suc, _+_, _≤_, _<_}
+use mathlib.Core.Path.{_≡_, refl, sym, ap, ap₂, _∙_}
+use mathlib.Core.Logic.{inl}
+use mathlib.Core.Bool.{Bool, true, false, cond, _&&_, and-eq-true-iff}
+use mathlib.Core.List.{List}
+use lib.Dec.{eqb, leb, ltb}
+use lib.ListN.{length, getD, List·getD-eq-default}
+use borrow.Author.Tests.{eq-eqb, eqb-true, leb-true, le-leb, lt-leb, lt-ltb, le-ltb, ltb-true, ltb-false}
+use native.Mathlib.Decide.{decLt}
+use native.Mathlib.Numerals.{add-one}
 use native.Mathlib.Omega.{arith}
 use Rattle.alert_urn.proofs.Fields.{byTest}
-use Rattle.carried_record.specs.Record.{mostOf, statusesFit, carriedFits, Fitting, FitsExactly}
-use Rattle.carried_record.proofs.BitLaws.{fit-both, most-in, most-past, fits-to, fits-of}
+use Rattle.resolution.specs.Lists.{all}
+use Rattle.resolution.specs.Table.{Table, WellFormed, place}
+use Rattle.resolution.specs.Nodes.{nodes}
+use Rattle.resolution.proofs.Lists.{all-to, all-of, all-stop}
+use Rattle.node_step.specs.Arrays.{NodesIn, Numbers, InnerIn}
+use Rattle.node_step.specs.StatusByte as node
+use Rattle.machine_image.specs.Refusals.{byteFits}
+use Rattle.machine_image.specs.Positions.{ByteOf}
+use Rattle.machine_image.proofs.Statuses.{byte-told, fits-right}
+use Rattle.carried_record.specs.declared.Carried.{Carried}
+use Rattle.carried_record.specs.Record.{statusFits, carriedFits, Fitting, FitsExactly}
+use Rattle.carried_record.specs.Coded.{statusBy, statusAt, fitsBy, Fits}
 
--- the test of the statuses, byte by byte
-fit-each : (n : ℕ) (l : List ℕ) → statusesFit n l ≡ true → (c : ℕ) → getD l c 0 ≤ mostOf (n - c)
-fit-each n [] e c = omega arith
-fit-each n (b ∷ l) e zero = let f = fit-both n b l e .0 in let z : n ≡ n - 0 = omega arith in subst (λ (k : ℕ). b ≤ mostOf k) z f
-fit-each n (b ∷ l) e (suc c) =
-    let z : n - 1 - c ≡ n - suc c = omega arith in
-    subst (λ (k : ℕ). getD l c 0 ≤ mostOf k) z (fit-each (n - 1) l (fit-both n b l e .1) c)
+-- one category's status, test by test
+module _ (rows ps : List ℕ) (inner : List Bool) (category : List ℕ) (n cats s c b : ℕ) where
+  pub status-listed : {r : Bool} → c < cats → r ≡ node.fitsBy rows ps inner category n s c b → r ≡ statusBy rows ps inner category n cats s c b
+  unfolding statusBy
+  status-listed h e = simp (lt-ltb c cats h) e
 
-each-fit : (n : ℕ) (l : List ℕ) → ((c : ℕ) → getD l c 0 ≤ mostOf (n - c)) → statusesFit n l ≡ true
-unfolding statusesFit
-each-fit n [] h = refl
-each-fit n (b ∷ l) h =
-    let z : n - 0 ≡ n = omega arith in
-    let p = le-leb b (mostOf n) (subst (λ (k : ℕ). b ≤ mostOf k) z (h zero)) in
-    let q = each-fit (n - 1) l (λ c. let y : n - suc c ≡ n - 1 - c = omega arith in subst (λ (k : ℕ). getD l c 0 ≤ mostOf k) y (h (suc c))) in
-    and-eq-true-iff (leb b (mostOf n)) (statusesFit (n - 1) l) .1 (p, q)
+  pub status-lacking : cats ≤ c → eqb b 0 ≡ statusBy rows ps inner category n cats s c b
+  unfolding statusBy
+  status-lacking h = simp (le-ltb c cats h)
+
+-- the loop over them
+module _ (f : ℕ → Bool) (c : ℕ) where
+  pub all-next : {b : Bool} → all c f ≡ true → b ≡ f c → b ≡ true → all (c + 1) f ≡ true
+  unfolding all
+  all-next h e t = rw (add-one c) (and-eq-true-iff (all c f) (f c) .1 (h, sym e ∙ t))
+
+  pub all-fails : {b : Bool} (n : ℕ) → c < n → b ≡ f c → b ≡ false → false ≡ all n f
+  all-fails n h e t = sym (all-stop n f c h (sym e ∙ t))
+
+  pub all-done : (n : ℕ) → c ≤ n → n ≤ c → all c f ≡ true → true ≡ all n f
+  all-done n h k e = let z : c ≡ n = omega arith in sym (ap (λ m. all m f) (sym z) ∙ e)
+
+pub all-none : (f : ℕ → Bool) → all 0 f ≡ true
+unfolding all
+all-none f = refl
+
+-- a record, test by test
+module _ (rows ps : List ℕ) (inner : List Bool) (category : List ℕ) (n signals cats : ℕ) (r : Carried) where
+  pub fits-signal : signals ≤ r .signal → false ≡ fitsBy rows ps inner category n signals cats r
+  unfolding fitsBy
+  fits-signal h = simp (le-ltb (r .signal) signals h)
+
+  module _ (h : r .signal < signals) where
+    pub fits-values : 16 < r .values → false ≡ fitsBy rows ps inner category n signals cats r
+    unfolding fitsBy
+    fits-values k = simp (lt-ltb (r .signal) signals h, lt-leb (r .values) 16 k)
+
+    pub fits-rest : {b : Bool} → r .values ≤ 16 → b ≡ all 8 (statusAt rows ps inner category n cats (r .signal) (r .status)) → b ≡ fitsBy rows ps inner category n signals cats r
+    unfolding fitsBy
+    fits-rest k e = simp (lt-ltb (r .signal) signals h, le-leb (r .values) 16 k) e
+
+all-same : (n : ℕ) (f g : ℕ → Bool) → ((k : ℕ) → k < n → f k ≡ g k) → all n f ≡ all n g
+unfolding all
+all-same zero f g h = refl
+all-same (suc n) f g h = ap₂ _&&_ (all-same n f g (λ k i. h k (omega arith))) (h n (omega arith))
+
+-- by the arrays of a table it is the test of the table
+module _ (t ca pos len : List ℕ) (n : ℕ) (T : Table) (ni : NodesIn t ca pos len n T) (wf : WellFormed T) (rows ps : List ℕ) (signals : ℕ) (nu : Numbers rows ps signals T)
+    (inner : List Bool) (ii : InnerIn inner T) (r : Carried) (wide : length (r .status) ≡ 8) where
+  status-right : r .signal < signals → (c : ℕ) → statusAt rows ps inner ca n (T .cats) (r .signal) (r .status) c ≡ statusFits T r c
+  unfolding statusBy
+  status-right h c = go (decLt c (T .cats))
+    where
+      go : Dec (c < T .cats)
+          → cond (ltb c (T .cats)) (node.fitsBy rows ps inner ca n (r .signal) c (getD (r .status) c 0)) (eqb (getD (r .status) c 0) 0) ≡ statusFits T r c
+      go (yes i) = rw (lt-ltb c (T .cats) i) (fits-right t ca pos len n T ni wf rows ps signals nu inner ii (r .signal) c h i (getD (r .status) c 0))
+      go (no i) = rw (le-ltb c (T .cats) (omega arith))
+
+  pub record-right : fitsBy rows ps inner ca n signals (T .cats) r ≡ carriedFits T r
+  unfolding fitsBy carriedFits
+  record-right =
+      ap (λ z. ltb (r .signal) z && (leb (r .values) 16 && all 8 (statusAt rows ps inner ca n (T .cats) (r .signal) (r .status)))) (sym (nu .all-signals))
+      ∙ go (ltb (r .signal) (length (T .signals))) refl
+    where
+      go : (b : Bool) → ltb (r .signal) (length (T .signals)) ≡ b
+          → (b && (leb (r .values) 16 && all 8 (statusAt rows ps inner ca n (T .cats) (r .signal) (r .status))))
+          ≡ (b && (leb (r .values) 16 && all (length (r .status)) (statusFits T r)))
+      go false e = refl
+      go true e =
+          let h : r .signal < signals = omega (arith, ltb-true (r .signal) (length (T .signals)) e, nu .all-signals) in
+          ap (λ z. leb (r .values) 16 && z)
+          (all-same 8 (statusAt rows ps inner ca n (T .cats) (r .signal) (r .status)) (statusFits T r) (λ c i. status-right h c) ∙ ap (λ m. all m (statusFits T r)) (sym wide))
+
+-- what a record that fits has
+pub fits-to : (T : Table) (r : Carried) → carriedFits T r ≡ true → Fits T r
+unfolding carriedFits
+fits-to T r e =
+    let p = and-eq-true-iff (ltb (r .signal) (length (T .signals))) (leb (r .values) 16 && all (length (r .status)) (statusFits T r)) .0 e in
+    let q = and-eq-true-iff (leb (r .values) 16) (all (length (r .status)) (statusFits T r)) .0 (p .1) in
+    record { signal = ltb-true _ _ (p .0); values = leb-true _ _ (q .0); statuses = all-to (length (r .status)) (statusFits T r) (q .1) }
+
+pub fits-of : (T : Table) (r : Carried) → Fits T r → carriedFits T r ≡ true
+unfolding carriedFits
+fits-of T r f = simp (lt-ltb _ _ (f .signal), le-leb _ _ (f .values)) (all-of (length (r .status)) (statusFits T r) (f .statuses))
+
+-- one category
+module _ (T : Table) (r : Carried) (c : ℕ) where
+  pub fits-known : c < T .cats → statusFits T r c ≡ byteFits (nodes T) c (place T (r .signal) c) (getD (r .status) c 0)
+  fits-known h = rw (lt-ltb c (T .cats) h)
+
+  pub fits-lacking : T .cats ≤ c → statusFits T r c ≡ eqb (getD (r .status) c 0) 0
+  fits-lacking h = rw (le-ltb c (T .cats) h)
 
 pub fits-exactly : FitsExactly
 fits-exactly T r = (to, from)
@@ -34,19 +123,24 @@ fits-exactly T r = (to, from)
     to : carriedFits T r ≡ true → Fitting T r
     to e =
         let f = fits-to T r e in
-        let each = fit-each (T .cats) (r .status) (f .statuses) in
-        record {
-          signal = f .signal;
-          values = f .values;
-          known = λ c h. omega (arith, each c, most-in (T .cats) c h);
-          lacking = λ c h. omega (arith, each c, most-past (T .cats) c h);
-        }
+        record { signal = f .signal; values = f .values; known = λ c h. known f c h (decLt c (length (r .status))); lacking = λ c h. lacking f c h (decLt c (length (r .status))) }
+      where
+        past : (c : ℕ) → length (r .status) ≤ c → getD (r .status) c 0 ≡ 0
+        past c h = List·getD-eq-default (r .status) 0 h
 
-    each : Fitting T r → (c : ℕ) → getD (r .status) c 0 ≤ mostOf (T .cats - c)
-    each f c =
-        byTest (ltb c (T .cats)) (λ q. let h = ltb-true c (T .cats) q in omega (arith, f .known c h, most-in (T .cats) c h))
-        (λ q. let h = ltb-false c (T .cats) q in omega (arith, f .lacking c h, most-past (T .cats) c h))
+        known : Fits T r → (c : ℕ) → c < T .cats → Dec (c < length (r .status)) → ByteOf T c (place T (r .signal) c) (getD (r .status) c 0)
+        known f c h (yes i) = byte-told T c (place T (r .signal) c) (getD (r .status) c 0) .0 (sym (fits-known T r c h) ∙ f .statuses c i)
+        known f c h (no i) = inl (omega (arith, past c (omega arith)))
+
+        lacking : Fits T r → (c : ℕ) → T .cats ≤ c → Dec (c < length (r .status)) → getD (r .status) c 0 ≡ 0
+        lacking f c h (yes i) = eqb-true (getD (r .status) c 0) 0 (sym (fits-lacking T r c h) ∙ f .statuses c i)
+        lacking f c h (no i) = past c (omega arith)
 
     from : Fitting T r → carriedFits T r ≡ true
-    from f =
-        fits-of T r (record { signal = f .signal; values = f .values; statuses = each-fit (T .cats) (r .status) (each f) })
+    from f = fits-of T r (record { signal = f .signal; values = f .values; statuses = λ c h. each c })
+      where
+        each : (c : ℕ) → statusFits T r c ≡ true
+        each c =
+            byTest (ltb c (T .cats))
+            (λ q. let h = ltb-true c (T .cats) q in fits-known T r c h ∙ byte-told T c (place T (r .signal) c) (getD (r .status) c 0) .1 (f .known c h))
+            (λ q. let h = ltb-false c (T .cats) q in fits-lacking T r c h ∙ eq-eqb (getD (r .status) c 0) 0 (f .lacking c h))

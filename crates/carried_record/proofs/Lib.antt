@@ -1,3 +1,3 @@
-pub mod BitLaws
 pub mod FitLaws
+pub mod StateLaws
 pub mod RecordLaws

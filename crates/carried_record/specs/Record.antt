@@ -1,54 +1,46 @@
 -- What is carried between the values of one message: a state of direct resolution as bytes, and how many values there were.
-use Prim.Native.Nat.{ℕ, zero, suc, _+_, _-_, _≤_, _<_}
+use Prim.Native.Nat.{ℕ, zero, suc, _+_, _≤_, _<_}
 use mathlib.Core.Path.{_≡_}
 use mathlib.Core.Logic.{_↔_}
-use mathlib.Core.Bool.{Bool, true, _&&_}
-use mathlib.Core.List.{List, [], _∷_, _++_, map}
-use lib.Dec.{leb, ltb}
-use lib.ListN.{length, getD, take, replicate}
-use Rattle.resolution.specs.Table.{Table}
-use Rattle.resolution.specs.Direct.{Status, Open, Shut, State}
+use mathlib.Core.Bool.{Bool, true, cond, _&&_}
+use mathlib.Core.List.{List, [], _∷_, _++_}
+use lib.Dec.{eqb, leb, ltb}
+use lib.ListN.{length, getD, replicate}
+use Rattle.resolution.specs.Lists.{tabulate, all}
+use Rattle.resolution.specs.Table.{Table, place}
+use Rattle.resolution.specs.Nodes.{nodes}
+use Rattle.resolution.specs.Direct.{Status, Open, State}
+use Rattle.machine_image.specs.Image.{statusByte, statusOf}
+use Rattle.machine_image.specs.Refusals.{byteFits}
+use Rattle.machine_image.specs.Positions.{ByteOf}
 use Rattle.carried_record.specs.declared.Carried.{Carried}
 
--- before the first value: signal 0, nothing shut, no value
+-- before the first value: signal 0, every category open, no value
 abbrev pub fresh : Carried
 fresh = record { signal = 0; status = replicate 8 0; values = 0 }
 
--- a status as a record's byte has it, and back
-abbrev pub byteOf : Status → ℕ
-byteOf Open = 0
-byteOf Shut = 1
+-- a status is a byte as in the image of a machine: that of category c in a record, and in a state; 0 for a category that the
+-- table lacks
+abbrev pub statusIn : Table → Carried → ℕ → Status
+statusIn T r c = statusOf (nodes T) (getD (r .status) c 0)
 
-abbrev pub statusOf : ℕ → Status
-statusOf zero = Open
-statusOf (suc n) = Shut
-
--- a byte for each of k categories; 0 for one that there is not
-abbrev pub statusBytes : List Status → ℕ → List ℕ
-statusBytes st zero = []
-statusBytes [] (suc k) = 0 ∷ statusBytes [] k
-statusBytes (x ∷ st) (suc k) = byteOf x ∷ statusBytes st k
+abbrev pub byteIn : Table → State → ℕ → ℕ
+byteIn T st c = statusByte (nodes T) c (getD (st .status) c Open)
 
 -- the state of direct resolution that a record carries, and a state as it is carried after n values
 abbrev pub stateIn : Table → Carried → State
-stateIn T r = record { signal = r .signal; status = map statusOf (take (T .cats) (r .status)) }
+stateIn T r = record { signal = r .signal; status = tabulate (statusIn T r) (T .cats) }
 
-abbrev pub carriedAs : State → ℕ → Carried
-carriedAs st n = record { signal = st .signal; status = statusBytes (st .status) 8; values = n }
+abbrev pub carriedAs : Table → State → ℕ → Carried
+carriedAs T st n = record { signal = st .signal; status = tabulate (byteIn T st) 8; values = n }
 
--- the largest byte of a category, with n categories of the table from it on: 1, or 0 for one that the table lacks
-abbrev pub mostOf : ℕ → ℕ
-mostOf zero = 0
-mostOf (suc n) = 1
-
--- the bytes of the first n categories are 0 or 1, those after them 0
-unfoldable pub statusesFit : ℕ → List ℕ → Bool
-statusesFit n [] = true
-statusesFit n (b ∷ l) = leb b (mostOf n) && statusesFit (n - 1) l
+-- category c, if it is one of the table, has a byte that it can have in an image at its signal's place, else 0
+abbrev pub statusFits : Table → Carried → ℕ → Bool
+statusFits T r c = cond (ltb c (T .cats)) (byteFits (nodes T) c (place T (r .signal) c) (getD (r .status) c 0)) (eqb (getD (r .status) c 0) 0)
 
 -- unless 28: a signal of the table, at most 16 values, and statuses that fit
 unfoldable pub carriedFits : Table → Carried → Bool
-carriedFits T r = ltb (r .signal) (length (T .signals)) && (leb (r .values) 16 && statusesFit (T .cats) (r .status))
+carriedFits T r = ltb (r .signal) (length (T .signals)) && (leb (r .values) 16 && all (length (r .status)) (statusFits T r))
 
 -- that test, in words
 pub record Fitting (T : Table) (r : Carried) : Type 0 where
@@ -56,9 +48,9 @@ pub record Fitting (T : Table) (r : Carried) : Type 0 where
   pub signal : r .signal < length (T .signals)
   -- it says at most 16 values
   pub values : r .values ≤ 16
-  -- every category of the table is open or shut
-  pub known : (c : ℕ) → c < T .cats → getD (r .status) c 0 ≤ 1
-  -- no category that the table lacks is shut
+  -- every category of the table is open, shut, or held at a node of it that has nodes under it and lies beyond its place
+  pub known : (c : ℕ) → c < T .cats → ByteOf T c (place T (r .signal) c) (getD (r .status) c 0)
+  -- no category that the table lacks is shut or held
   pub lacking : (c : ℕ) → T .cats ≤ c → getD (r .status) c 0 ≡ 0
 
 abbrev pub FitsExactly : Type 0

@@ -1,15 +1,18 @@
 // What is carried between the values of one message: a record by value, and for C its ten bytes.
 //
 // In: a record, any bytes. Out: whether a table can go on from it; the state of direct resolution in it, and back.
+use node_step::Progress;
 use node_step::State;
+use node_step::stored::byte_of;
+use node_step::stored::progress_of;
 ghost use mathlib.Core.Path.{_≡_};
-ghost use Prim.Native.Nat.{_-_};
 ghost use lib.ListN.{length};
-ghost use Rattle.carried_record.specs.Record.{fresh as freshRecord, mostOf, statusesFit, carriedIn, carriedBytes};
-ghost use Rattle.carried_record.specs.Bits.{fitsBy, bitOf, shutBits, stateWith, carriedWith};
+ghost use Rattle.resolution.specs.Lists.{tabulate, all};
+ghost use Rattle.carried_record.specs.Record.{fresh as freshRecord, carriedIn, carriedBytes};
+ghost use Rattle.carried_record.specs.Coded.{statusBy, statusAt, fitsBy, progressAt, byteAt, stateWith, carriedWith};
 
-// The signal, a status for each of 8 categories (0 open, 1 shut), and how many values there were. All zero before the
-// first.
+// The signal, a status for each of 8 categories (0 open, 1 shut, 1 + n held at node n), and how many values there were. All
+// zero before the first.
 pub struct Carried {
     pub signal: u8,
     pub status: [u8; 8],
@@ -27,22 +30,44 @@ pub fn fresh() -> Carried
     }
 }
 
-// The largest status of category c.
-fn most_at(categories: usize, c: usize) -> u8
-    ensures { λ r. ⌜ r ≡ mostOf (categories - c) ⌝ }
+// Category c can have the status b at signal s; one that the table lacks is 0.
+fn status_fits<'a>(
+    rows: &'a [u64; 32],
+    parents: &'a [u8; 64],
+    inner: &'a [bool; 64],
+    category: &'a [u8; 64],
+    nodes: usize,
+    categories: usize,
+    s: u8,
+    c: usize,
+    b: u8,
+) -> bool
+    ensures { λ r. ⌜ r ≡ statusBy (now (rows .entry)) (now (parents .entry)) (now (inner .entry)) (now (category .entry)) nodes categories s c b ⌝ }
 {
-    if c < categories { 1 } else { 0 }
+    if c < categories {
+        return node_step::stored::fits(rows, parents, inner, category, nodes, s, c, b);
+    }
+    b == 0
 }
 
-// Each category of the table is open or shut, and those that it lacks are 0.
-fn statuses_fit(status: &[u8; 8], categories: usize) -> bool
+// Each category has a status that it can have at signal s.
+fn statuses_fit<'a>(
+    rows: &'a [u64; 32],
+    parents: &'a [u8; 64],
+    inner: &'a [bool; 64],
+    category: &'a [u8; 64],
+    nodes: usize,
+    categories: usize,
+    s: u8,
+    status: &[u8; 8],
+) -> bool
     requires { ⌜ length (now status) ≡ 8 ⌝ }
-    ensures { λ r. ⌜ r ≡ statusesFit categories (now (status .entry)) ⌝ }
+    ensures { λ r. ⌜ r ≡ all 8 (statusAt (now (rows .entry)) (now (parents .entry)) (now (inner .entry)) (now (category .entry)) nodes categories s (now (status .entry))) ⌝ }
 {
     let mut c: usize = 0;
     while c < 8 {
-        let most = most_at(categories, c);
-        if most < status[c] {
+        let b = status[c];
+        if !status_fits(rows, parents, inner, category, nodes, categories, s, c, b) {
             return false;
         }
         c += 1;
@@ -50,43 +75,57 @@ fn statuses_fit(status: &[u8; 8], categories: usize) -> bool
     true
 }
 
-// A table with so many signals and categories can go on from this record: it names a signal, and has at most 16 values
-// and statuses that fit.
-pub fn fits(signals: usize, categories: usize, carried: Carried) -> bool
-    ensures says { λ r. ⌜ r ≡ fitsBy signals categories carried ⌝ }
+// A table with these places, parents, inner nodes and categories of nodes, and so many nodes, signals and categories, can go
+// on from this record: it names a signal, and has at most 16 values and statuses that fit.
+pub fn fits<'a>(
+    rows: &'a [u64; 32],
+    parents: &'a [u8; 64],
+    inner: &'a [bool; 64],
+    category: &'a [u8; 64],
+    nodes: usize,
+    signals: usize,
+    categories: usize,
+    carried: Carried,
+) -> bool
+    ensures says { λ r. ⌜ r ≡ fitsBy (now (rows .entry)) (now (parents .entry)) (now (inner .entry)) (now (category .entry)) nodes signals categories carried ⌝ }
     ensures wide { λ _. ⌜ length (carried .status) ≡ 8 ⌝ }
 {
     let status = carried.status;
-    let signal = carried.signal as usize;
+    let s = carried.signal;
+    let signal = s as usize;
     if signals <= signal {
         return false;
     }
     if 16 < carried.values {
         return false;
     }
-    statuses_fit(&status, categories)
+    statuses_fit(
+        rows,
+        parents,
+        inner,
+        category,
+        nodes,
+        categories,
+        s,
+        &status,
+    )
 }
 
-// 1 for a byte other than 0.
-fn bit_of(b: u8) -> u8
-    ensures { λ r. ⌜ r ≡ bitOf b ⌝ }
-{
-    if b == 0 { 0 } else { 1 }
-}
-
-// The shut categories as bits.
-fn shut_of(status: &[u8; 8]) -> u8
+// The progress of each category.
+fn progress_in(status: &[u8; 8]) -> [Progress; 8]
     requires { ⌜ length (now status) ≡ 8 ⌝ }
-    ensures { λ r. ⌜ r ≡ shutBits (now (status .entry)) ⌝ }
+    ensures { λ r. ⌜ r ≡ tabulate (progressAt (now (status .entry))) 8 ⌝ }
 {
-    let mut shut: u8 = 0;
-    let mut c: usize = 8;
-    while 0 < c {
-        c -= 1;
-        let bit = bit_of(status[c]);
-        shut = 2 * shut + bit;
+    let open = progress_of(0);
+    let mut categories = [open; 8];
+    let mut c: usize = 0;
+    while c < 8 {
+        let b = status[c];
+        let progress = progress_of(b);
+        categories[c] = progress;
+        c += 1;
     }
-    shut
+    categories
 }
 
 // The state that a record carries.
@@ -94,25 +133,34 @@ pub fn state(carried: Carried) -> State
     ensures { λ r. ⌜ r ≡ stateWith carried ⌝ }
 {
     let status = carried.status;
-    let shut = shut_of(&status);
+    let categories = progress_in(&status);
     State {
         signal: carried.signal,
-        shut,
+        categories,
     }
+}
+
+// The byte of each category.
+fn bytes_of(categories: [Progress; 8]) -> [u8; 8]
+    ensures { λ r. ⌜ r ≡ tabulate (byteAt categories) 8 ⌝ }
+{
+    let mut status = [0u8; 8];
+    let mut c: usize = 0;
+    while c < 8 {
+        let progress = categories[c];
+        let b = byte_of(progress);
+        status[c] = b;
+        c += 1;
+    }
+    status
 }
 
 // A state as it is carried after so many values.
 pub fn after(st: State, values: u8) -> Carried
     ensures { λ r. ⌜ r ≡ carriedWith st values ⌝ }
 {
-    let a = st.shut / 2;
-    let b = a / 2;
-    let c = b / 2;
-    let d = c / 2;
-    let e = d / 2;
-    let f = e / 2;
-    let g = f / 2;
-    let status = [st.shut % 2, a % 2, b % 2, c % 2, d % 2, e % 2, f % 2, g % 2];
+    let categories = st.categories;
+    let status = bytes_of(categories);
     Carried {
         signal: st.signal,
         status,

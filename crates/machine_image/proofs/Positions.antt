@@ -14,8 +14,9 @@ use Rattle.machine_image.specs.Image.{joined, kindOf, symbolBytes, store
 use Rattle.machine_image.specs.Storable.{Storable}
 use Rattle.machine_image.specs.Refusals.{formOf}
 use Rattle.machine_image.specs.Walk.{stepIn}
-use Rattle.machine_image.specs.Positions.{LayoutLaw, ImageWalkLaw, FormLaw, CheckLaw}
+use Rattle.machine_image.specs.Positions.{LayoutLaw, ByteLaw, ImageWalkLaw, FormLaw, CheckLaw}
 use Rattle.machine_image.proofs.Joined.{joined-at, stored-length}
+use Rattle.machine_image.proofs.Statuses.{byte-told}
 use Rattle.machine_image.proofs.Stored.{image-parts, image-symbols, image-low, image-high, state-byte, image-byte, image-target, image-machine, image-length, image-formed}
 use Rattle.machine_image.proofs.Form.{form-to, form-of}
 use Rattle.machine_image.proofs.Check.{check-of, check-form, check-start, check-rows}
@@ -68,6 +69,9 @@ layout-law T m ok =
     target-at : (j k : ℕ) → j < length m → k < length (symbols T)
         → getD (imageOf T m) (4 + T .cats + 3 * length (symbols T) + j * (length (symbols T) + T .cats + 1) + k) 0 ≡ target m j k
     target-at j k h i = at (omega arith) ∙ counted (λ n. 3 + 3 * n + j * (n + T .cats + 1) + 1 + T .cats + k) ∙ image-target T m ok j k h i
+
+pub byte-law : (T : Table) → ByteLaw T
+byte-law T c p b = byte-told T c p b
 
 pub image-walk-law : (T : Table) (im : List ℕ) → ImageWalkLaw T im
 image-walk-law T im =

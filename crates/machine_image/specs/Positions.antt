@@ -1,21 +1,21 @@
--- Where everything stands in an image, byte by byte; where a walk of it goes; which images are of right form, and what the
--- check says of them. proofs/Positions.antt proves each.
-use Prim.Native.Nat.{ℕ, _+_, _*_, _/_, _%_, _<_}
+-- Where everything stands in an image, byte by byte; which bytes a category can have; where a walk goes; which images are of
+-- right form, and what the check says of them. proofs/Positions.antt proves each.
+use Prim.Native.Nat.{ℕ, _+_, _*_, _/_, _%_, _≤_, _<_}
 use mathlib.Core.Path.{_≡_}
-use mathlib.Core.Logic.{_≢_}
+use mathlib.Core.Logic.{_⊎_, _↔_, _≢_}
 use mathlib.Core.Bool.{true, false}
 use mathlib.Core.Option.{Option, none, some}
 use mathlib.Core.List.{List, [], _∷_, _++_, List·Memᴰ}
 use lib.ListN.{length, getD}
-use Rattle.resolution.specs.Names.{Parts}
+use Rattle.resolution.specs.Names.{Name, Parts}
 use Rattle.resolution.specs.Table.{Urn, Table}
 use Rattle.resolution.specs.Direct.{Open, Held, Shut, start}
-use Rattle.resolution.specs.Nodes.{nodes, number}
+use Rattle.resolution.specs.Nodes.{nodes, isNode, number}
 use Rattle.resolution.specs.Symbols.{symbols, symbolOf, symbolAt, symbolIndex, stepAt}
 use Rattle.resolution.specs.Machine.{Machine, machineState, target, Accepted, signalAt}
 use Rattle.machine_image.specs.Image.{imageOf, stateCount, signalIn, targetIn, machineIn}
 use Rattle.machine_image.specs.Storable.{Storable}
-use Rattle.machine_image.specs.Refusals.{formOf, checkOf}
+use Rattle.machine_image.specs.Refusals.{byteFits, formOf, checkOf}
 use Rattle.machine_image.specs.Walk.{walkIn, walkSignal}
 
 -- of a machine of the table's form
@@ -42,6 +42,21 @@ pub record LayoutLaw (T : Table) (m : Machine) : Type 0 where
       → getD (imageOf T m) (4 + T .cats + 3 * length (symbols T) + j * (length (symbols T) + T .cats + 1) + k) 0 ≡ target m j k
   -- and nothing after the states
   pub ends : length (imageOf T m) ≡ 3 + 3 * length (symbols T) + length m * (length (symbols T) + T .cats + 1)
+
+-- a held category's byte at its place p: 1 + n for a node n of the category that has a node under it and lies properly below p
+pub record HeldByte (T : Table) (c : ℕ) (p : Parts) (b : ℕ) : Type 0 where
+  pub at : Parts
+  pub numbered : b ≡ 1 + number (nodes T) c at
+  pub a-node : isNode (nodes T) c at ≡ true
+  pub goes-on : (x : Name) × (r : Parts) × (isNode (nodes T) c (at ++ x ∷ r) ≡ true)
+  pub beyond : (x : Name) × (r : Parts) × (p ++ x ∷ r ≡ at)
+
+-- the bytes that category c can have there, and the test of them
+abbrev pub ByteOf : Table → ℕ → Parts → ℕ → Type 0
+ByteOf T c p b = (b ≤ 1) ⊎ HeldByte T c p b
+
+abbrev pub ByteLaw : Table → Type 0
+ByteLaw T = (c : ℕ) (p : Parts) (b : ℕ) → byteFits (nodes T) c p b ≡ true ↔ ByteOf T c p b
 
 -- the walk of an image begins in state 0; a used URI leads to the target that the present state's row holds for its symbol, a
 -- skipped one changes nothing, and the signal is the state's

@@ -18,7 +18,7 @@ use Rattle.stored_table.specs.Decoded.{Holds}
 use Rattle.stored_table.specs.declared.Decoded.{Decoded}
 use Rattle.resolver.specs.declared.Resolution.{Resolution}
 use Rattle.resolver.specs.declared.run.Current.{Current}
-use Rattle.resolver.specs.declared.run.Progress.{Progress}
+use Rattle.resolver.specs.declared.run.Point.{Point}
 use Rattle.resolver.specs.declared.run.Outcome.{Outcome}
 use Rattle.resolver.specs.Resolve.{takenAs, refused, answered, unlessRefused}
 use Rattle.resolver.specs.Run.{Machine, after, over, runOf, runFrom, signalNow, answerOf, begin, resolvedFrom}
@@ -51,14 +51,14 @@ module _ (o : Outcome) (s : ℕ) where
   answer-unfit e = simp e
 
   module _ (fits : o .fits ≡ true) where
-    pub answer-many : 64 < o .progress .used + o .progress .skipped → refused 3 ≡ answerOf o s
+    pub answer-many : 64 < o .point .used + o .point .skipped → refused 3 ≡ answerOf o s
     unfolding answerOf
-    answer-many h = simp (fits, lt-ltb 64 (o .progress .used + o .progress .skipped) h)
+    answer-many h = simp (fits, lt-ltb 64 (o .point .used + o .point .skipped) h)
 
-    pub answer-given : o .progress .used + o .progress .skipped ≤ 64
-        → record { refusal = 0; signal = s; used = o .progress .used; skipped = o .progress .skipped } ≡ answerOf o s
+    pub answer-given : o .point .used + o .point .skipped ≤ 64
+        → record { refusal = 0; signal = s; used = o .point .used; skipped = o .point .skipped } ≡ answerOf o s
     unfolding answerOf
-    answer-given h = simp (fits, le-ltb 64 (o .progress .used + o .progress .skipped) h)
+    answer-given h = simp (fits, le-ltb 64 (o .point .used + o .point .skipped) h)
 
 pos-of-ne : {n : ℕ} → (n ≡ 0 → ⊥) → 0 < n
 pos-of-ne {n} h = omega arith
@@ -71,41 +71,27 @@ refused-first t v r {k} e n =
     (λ q. ap (λ b. refused (cond b k (refusalOf v))) q ∙ ap refused e ∙ table-refused t v r (eqb-true (refusalOf v) 0 q) (λ z. n (e ∙ z)))
     (λ q. ap (λ b. refused (cond b k (refusalOf v))) q ∙ value-refused t v r refl (pos-of-ne (eqb-false (refusalOf v) 0 q)))
 
-<<<<<<< HEAD
 -- how a run over a value can end: the value is refused and so is every answer, or it is accepted, the run is at x, and an answer has its counts
 pub data Ended (t v : List ℕ) (x : Current) (o : Outcome) : Type 0 where
   not-taken : (refusalOf v ≡ 0 → ⊥) → ((s : ℕ) → answerOf o s ≡ refused (refusalOf v)) → Ended t v x o
-  taken : refusalOf v ≡ 0 → o .progress .current ≡ x → ((s : ℕ) → answerOf o s ≡ answered t (urisOf v) s) → Ended t v x o
+  taken : refusalOf v ≡ 0 → o .point .current ≡ x → ((s : ℕ) → answerOf o s ≡ answered t (urisOf v) s) → Ended t v x o
 
 module _ (t : List ℕ) (T : Table) (d : Decoded) (h : Holds t T d) (m : Machine) (v : List ℕ) (short : length v ≤ 4096)
     {S : Type 0} (valid : S → Type 0) (f : S → Urn → S) (shown : S → Current) (steps : Steps t T d h m valid f shown) (s : S) (ok : valid s) where
-=======
-module _ (t : List ℕ) (T : Table) (d : Decoded) (h : Holds t T d) (m : Machine) (v : List ℕ) (short : length v ≤ 4096) (formed : tableRefusal t ≡ 0)
-    {S : Type 0} (valid : S → Type 0) (f : S → Urn → S) (shown : S → Current) (steps : Steps t T d h m valid f shown) (s : S) (ok : valid s)
-    (signalOf : S → ℕ) (tells : (s : S) → signalNow (m .categories) (m .image) (shown s) ≡ signalOf s) where
->>>>>>> b8e7a93 (prototype: held, on the base)
   abbrev given : List (List ℕ) → List Urn
   given uris = usedOf (takenAs t uris)
 
   abbrev end : Current
   end = shown (foldl f s (given (urisOf v)))
 
-<<<<<<< HEAD
   -- the run over a reading of the value
   by-reading : (r : Reading) → readingOf v ≡ r → Ended t v end (runOf (begin (shown s)) (over v (after t d m) (begin (shown s)) r))
-=======
-  abbrev ended : Outcome → Resolution
-  ended o = answerOf o (signalNow (m .categories) (m .image) (o .progress .current))
-
-  -- the answer over a reading of the value
-  by-reading : (r : Reading) → readingOf v ≡ r → ended (runOf (begin (shown s)) (over v (after t d m) (begin (shown s)) r)) ≡ unlessRefused t v wanted
->>>>>>> b8e7a93 (prototype: held, on the base)
   unfolding over answerOf
   by-reading unfit e =
       let z = refusal-unfit v short unfit e refl in
       not-taken (λ q. omega arith) (λ n. ap refused (sym z))
   by-reading (spans ps) e =
-      subst (λ (p : Progress). Ended t v end (record { fits = true; progress = p }))
+      subst (λ (p : Point). Ended t v end (record { fits = true; point = p }))
       (sym (run-fold t T d h m valid f shown steps uris s 0 0 ok ∙ from-zero)) counted
     where
       uris : List (List ℕ)
@@ -120,7 +106,7 @@ module _ (t : List ℕ) (T : Table) (d : Decoded) (h : Holds t T d) (m : Machine
       all : used + skipped ≡ length ps
       all = counts-all (takenAs t uris) ∙ length-map uris _ ∙ length-map ps (partOf v)
 
-      last : Progress
+      last : Point
       last = record { current = shown (foldl f s (given uris)); used = used; skipped = skipped }
 
       from-zero : record { current = last .current; used = 0 + used; skipped = 0 + skipped } ≡ last
@@ -129,34 +115,20 @@ module _ (t : List ℕ) (T : Table) (d : Decoded) (h : Holds t T d) (m : Machine
           let b : 0 + skipped ≡ skipped = omega arith in
           ap₂ (λ (x y : ℕ). record { current = last .current; used = x; skipped = y }) a b
 
-      many : 64 < length ps → Ended t v end (record { fits = true; progress = last })
+      many : 64 < length ps → Ended t v end (record { fits = true; point = last })
       many k =
-<<<<<<< HEAD
           let z = refusal-many v short (spans ps) e ps refl k in
           not-taken (λ q. omega arith)
           (λ n. ap (λ b. cond b (refused 3) (record { refusal = 0; signal = n; used = used; skipped = skipped }))
           (lt-ltb 64 (used + skipped) (omega (arith, all))) ∙ ap refused (sym z))
-=======
-          ap (λ b. cond b (refused 3) (record { refusal = 0; signal = signalNow (m .categories) (m .image) (last .current); used = used; skipped = skipped }))
-          (lt-ltb 64 (used + skipped) (omega (arith, all)))
-          ∙ value-refused t v wanted (refusal-many v short (spans ps) e ps refl k) (omega arith)
->>>>>>> b8e7a93 (prototype: held, on the base)
 
-      same : urisOf v ≡ uris → length ps ≤ 64 → Ended t v end (record { fits = true; progress = last })
+      same : urisOf v ≡ uris → length ps ≤ 64 → Ended t v end (record { fits = true; point = last })
       same u k =
-<<<<<<< HEAD
           taken (refusal-none v short (spans ps) e ps refl k) (ap (λ l. shown (foldl f s (given l))) (sym u))
           (λ n. ap (λ b. cond b (refused 3) (record { refusal = 0; signal = n; used = used; skipped = skipped }))
           (le-ltb 64 (used + skipped) (omega (arith, all))) ∙ ap (λ l. answered t l n) (sym u))
-=======
-          ap (λ b. cond b (refused 3) (record { refusal = 0; signal = signalNow (m .categories) (m .image) (last .current); used = used; skipped = skipped }))
-          (le-ltb 64 (used + skipped) (omega (arith, all)))
-          ∙ ap (λ n. record { refusal = 0; signal = n; used = used; skipped = skipped }) (tells (foldl f s (given uris)))
-          ∙ ap (λ l. answered t l (signalOf (foldl f s (given l)))) (sym u)
-          ∙ none-refused t v wanted (refusal-none v short (spans ps) e ps refl k) formed
->>>>>>> b8e7a93 (prototype: held, on the base)
 
-      counted : Ended t v end (record { fits = true; progress = last })
+      counted : Ended t v end (record { fits = true; point = last })
       counted =
           byTest (ltb 64 (length ps)) (λ q. many (ltb-true 64 (length ps) q))
           (λ q. let k : length ps ≤ 64 = ltb-false 64 (length ps) q in same (accepted-uris v short (spans ps) e ps refl k) k)
@@ -166,15 +138,15 @@ module _ (t : List ℕ) (T : Table) (d : Decoded) (h : Holds t T d) (m : Machine
   unfolding runFrom
   run-ends = by-reading (readingFrom v 0) (reading-start v)
 
-  module _ (formed : tableRefusal t ≡ 0) (signalOf : S → ℕ) (tells : (s : S) → signalNow (m .image) (shown s) ≡ signalOf s) where
+  module _ (formed : tableRefusal t ≡ 0) (signalOf : S → ℕ) (tells : (s : S) → signalNow (m .categories) (m .image) (shown s) ≡ signalOf s) where
     abbrev wanted : Resolution
     wanted = answered t (urisOf v) (signalOf (foldl f s (given (urisOf v))))
 
-    by-end : (o : Outcome) → Ended t v end o → answerOf o (signalNow (m .image) (o .progress .current)) ≡ unlessRefused t v wanted
-    by-end o (not-taken n e) = e (signalNow (m .image) (o .progress .current)) ∙ value-refused t v wanted refl (pos-of-ne n)
+    by-end : (o : Outcome) → Ended t v end o → answerOf o (signalNow (m .categories) (m .image) (o .point .current)) ≡ unlessRefused t v wanted
+    by-end o (not-taken n e) = e (signalNow (m .categories) (m .image) (o .point .current)) ∙ value-refused t v wanted refl (pos-of-ne n)
     by-end o (taken z x e) =
-        e (signalNow (m .image) (o .progress .current))
-        ∙ ap (λ y. answered t (urisOf v) (signalNow (m .image) y)) x
+        e (signalNow (m .categories) (m .image) (o .point .current))
+        ∙ ap (λ y. answered t (urisOf v) (signalNow (m .categories) (m .image) y)) x
         ∙ ap (answered t (urisOf v)) (tells (foldl f s (given (urisOf v)))) ∙ none-refused t v wanted z formed
 
     -- the answer
@@ -184,6 +156,6 @@ module _ (t : List ℕ) (T : Table) (d : Decoded) (h : Holds t T d) (m : Machine
 
 -- the answer of a run, its signal and its numbers put together
 pub resolved-steps : (t : List ℕ) (d : Decoded) (m : Machine) (x : Current) (v : List ℕ) {o : Outcome} {s : ℕ} {r : Resolution}
-    → o ≡ runFrom t d m v (begin x) 0 → s ≡ signalNow (m .categories) (m .image) (o .progress .current) → r ≡ answerOf o s → r ≡ resolvedFrom t d m x v
+    → o ≡ runFrom t d m v (begin x) 0 → s ≡ signalNow (m .categories) (m .image) (o .point .current) → r ≡ answerOf o s → r ≡ resolvedFrom t d m x v
 unfolding resolvedFrom
-resolved-steps t d m x v e f g = g ∙ ap (answerOf _) f ∙ ap (λ (o : Outcome). answerOf o (signalNow (m .categories) (m .image) (o .progress .current))) e
+resolved-steps t d m x v e f g = g ∙ ap (answerOf _) f ∙ ap (λ (o : Outcome). answerOf o (signalNow (m .categories) (m .image) (o .point .current))) e

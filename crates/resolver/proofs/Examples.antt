@@ -21,9 +21,5 @@ use Rattle.resolver.specs.Resolve.{plainOf}
 use Rattle.resolver.specs.Examples.{Marked}
 
 pub marked : Marked
-<<<<<<< HEAD
-unfolding isBlank isEscapable isText isToken isUri blankAt endingAt endingStep entryAt followingAt paramAt quoteAt quotedAt quotedFrom quotedStep settingAt tokenAt whiteAt whiteStep readingFrom readingOf refusalOf spansOf urisOf valueStep run runAt walk walkAt all fields labelByte labelOk nameOk onFirst past upTo alertUrn begins bytes bytesFrom restOk lowered noCapital storedName urnOk usedUrn step discover expand tabulate deepest leaf nodes imageOf joined image.bufferOf buildLength buildRefusal andThen byteIn counted stored storedFrom text times any categoryNames distinct fewNodes formed isListed judged judgedRead listed namesRead noTwo plain single tableOf tableRead tableRefusal uses verdict builtFrom bufferFrom plainOf
-=======
-unfolding isBlank isEscapable isText isToken isUri blankAt endingAt endingStep entryAt followingAt paramAt quoteAt quotedAt quotedFrom quotedStep settingAt tokenAt whiteAt whiteStep readingFrom readingOf refusalOf spansOf urisOf valueStep run runAt walk walkAt all fields labelByte labelOk nameOk onFirst past upTo alertUrn begins bytes bytesFrom restOk urnOk usedUrn step discover expand tabulate deepest leaf nodes imageOf joined statusBytes image.bufferOf buildLength buildRefusal andThen byteIn counted stored storedFrom text times any categoryNames distinct fewNodes formed isListed judged judgedRead listed namesRead noTwo plain single tableOf tableRead tableRefusal uses verdict builtFrom bufferFrom plainOf
->>>>>>> b8e7a93 (prototype: held, on the base)
+unfolding isBlank isEscapable isText isToken isUri blankAt endingAt endingStep entryAt followingAt paramAt quoteAt quotedAt quotedFrom quotedStep settingAt tokenAt whiteAt whiteStep readingFrom readingOf refusalOf spansOf urisOf valueStep run runAt walk walkAt all fields labelByte labelOk nameOk onFirst past upTo alertUrn begins bytes bytesFrom restOk lowered noCapital storedName urnOk usedUrn step discover expand tabulate deepest leaf nodes imageOf joined statusBytes image.bufferOf buildLength buildRefusal andThen byteIn counted stored storedFrom text times any categoryNames distinct fewNodes formed isListed judged judgedRead listed namesRead noTwo plain single tableOf tableRead tableRefusal uses verdict builtFrom bufferFrom plainOf
 marked = refl

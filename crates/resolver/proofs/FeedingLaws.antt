@@ -18,9 +18,10 @@ use Rattle.resolution.specs.Direct.{Status, State, start, envOf, step, usedOf, 
 use Rattle.resolution.proofs.Claim.{used-append}
 use Rattle.resolution.proofs.TableStep.{state-start, state-step, state-signal}
 use Rattle.carried_record.specs.declared.Carried.{Carried}
-use Rattle.carried_record.specs.Record.{fresh, statusOf, statusBytes, statusesFit, stateIn, carriedAs}
-use Rattle.carried_record.specs.Bits.{Fits}
-use Rattle.carried_record.proofs.BitLaws.{fits-to, fits-of, status-back, bytes-fit, bytes-length, open-bytes}
+use Rattle.carried_record.specs.Record.{fresh, stateIn, carriedAs}
+use Rattle.carried_record.specs.Coded.{Fits}
+use Rattle.carried_record.proofs.FitLaws.{fits-to, fits-of}
+use Rattle.carried_record.proofs.StateLaws.{as-fits, as-wide, state-again, fresh-is}
 use Rattle.stored_table.specs.Tables.{tableRefusal, tableOf}
 use Rattle.stored_table.proofs.Accepting.{accepted}
 use Rattle.resolver.specs.declared.Fed.{Fed}
@@ -30,7 +31,7 @@ use Rattle.resolver.specs.Feeding.{fedAll, answersTo, allUris, joined, A
 use Rattle.resolver.proofs.AnswerLaws.{none-refused}
 use Rattle.resolver.proofs.Join.{joined-read}
 use Rattle.resolver.proofs.TableLaws.{taken-append}
-use Rattle.resolver.proofs.ReadLaws.{carried-state, feed-full, feed-read}
+use Rattle.resolver.proofs.ReadLaws.{state-run, state-carried, feed-full, feed-read}
 
 -- the state after two lists of URIs
 after-append : (t : List ℕ) (st : State) (a b : List (List ℕ)) → stateAfter t st (a ++ b) ≡ stateAfter t (stateAfter t st a) b
@@ -44,37 +45,25 @@ skipped-append (none ∷ a) b = omega (arith, skipped-append a b)
 skipped-append (some u ∷ a) b = skipped-append a b
 
 module _ (t : List ℕ) (ok : tableRefusal t ≡ 0) where
-  -- a run stays among the table's states
-  state-run : (us : List Urn) (st : State) → StateOf (tableOf t) st → StateOf (tableOf t) (foldl (step (envOf (tableOf t))) st us)
-  state-run [] st g = g
-  state-run (u ∷ us) st g = state-run us (step (envOf (tableOf t)) st u) (state-step (tableOf t) (accepted t ok .well) st u g)
-
   -- a state of the table, carried
+  abbrev carry : State → ℕ → Carried
+  carry = carriedAs (tableOf t)
+
+  few : tableOf t .cats ≤ 8
+  few = accepted t ok .few-categories
+
   module _ (st : State) (g : StateOf (tableOf t) st) where
-    few : length (st .status) ≤ 8
-    few = omega (arith, g .sized, accepted t ok .few-categories)
-
-    as-fits : (n : ℕ) → n ≤ 16 → Fits (tableOf t) (carriedAs st n)
-    as-fits n h =
-        record {
-          signal = state-signal (tableOf t) st g;
-          values = h;
-          statuses = subst (λ (k : ℕ). statusesFit k (statusBytes (st .status) 8) ≡ true) (g .sized) (bytes-fit (st .status) 8);
-        }
-
-    state-again : (n : ℕ) → stateIn (tableOf t) (carriedAs st n) ≡ st
-    state-again n =
-        ap (λ (l : List Status). record { signal = st .signal; status = l })
-        (ap (λ (k : ℕ). map statusOf (take k (statusBytes (st .status) 8))) (sym (g .sized)) ∙ status-back (st .status) 8 few)
+    fit-carried : (n : ℕ) → n ≤ 16 → Fits (tableOf t) (carry st n)
+    fit-carried = as-fits (tableOf t) few st g
 
     -- one value more, read or refused with 1 to 3
-    read-carried : (n : ℕ) (v : List ℕ) → readFrom t (carriedAs st n) v .carried ≡ carriedAs (stateAfter t st (urisOf v)) (n + 1)
+    read-carried : (n : ℕ) (v : List ℕ) → readFrom t (carry st n) v .carried ≡ carry (stateAfter t st (urisOf v)) (n + 1)
     read-carried n v =
         byTest (eqb (refusalOf v) 0)
-        (λ q. ap (λ (b : Bool). cond b (goesOn t (carriedAs st n) v) (onlyCounted (refusalOf v) (carriedAs st n)) .carried) q
-        ∙ ap (λ (x : State). carriedAs (stateAfter t x (urisOf v)) (n + 1)) (state-again n))
-        (λ q. ap (λ (b : Bool). cond b (goesOn t (carriedAs st n) v) (onlyCounted (refusalOf v) (carriedAs st n)) .carried) q
-        ∙ ap (λ l. carriedAs (stateAfter t st l) (n + 1)) (sym (refused-uris v (eqb-false (refusalOf v) 0 q))))
+        (λ q. ap (λ (b : Bool). cond b (goesOn t (carry st n) v) (onlyCounted (refusalOf v) (carry st n)) .carried) q
+        ∙ ap (λ (x : State). carry (stateAfter t x (urisOf v)) (n + 1)) (state-again (tableOf t) few st g n))
+        (λ q. ap (λ (b : Bool). cond b (goesOn t (carry st n) v) (onlyCounted (refusalOf v) (carry st n)) .carried) q
+        ∙ ap (λ l. carry (stateAfter t st l) (n + 1)) (sym (refused-uris v (eqb-false (refusalOf v) 0 q))))
 
   -- a fitting record is read from, unless it has 16 values
   fed-read : (r : Carried) → Fits (tableOf t) r → (v : List ℕ) → (r .values ≡ 16 → ⊥) → feedOf t r v ≡ readFrom t r v
@@ -85,54 +74,54 @@ module _ (t : List ℕ) (ok : tableRefusal t ≡ 0) where
 
   -- from any state of the table
   fed-from : (vs : List (List ℕ)) (st : State) (n : ℕ) → StateOf (tableOf t) st → n ≤ 16
-      → fedAll t (carriedAs st n) vs ≡ carriedAs (stateAfter t st (allUris (take (16 - n) vs))) (min 16 (n + length vs))
+      → fedAll t (carry st n) vs ≡ carry (stateAfter t st (allUris (take (16 - n) vs))) (min 16 (n + length vs))
   fed-from [] st n g h = none-left (16 - n)
     where
-      none-left : (k : ℕ) → carriedAs st n ≡ carriedAs (stateAfter t st (allUris (take k []))) (min 16 (n + 0))
-      none-left zero = let e : n ≡ min 16 (n + 0) = omega arith in ap (carriedAs st) e
-      none-left (suc k) = let e : n ≡ min 16 (n + 0) = omega arith in ap (carriedAs st) e
+      none-left : (k : ℕ) → carry st n ≡ carry (stateAfter t st (allUris (take k []))) (min 16 (n + 0))
+      none-left zero = let e : n ≡ min 16 (n + 0) = omega arith in ap (carry st) e
+      none-left (suc k) = let e : n ≡ min 16 (n + 0) = omega arith in ap (carry st) e
   fed-from (v ∷ vs) st n g h =
       byTest (eqb n 16) (λ q. full (eqb-true n 16 q) (fed-from vs st n g h))
-      (λ q. let m = eqb-false n 16 q in more m (fed-from vs (stateAfter t st (urisOf v)) (n + 1) (state-run (usedOf (takenAs t (urisOf v))) st g) (omega arith)))
+      (λ q. let m = eqb-false n 16 q in more m (fed-from vs (stateAfter t st (urisOf v)) (n + 1) (state-run t ok (usedOf (takenAs t (urisOf v))) st g) (omega arith)))
     where
-      full : n ≡ 16 → fedAll t (carriedAs st n) vs ≡ carriedAs (stateAfter t st (allUris (take (16 - n) vs))) (min 16 (n + length vs))
-          → fedAll t (feedOf t (carriedAs st n) v .carried) vs ≡ carriedAs (stateAfter t st (allUris (take (16 - n) (v ∷ vs)))) (min 16 (n + suc (length vs)))
+      full : n ≡ 16 → fedAll t (carry st n) vs ≡ carry (stateAfter t st (allUris (take (16 - n) vs))) (min 16 (n + length vs))
+          → fedAll t (feedOf t (carry st n) v .carried) vs ≡ carry (stateAfter t st (allUris (take (16 - n) (v ∷ vs)))) (min 16 (n + suc (length vs)))
       full e ih =
           let z : 16 - n ≡ 0 = omega arith in
           let c : min 16 (n + length vs) ≡ min 16 (n + suc (length vs)) = omega arith in
-          ap (λ (x : Fed). fedAll t (x .carried) vs) (fed-full (carriedAs st n) (as-fits st g n h) v e) ∙ ih
-          ∙ ap₂ (λ (k m : ℕ). carriedAs (stateAfter t st (allUris (take k vs))) m) z c
-          ∙ ap (λ (k : ℕ). carriedAs (stateAfter t st (allUris (take k (v ∷ vs)))) (min 16 (n + suc (length vs)))) (sym z)
+          ap (λ (x : Fed). fedAll t (x .carried) vs) (fed-full (carry st n) (fit-carried st g n h) v e) ∙ ih
+          ∙ ap₂ (λ (k m : ℕ). carry (stateAfter t st (allUris (take k vs))) m) z c
+          ∙ ap (λ (k : ℕ). carry (stateAfter t st (allUris (take k (v ∷ vs)))) (min 16 (n + suc (length vs)))) (sym z)
 
       more : (n ≡ 16 → ⊥)
-          → fedAll t (carriedAs (stateAfter t st (urisOf v)) (n + 1)) vs
-          ≡ carriedAs (stateAfter t (stateAfter t st (urisOf v)) (allUris (take (16 - (n + 1)) vs))) (min 16 (n + 1 + length vs))
-          → fedAll t (feedOf t (carriedAs st n) v .carried) vs ≡ carriedAs (stateAfter t st (allUris (take (16 - n) (v ∷ vs)))) (min 16 (n + suc (length vs)))
+          → fedAll t (carry (stateAfter t st (urisOf v)) (n + 1)) vs
+          ≡ carry (stateAfter t (stateAfter t st (urisOf v)) (allUris (take (16 - (n + 1)) vs))) (min 16 (n + 1 + length vs))
+          → fedAll t (feedOf t (carry st n) v .carried) vs ≡ carry (stateAfter t st (allUris (take (16 - n) (v ∷ vs)))) (min 16 (n + suc (length vs)))
       more m ih =
           let z : suc (16 - (n + 1)) ≡ 16 - n = omega arith in
           let c : min 16 (n + 1 + length vs) ≡ min 16 (n + suc (length vs)) = omega arith in
-          ap (λ (x : Fed). fedAll t (x .carried) vs) (fed-read (carriedAs st n) (as-fits st g n h) v m)
+          ap (λ (x : Fed). fedAll t (x .carried) vs) (fed-read (carry st n) (fit-carried st g n h) v m)
           ∙ ap (λ (x : Carried). fedAll t x vs) (read-carried st g n v) ∙ ih
-          ∙ ap₂ carriedAs (sym (after-append t st (urisOf v) (allUris (take (16 - (n + 1)) vs)))) c
-          ∙ ap (λ (k : ℕ). carriedAs (stateAfter t st (allUris (take k (v ∷ vs)))) (min 16 (n + suc (length vs)))) z
+          ∙ ap₂ carry (sym (after-append t st (urisOf v) (allUris (take (16 - (n + 1)) vs)))) c
+          ∙ ap (λ (k : ℕ). carry (stateAfter t st (allUris (take k (v ∷ vs)))) (min 16 (n + suc (length vs)))) z
 
   -- a fresh record is the start, carried
-  fresh-is : fresh ≡ carriedAs (start (tableOf t .cats)) 0
-  fresh-is = ap (λ (l : List ℕ). record { signal = 0; status = l; values = 0 }) (sym (open-bytes (tableOf t .cats) 8))
+  fresh-carried : fresh ≡ carry (start (tableOf t .cats)) 0
+  fresh-carried = fresh-is (tableOf t) few
 
   start-state : StateOf (tableOf t) (start (tableOf t .cats))
   start-state = state-start (tableOf t) (accepted t ok .well)
 
   fresh-fits : Fits (tableOf t) fresh
-  fresh-fits = subst (Fits (tableOf t)) (sym fresh-is) (as-fits (start (tableOf t .cats)) start-state 0 (omega arith))
+  fresh-fits = subst (Fits (tableOf t)) (sym fresh-carried) (fit-carried (start (tableOf t .cats)) start-state 0 (omega arith))
 
   -- feeding keeps a record's form
   pub record Good (r : Carried) : Type 0 where
     pub wide : length (r .status) ≡ 8
     pub fit : Fits (tableOf t) r
 
-  good-as : (st : State) → StateOf (tableOf t) st → (n : ℕ) → n ≤ 16 → Good (carriedAs st n)
-  good-as st g n h = record { wide = bytes-length (st .status) 8; fit = as-fits st g n h }
+  good-as : (st : State) → StateOf (tableOf t) st → (n : ℕ) → n ≤ 16 → Good (carry st n)
+  good-as st g n h = record { wide = as-wide (tableOf t) few st n; fit = fit-carried st g n h }
 
   read-good : (r : Carried) → Good r → (v : List ℕ) → (r .values ≡ 16 → ⊥) → Good (readFrom t r v .carried)
   read-good r g v n = go (eqb (refusalOf v) 0)
@@ -143,7 +132,7 @@ module _ (t : List ℕ) (ok : tableRefusal t ≡ 0) where
       go : (b : Bool) → Good (cond b (goesOn t r v) (onlyCounted (refusalOf v) r) .carried)
       go true =
           good-as (stateAfter t (stateIn (tableOf t) r) (urisOf v))
-          (state-run (usedOf (takenAs t (urisOf v))) (stateIn (tableOf t) r) (carried-state t ok r (g .wide) (g .fit))) (r .values + 1) k
+          (state-run t ok (usedOf (takenAs t (urisOf v))) (stateIn (tableOf t) r) (state-carried t ok r (g .wide) (g .fit))) (r .values + 1) k
       go false = record { wide = g .wide; fit = record { signal = g .fit .signal; values = k; statuses = g .fit .statuses } }
 
   feed-good : (r : Carried) → Good r → (v : List ℕ) → Good (feedOf t r v .carried)
@@ -173,19 +162,19 @@ module _ (t : List ℕ) (ok : tableRefusal t ≡ 0) where
   listed vs = takenAs t (allUris vs)
 
   one-answer : (st : State) → StateOf (tableOf t) st → (n : ℕ) → n < 16 → (v : List ℕ) → refusalOf v ≡ 0
-      → (feedOf t (carriedAs st n) v .answer .used ≡ usedCount (takenAs t (urisOf v))) × (feedOf t (carriedAs st n) v .answer .skipped ≡ skippedCount (takenAs t (urisOf v)))
+      → (feedOf t (carry st n) v .answer .used ≡ usedCount (takenAs t (urisOf v))) × (feedOf t (carry st n) v .answer .skipped ≡ skippedCount (takenAs t (urisOf v)))
   one-answer st g n h v z =
-      let e = fed-read (carriedAs st n) (as-fits st g n (omega arith)) v (λ q. omega arith)
-      ∙ ap (λ (b : Bool). cond b (goesOn t (carriedAs st n) v) (onlyCounted (refusalOf v) (carriedAs st n))) (eq-eqb (refusalOf v) 0 z) in
+      let e = fed-read (carry st n) (fit-carried st g n (omega arith)) v (λ q. omega arith)
+      ∙ ap (λ (b : Bool). cond b (goesOn t (carry st n) v) (onlyCounted (refusalOf v) (carry st n))) (eq-eqb (refusalOf v) 0 z) in
       (ap (λ (x : Fed). x .answer .used) e, ap (λ (x : Fed). x .answer .skipped) e)
 
   sums : (vs : List (List ℕ)) (st : State) (n : ℕ) → StateOf (tableOf t) st → n + length vs ≤ 16 → AllAccepted vs
-      → (allUsed (answersTo t (carriedAs st n) vs) ≡ usedCount (listed vs)) × (allSkipped (answersTo t (carriedAs st n) vs) ≡ skippedCount (listed vs))
+      → (allUsed (answersTo t (carry st n) vs) ≡ usedCount (listed vs)) × (allSkipped (answersTo t (carry st n) vs) ≡ skippedCount (listed vs))
   sums [] st n g h a = (refl, refl)
   sums (v ∷ vs) st n g h (z, a) =
       let o = one-answer st g n (omega arith) v z in
-      let c = ap (λ (x : Fed). x .carried) (fed-read (carriedAs st n) (as-fits st g n (omega arith)) v (λ q. omega arith)) ∙ read-carried st g n v in
-      let s = sums vs (stateAfter t st (urisOf v)) (n + 1) (state-run (usedOf (takenAs t (urisOf v))) st g) (omega arith) a in
+      let c = ap (λ (x : Fed). x .carried) (fed-read (carry st n) (fit-carried st g n (omega arith)) v (λ q. omega arith)) ∙ read-carried st g n v in
+      let s = sums vs (stateAfter t st (urisOf v)) (n + 1) (state-run t ok (usedOf (takenAs t (urisOf v))) st g) (omega arith) a in
       let j = taken-append t (urisOf v) (allUris vs) in (
         ap₂ _+_ (o .0) (ap (λ (x : Carried). allUsed (answersTo t x vs)) c ∙ s .0)
             ∙ sym (ap usedCount j ∙ ap length (used-append (takenAs t (urisOf v)) (listed vs)) ∙ length-append (usedOf (takenAs t (urisOf v))) (usedOf (listed vs))),
@@ -196,8 +185,8 @@ module _ (t : List ℕ) (ok : tableRefusal t ≡ 0) where
 pub ends-direct : (t : List ℕ) → EndsDirect t
 ends-direct t ok vs =
     let c : min 16 (0 + length vs) ≡ min 16 (length vs) = omega arith in
-    ap (λ (r : Carried). fedAll t r vs) (fresh-is t ok) ∙ fed-from t ok vs (start (tableOf t .cats)) 0 (start-state t ok) (omega arith)
-    ∙ ap (carriedAs (stateAfter t (start (tableOf t .cats)) (allUris (take 16 vs)))) c
+    ap (λ (r : Carried). fedAll t r vs) (fresh-carried t ok) ∙ fed-from t ok vs (start (tableOf t .cats)) 0 (start-state t ok) (omega arith)
+    ∙ ap (carriedAs (tableOf t) (stateAfter t (start (tableOf t .cats)) (allUris (take 16 vs)))) c
 
 pub never-refused : (t : List ℕ) → NeverRefused t
 never-refused t ok = (
@@ -212,7 +201,7 @@ joined-alike t ok v vs h a short few =
     let j = joined-read v vs a short few in
     let u = j .1 in
     let n = sums t ok (v ∷ vs) (start (tableOf t .cats)) 0 (start-state t ok) (omega arith) a in
-    let f = fresh-is t ok in
+    let f = fresh-carried t ok in
     let l : take 16 (v ∷ vs) ≡ v ∷ vs = take-all 16 (v ∷ vs) h in
     let e : stateAfter t (start (tableOf t .cats)) (urisOf s) .signal ≡ fedAll t fresh (v ∷ vs) .signal = ap (λ x. stateAfter t (start (tableOf t .cats)) x .signal) (u ∙ ap allUris (sym l))
     ∙ sym (ap (λ (r : Carried). r .signal) (ends-direct t ok (v ∷ vs))) in

@@ -23,7 +23,7 @@ use Rattle.stored_table.specs.Tables.{categoryNames}
 use Rattle.stored_table.specs.Decoded.{Holds}
 use Rattle.stored_table.specs.declared.Decoded.{Decoded}
 use Rattle.resolver.specs.declared.run.Current.{Current}
-use Rattle.resolver.specs.declared.run.Progress.{Progress}
+use Rattle.resolver.specs.declared.run.Point.{Point}
 use Rattle.resolver.specs.Resolve.{takenAs}
 use Rattle.resolver.specs.Run.{Machine, moved, afterUse, after}
 
@@ -58,11 +58,11 @@ module _ (t : List ℕ) (T : Table) (d : Decoded) (h : Holds t T d) (m : Machine
   -- what a run needs of one step: f on the states s of a kind that `shown` shows as the code has them
   pub record Steps {S : Type 0} (valid : S → Type 0) (f : S → Urn → S) (shown : S → Current) : Type 0 where
     pub moves : (s : S) (u : Urn) → valid s → Used T u
-        → moved (d .rows) (d .parent) (d .signals) (d .nodes) m (shown s) (u .cat) (number (nodes T) (u .cat) (deepest (nodes T) (u .cat) (u .path))) (sameParts (deepest (nodes T) (u .cat) (u .path)) (u .path)) ≡ shown (f s u)
+        → moved (d .rows) (d .parent) (d .inner) (d .signals) (d .nodes) m (shown s) (u .cat) (number (nodes T) (u .cat) (deepest (nodes T) (u .cat) (u .path))) (sameParts (deepest (nodes T) (u .cat) (u .path)) (u .path)) ≡ shown (f s u)
     pub stays : (s : S) (u : Urn) → valid s → Used T u → valid (f s u)
 
   module _ {S : Type 0} (valid : S → Type 0) (f : S → Urn → S) (shown : S → Current) (steps : Steps valid f shown) where
-    abbrev at : S → ℕ → ℕ → Progress
+    abbrev at : S → ℕ → ℕ → Point
     at s a b = record { current = shown s; used = a; skipped = b }
 
     -- the run over a list of URIs
@@ -72,7 +72,7 @@ module _ (t : List ℕ) (T : Table) (d : Decoded) (h : Holds t T d) (m : Machine
     unfolding after
     run-fold [] s a b v = let p : a ≡ a + 0 = omega arith in let q : b ≡ b + 0 = omega arith in ap₂ (at s) p q
     run-fold (uri ∷ uris) s a b v =
-        ap (λ u. foldl (after t d m) (afterUse (d .rows) (d .parent) (d .signals) (d .nodes) m (at s a b) u) uris)
+        ap (λ u. foldl (after t d m) (afterUse (d .rows) (d .parent) (d .inner) (d .signals) (d .nodes) m (at s a b) u) uris)
         (uses-right t T (d .«name_at») (d .«name_len») (d .categories) (categoryNames t) (d .category) (d .at) (d .len) (d .nodes) (h .names) (h .nodes) (d .shared) (h .shared) (d .inner) (h .inner) uri)
         ∙ go (usedUrn (categoryNames t) uri) refl (run-fold uris)
       where
@@ -80,7 +80,7 @@ module _ (t : List ℕ) (T : Table) (d : Decoded) (h : Holds t T d) (m : Machine
             → ((s : S) (a b : ℕ) → valid s
             → foldl (after t d m) (at s a b) uris
             ≡ at (foldl f s (usedOf (takenAs t uris))) (a + usedCount (takenAs t uris)) (b + skippedCount (takenAs t uris)))
-            → foldl (after t d m) (afterUse (d .rows) (d .parent) (d .signals) (d .nodes) m (at s a b) (useOf T o)) uris
+            → foldl (after t d m) (afterUse (d .rows) (d .parent) (d .inner) (d .signals) (d .nodes) m (at s a b) (useOf T o)) uris
             ≡ at (foldl f s (usedOf (o ∷ takenAs t uris))) (a + usedCount (o ∷ takenAs t uris)) (b + skippedCount (o ∷ takenAs t uris))
         go none e ih =
             let q : b + 1 + skippedCount (takenAs t uris) ≡ b + suc (skippedCount (takenAs t uris)) = omega arith in

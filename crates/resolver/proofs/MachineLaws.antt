@@ -5,7 +5,7 @@ use mathlib.Core.Bool.{Bool, true, false, cond}
 use mathlib.Core.List.{List}
 use lib.ListN.{length}
 use lib.Dec.{eqb}
-use borrow.Author.Tests.{eq-eqb}
+use borrow.Author.Tests.{eq-eqb, le-leb}
 use Rattle.alert_info.specs.Value.{refusalOf, urisOf}
 use Rattle.alert_urn.proofs.Fields.{byTest}
 use Rattle.resolution.proofs.Claim.{run-used}
@@ -15,35 +15,28 @@ use Rattle.machine_image.specs.Walk.{stepIn}
 use Rattle.stored_table.specs.Tables.{tableRefusal, tableOf}
 use Rattle.stored_table.specs.Decoded.{Holds, Means}
 use Rattle.stored_table.specs.declared.Decoded.{Decoded}
-use Rattle.resolver.specs.declared.run.Current.the-variants.{Walk}
 use Rattle.resolver.specs.Resolve.{takenAs, refused, answered, walkedSignal, unlessRefused, machineOf}
-use Rattle.resolver.specs.Run.{Machine, resolvedFrom}
+use Rattle.resolver.specs.Run.{Walk, Machine, moved, signalNow, resolvedFrom}
 use Rattle.resolver.proofs.FoldLaws.{Steps}
 use Rattle.resolver.proofs.AnswerLaws.{value-refused, refused-first, resolved-right}
-<<<<<<< HEAD
-use Rattle.stored_table.proofs.Accepting.{accepted}
+use Rattle.node_step.specs.StatusByte.{fitsBy}
 use Rattle.node_step.specs.Uses.{fewer}
 use Rattle.signal_table.specs.Listed.{SymbolsIn, tripleLists, symbolsOf, indexFrom}
 use Rattle.signal_table.specs.declared.symbols.Symbols.{Symbols}
-=======
-use Rattle.node_step.specs.Branches.{branchesOf}
-use Rattle.node_step.specs.StatusByte.{fitsBy}
-use Rattle.signal_table.specs.Listed.{SymbolsIn, Index, Listed, tripleLists, fewer}
->>>>>>> b8e7a93 (prototype: held, on the base)
 use Rattle.signal_table.specs.Checks.{formBy}
-use Rattle.signal_table.proofs.TableRight.{table-symbols, table-cats, table-form}
+use Rattle.signal_table.proofs.TableRight.{table-symbols, table-form}
 use Rattle.signal_table.proofs.NumberRight.{number-right}
 
 module _ (t : List ℕ) (d : Decoded) (h : Holds t (tableOf t) d) (m : Machine) (listed : SymbolsIn (tableOf t) (m .symbols) (m .count))
-<<<<<<< HEAD
-    (indexed : m .index ≡ indexFrom (m .symbols) 0 (fewer (m .count) 128)) where
-=======
-    (indexed : Index (m .index) (m .symbols) (fewer (m .count) 128)) (cats : fewer (m .categories) 8 ≡ tableOf t .cats) where
->>>>>>> b8e7a93 (prototype: held, on the base)
+    (indexed : m .index ≡ indexFrom (m .symbols) 0 (fewer (m .count) 128)) (cats : m .categories ≡ d .categories) where
+  all-cats : fewer (m .categories) 8 ≡ tableOf t .cats
+  all-cats = let e = cats ∙ h .categories in ap (λ k. fewer k 8) e ∙ ap (λ b. cond b (tableOf t .cats) 8) (le-leb (tableOf t .cats) 8 (h .numbers .few-cats))
+
   walk-steps : Steps t (tableOf t) d h m (λ j. Unit) (stepIn (tableOf t) (m .image)) Walk
+  unfolding moved
   walk-steps =
       record {
-        moves = λ j u v w. ap₂ (λ c k. Walk (targetIn c (m .image) j k)) cats
+        moves = λ j u v w. ap₂ (λ n k. Walk (targetIn n (m .image) j k)) all-cats
             (number-right t (d .category) (d .at) (d .len) (d .nodes) (tableOf t) (h .nodes) (d .rows) (d .parent) (d .signals) (h .numbers) (h .well-formed)
             (m .symbols) (m .count) listed (m .index) indexed u);
         stays = λ j u v w. tt;
@@ -52,15 +45,10 @@ module _ (t : List ℕ) (d : Decoded) (h : Holds t (tableOf t) d) (m : Machine) 
   -- from state 0, an image of right form: the machine resolver's answer
   pub machine-right : (v : List ℕ) → length v ≤ 4096 → tableRefusal t ≡ 0 → formOf (tableOf t) (m .image) ≡ true
       → resolvedFrom t d m (Walk 0) v ≡ machineOf t (m .image) v
-  unfolding machineOf
+  unfolding machineOf signalNow
   machine-right v short formed right =
-<<<<<<< HEAD
-      resolved-right t (tableOf t) d h m v short (λ j. Unit) (stepIn (tableOf t) (m .image)) Walk walk-steps 0 tt formed (signalIn (m .image)) (λ j. refl)
-      ∙ ap (λ j. unlessRefused t v (answered t (urisOf v) (signalIn (m .image) j))) (sym (run-used (stepIn (tableOf t) (m .image)) 0 (takenAs t (urisOf v))))
-=======
-      resolved-right t (tableOf t) d h m v short formed (λ j. Unit) (stepIn (tableOf t) (m .image)) Walk walk-steps 0 tt (signalIn (tableOf t .cats) (m .image)) (λ j. ap (λ c. signalIn c (m .image) j) cats)
+      resolved-right t (tableOf t) d h m v short (λ j. Unit) (stepIn (tableOf t) (m .image)) Walk walk-steps 0 tt formed (signalIn (tableOf t .cats) (m .image)) (λ j. ap (λ n. signalIn n (m .image) j) all-cats)
       ∙ ap (λ j. unlessRefused t v (answered t (urisOf v) (signalIn (tableOf t .cats) (m .image) j))) (sym (run-used (stepIn (tableOf t) (m .image)) 0 (takenAs t (urisOf v))))
->>>>>>> b8e7a93 (prototype: held, on the base)
       ∙ ap (λ b. unlessRefused t v (cond b (answered t (urisOf v) (walkedSignal t (m .image) (urisOf v))) (refused 15))) (sym right)
 
 -- the answers of the machine resolver's tests
@@ -82,32 +70,11 @@ module _ (t im v : List ℕ) where
       (λ q. simp q)
 
 -- the listed symbols, and the form of an image, of a decoded table
-<<<<<<< HEAD
 module _ (t : List ℕ) (d : Decoded) (means : Means t d) (z : d .refusal ≡ 0) {s : Symbols}
     (listed : s ≡ symbolsOf (tripleLists (d .category) (d .parent) (fewer (d .nodes) 64) (fewer (d .categories) 8))) where
-  well : tableRefusal t ≡ 0
-  well = sym (means .refusal) ∙ z
-
-  held : Holds t (tableOf t) d
-  held = means .holds well
-
   pub symbols-listed : SymbolsIn (tableOf t) (s .bytes) (s .count)
   symbols-listed = table-symbols t d means z s listed
 
-  pub form-listed : (im : List ℕ) {f : Bool} → f ≡ formBy (s .bytes) (s .count) (d .signals) (d .categories) im → f ≡ formOf (tableOf t) im
-  form-listed im e =
-      e ∙ ap (λ k. formBy (s .bytes) (s .count) (d .signals) k im) (held .categories)
-      ∙ form-right (tableOf t) (held .well-formed) (accepted t well .rows) (d .rows) (d .parent) (d .signals) (held .numbers) (s .bytes) (s .count) symbols-listed im
-=======
-module _ (t : List ℕ) (d : Decoded) (means : Means t d) (z : d .refusal ≡ 0) {sy : List ℕ} {n : ℕ}
-    (listed : Listed sy n (tripleLists (d .category) (d .parent) (fewer (d .nodes) 64) (fewer (d .categories) 8))) where
-  pub symbols-listed : SymbolsIn (tableOf t) sy n
-  symbols-listed = table-symbols t d means z sy n listed
-
-  pub cats-listed : fewer (d .categories) 8 ≡ tableOf t .cats
-  cats-listed = table-cats t d means z sy n listed
-
-  pub form-listed : {bs : List Bool} → bs ≡ branchesOf (d .parent) (fewer (d .nodes) 64) → (im : List ℕ) {f : Bool}
-      → f ≡ formBy (fitsBy (d .rows) (d .parent) bs (d .category) (d .nodes)) sy n (d .signals) (d .categories) im → f ≡ formOf (tableOf t) im
-  form-listed b im e = e ∙ table-form t d means z sy n listed b im
->>>>>>> b8e7a93 (prototype: held, on the base)
+  pub form-listed : (im : List ℕ) {f : Bool}
+      → f ≡ formBy (fitsBy (d .rows) (d .parent) (d .inner) (d .category) (d .nodes)) (s .bytes) (s .count) (d .signals) (d .categories) im → f ≡ formOf (tableOf t) im
+  form-listed im e = e ∙ table-form t d means z s listed im

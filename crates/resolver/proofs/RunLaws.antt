@@ -12,48 +12,61 @@ use Rattle.alert_info.specs.declared.alert_param.Span.{Span}
 use Rattle.alert_info.specs.declared.alert_param.Found.{Found}
 use Rattle.alert_info.specs.declared.alert_param.Found.the-variants.{Last, More, None}
 use Rattle.alert_info.proofs.ReadingLaws.{reading-last, reading-more, reading-none}
-use Rattle.node_step.specs.StatusByte.{stepPacked}
-use Rattle.node_step.specs.declared.stored.Packed.{Packed}
+use Rattle.node_step.specs.Step.{stepNumbers}
+use Rattle.node_step.specs.Uses.{fewer}
+use Rattle.node_step.specs.declared.State.{State}
 use Rattle.node_step.specs.declared.uses.Use.{Use}
 use Rattle.node_step.specs.declared.uses.Use.the-variants.{Skipped, Used}
 use Rattle.stored_table.specs.declared.Decoded.{Decoded}
 use Rattle.resolver.specs.declared.run.Current.{Current}
-use Rattle.resolver.specs.declared.run.Current.the-variants.{Direct, Walk}
-use Rattle.resolver.specs.declared.run.Progress.{Progress}
-use Rattle.machine_image.specs.Image.{targetIn}
-use Rattle.signal_table.specs.Listed.{fewer, symbolNumber}
-use Rattle.resolver.specs.Run.{Machine, useIn, moved, afterUse, after, Met, over, runOf}
+use Rattle.resolver.specs.declared.run.Point.{Point}
+use Rattle.machine_image.specs.Image.{signalIn, targetIn}
+use Rattle.signal_table.specs.Listed.{symbolNumber}
+use Rattle.resolver.specs.Run.{Direct, Walk, Machine, useIn, moved, signalNow, afterUse, after, Met, over, runOf}
 use Rattle.resolver.specs.declared.run.Outcome.{Outcome}
 
-module _ (rows parent : List ℕ) (signals nodes : ℕ) (m : Machine) (now : Current) (c k : ℕ) (w : Bool) where
-  pub moved-direct : {st r : Packed} → now ≡ Direct st → r ≡ stepPacked rows parent (m .branches) signals st c k w → Direct r ≡ moved rows parent signals nodes m now c k w
-  moved-direct e q = rw e (ap Direct q)
+module _ (rows parent : List ℕ) (inner : List Bool) (signals nodes : ℕ) (m : Machine) (x : Current) (c k : ℕ) (w : Bool) {y : Current} where
+  pub moved-walk : {r n : ℕ} → x .walks ≡ true → n ≡ symbolNumber (m .index) (m .symbols) (m .count) parent nodes c k w
+      → r ≡ targetIn (fewer (m .categories) 8) (m .image) (x .number) n → y ≡ Walk r → y ≡ moved rows parent inner signals nodes m x c k w
+  unfolding moved
+  moved-walk e f g h = simp e (h ∙ ap Walk (g ∙ ap (targetIn (fewer (m .categories) 8) (m .image) (x .number)) f))
 
-  pub moved-walk : {j r n : ℕ} → now ≡ Walk j → n ≡ symbolNumber (m .index) (m .symbols) (m .count) parent nodes c k w → r ≡ targetIn (fewer (m .categories) 8) (m .image) j n → Walk r ≡ moved rows parent signals nodes m now c k w
-  moved-walk {j} e f g = rw e (ap Walk (g ∙ ap (targetIn (fewer (m .categories) 8) (m .image) j) f))
+  pub moved-direct : {r : State} → x .walks ≡ false → r ≡ stepNumbers rows parent inner signals (x .state) c k w → y ≡ Direct r → y ≡ moved rows parent inner signals nodes m x c k w
+  unfolding moved
+  moved-direct e q h = simp e (h ∙ ap Direct q)
 
-module _ (rows parent : List ℕ) (signals nodes : ℕ) (m : Machine) (p : Progress) (u : Use) where
-  pub after-skipped : u ≡ Skipped → record { current = p .current; used = p .used; skipped = p .skipped + 1 } ≡ afterUse rows parent signals nodes m p u
+-- the signal where a resolver is
+module _ (cats : ℕ) (im : List ℕ) (x : Current) where
+  pub signal-walk : {s : ℕ} → x .walks ≡ true → s ≡ signalIn (fewer cats 8) im (x .number) → s ≡ signalNow cats im x
+  unfolding signalNow
+  signal-walk e g = simp e g
+
+  pub signal-direct : x .walks ≡ false → x .state .signal ≡ signalNow cats im x
+  unfolding signalNow
+  signal-direct e = simp e
+
+module _ (rows parent : List ℕ) (inner : List Bool) (signals nodes : ℕ) (m : Machine) (p : Point) (u : Use) where
+  pub after-skipped : u ≡ Skipped → record { current = p .current; used = p .used; skipped = p .skipped + 1 } ≡ afterUse rows parent inner signals nodes m p u
   after-skipped s = rw s
 
-  pub after-used : {c k n : ℕ} {w : Bool} {r : Current} → u ≡ Used c k w n → r ≡ moved rows parent signals nodes m (p .current) c k w
-      → record { current = r; used = p .used + 1; skipped = p .skipped } ≡ afterUse rows parent signals nodes m p u
+  pub after-used : {c k n : ℕ} {w : Bool} {r : Current} → u ≡ Used c k w n → r ≡ moved rows parent inner signals nodes m (p .current) c k w
+      → record { current = r; used = p .used + 1; skipped = p .skipped } ≡ afterUse rows parent inner signals nodes m p u
   after-used s q = rw s (ap (λ (x : Current). record { current = x; used = p .used + 1; skipped = p .skipped }) q)
 
 -- one URI more, by what it is to the table
-pub after-uri : (t : List ℕ) (d : Decoded) (m : Machine) (p : Progress) (uri : List ℕ) {u : Use} {r : Progress} → u ≡ useIn t d uri
-    → r ≡ afterUse (d .rows) (d .parent) (d .signals) (d .nodes) m p u → r ≡ after t d m p uri
+pub after-uri : (t : List ℕ) (d : Decoded) (m : Machine) (p : Point) (uri : List ℕ) {u : Use} {r : Point} → u ≡ useIn t d uri
+    → r ≡ afterUse (d .rows) (d .parent) (d .inner) (d .signals) (d .nodes) m p u → r ≡ after t d m p uri
 unfolding after
-after-uri t d m p uri e q = q ∙ ap (afterUse (d .rows) (d .parent) (d .signals) (d .nodes) m p) e
+after-uri t d m p uri e q = q ∙ ap (afterUse (d .rows) (d .parent) (d .inner) (d .signals) (d .nodes) m p) e
 
 -- one URI more is counted once
-pub after-counted : (t : List ℕ) (d : Decoded) (m : Machine) (p : Progress) (uri : List ℕ) {r : Progress} → r ≡ after t d m p uri
+pub after-counted : (t : List ℕ) (d : Decoded) (m : Machine) (p : Point) (uri : List ℕ) {r : Point} → r ≡ after t d m p uri
     → r .used + r .skipped ≡ p .used + p .skipped + 1
 unfolding after
-after-counted t d m p uri e = ap (λ (x : Progress). x .used + x .skipped) e ∙ counted (useIn t d uri)
+after-counted t d m p uri e = ap (λ (x : Point). x .used + x .skipped) e ∙ counted (useIn t d uri)
   where
-    by : Use → Progress
-    by = afterUse (d .rows) (d .parent) (d .signals) (d .nodes) m p
+    by : Use → Point
+    by = afterUse (d .rows) (d .parent) (d .inner) (d .signals) (d .nodes) m p
 
     counted : (u : Use) → by u .used + by u .skipped ≡ p .used + p .skipped + 1
     counted Skipped = omega arith
@@ -75,9 +88,9 @@ module _ (v : List ℕ) (at : ℕ) (f : Found) (is : f ≡ entryAt v at) where
   met-none e =
       record { none = λ _. reading-none v at f is e; last = λ z. absurd (true≢false (sym z)); more = λ z. absurd (true≢false (sym z)); inside = omega arith }
 
--- an outcome has the counts of its progress
-pub ended-few : {o : Outcome} {fits : Bool} {p : Progress} {n : ℕ} → o ≡ record { fits = fits; progress = p } → p .used + p .skipped ≤ n
-    → o .progress .used + o .progress .skipped ≤ n
+-- an outcome has the counts of its point
+pub ended-few : {o : Outcome} {fits : Bool} {p : Point} {n : ℕ} → o ≡ record { fits = fits; point = p } → p .used + p .skipped ≤ n
+    → o .point .used + o .point .skipped ≤ n
 ended-few e h = rw e h
 
 over-add : {S : Type 0} (v : List ℕ) (f : S → List ℕ → S) (s : S) (p : Span) (r : Reading) → over v f s (add p r) ≡ over v f (f s (partOf v p)) r
@@ -89,21 +102,21 @@ over-add v f s p (spans ps) = refl
 whole-part : (v : List ℕ) (p : Span) → take (p .start + p .len - p .start) (drop (p .start) v) ≡ partOf v p
 whole-part v p = let e : p .start + p .len - p .start ≡ p .len = omega arith in ap (λ n. take n (drop (p .start) v)) e
 
-module _ (v : List ℕ) (f : Progress → List ℕ → Progress) (from s : Progress) (at : ℕ) (all : Outcome)
+module _ (v : List ℕ) (f : Point → List ℕ → Point) (from s : Point) (at : ℕ) (all : Outcome)
     (inv : all ≡ runOf from (over v f s (readingFrom v at))) where
-  pub run-more : {q : Progress} (p : Span) (r : Reading) → readingFrom v at ≡ add p r
+  pub run-more : {q : Point} (p : Span) (r : Reading) → readingFrom v at ≡ add p r
       → q ≡ f s (take (p .start + p .len - p .start) (drop (p .start) v)) → all ≡ runOf from (over v f q r)
   run-more {q} p r e g =
       inv ∙ ap (λ x. runOf from (over v f s x)) e
       ∙ ap (runOf from) (over-add v f s p r ∙ ap (λ x. over v f x r) (ap (f s) (sym (whole-part v p)) ∙ sym g))
 
-  pub run-last : {q : Progress} (p : Span) → readingFrom v at ≡ spans (p ∷ [])
-      → q ≡ f s (take (p .start + p .len - p .start) (drop (p .start) v)) → record { fits = true; progress = q } ≡ all
+  pub run-last : {q : Point} (p : Span) → readingFrom v at ≡ spans (p ∷ [])
+      → q ≡ f s (take (p .start + p .len - p .start) (drop (p .start) v)) → record { fits = true; point = q } ≡ all
   unfolding over
   run-last {q} p e g =
-      ap (λ (x : Progress). record { fits = true; progress = x }) (g ∙ ap (f s) (whole-part v p))
+      ap (λ (x : Point). record { fits = true; point = x }) (g ∙ ap (f s) (whole-part v p))
       ∙ sym (inv ∙ ap (λ x. runOf from (over v f s x)) e)
 
-  pub run-none : readingFrom v at ≡ unfit → record { fits = false; progress = from } ≡ all
+  pub run-none : readingFrom v at ≡ unfit → record { fits = false; point = from } ≡ all
   unfolding over
   run-none e = sym (inv ∙ ap (λ x. runOf from (over v f s x)) e)

@@ -28,7 +28,7 @@ abbrev pub goesOn : List ℕ → Carried → List ℕ → Fed
 goesOn t r v =
     record {
       answer = answered t (urisOf v) (stateAfter t (stateIn (tableOf t) r) (urisOf v) .signal);
-      carried = carriedAs (stateAfter t (stateIn (tableOf t) r) (urisOf v)) (r .values + 1);
+      carried = carriedAs (tableOf t) (stateAfter t (stateIn (tableOf t) r) (urisOf v)) (r .values + 1);
     }
 
 -- a value that is read: refused with 1 to 3, or accepted

@@ -47,7 +47,7 @@ allUris (v ∷ vs) = urisOf v ++ allUris vs
 -- from a fresh record the end is direct resolution over the accepted ones among the first 16 values, in order
 abbrev pub EndsDirect : List ℕ → Type 0
 EndsDirect t = tableRefusal t ≡ 0 → (vs : List (List ℕ))
-    → fedAll t fresh vs ≡ carriedAs (direct (tableOf t) (usedOf (takenAs t (allUris (take 16 vs))))) (min 16 (length vs))
+    → fedAll t fresh vs ≡ carriedAs (tableOf t) (direct (tableOf t) (usedOf (takenAs t (allUris (take 16 vs))))) (min 16 (length vs))
 
 -- a fresh record is taken, and so is every record that feeding gives to one that was taken: none is refused with 28
 abbrev pub NeverRefused : List ℕ → Type 0

@@ -1,11 +1,11 @@
--- Examples m5 and m8 as three fields of one message, so that the claims about feeding are not empty.
+-- Examples m5 and m8 as three fields of one message and m11 as two, so that the claims about feeding are not empty.
 use Prim.Native.Nat.{ℕ}
 use mathlib.Core.Path.{_≡_}
 use mathlib.Core.List.{List, [], _∷_}
 use lib.ListN.{replicate}
 use Rattle.alert_urn.specs.Urn.{bytes}
 use Rattle.carried_record.specs.Record.{fresh}
-use Rattle.resolver.specs.Examples.{T3}
+use Rattle.resolver.specs.Examples.{T3, T5}
 use Rattle.resolver.specs.Feeding.{fedAll, AllAccepted}
 
 abbrev pub m5fields : List (List ℕ)
@@ -14,11 +14,17 @@ m5fields = bytes " <urn:alert:source:internal>" ∷ bytes "<urn:alert:source:unc
 abbrev pub m8fields : List (List ℕ)
 m8fields = bytes "<urn:alert:priority:low>" ∷ bytes "<urn:alert:source:internal>" ∷ bytes "<urn:alert:source:external>" ∷ []
 
+abbrev recall : List ℕ
+recall = bytes "<urn:alert:service:recall>"
+
 pub record FieldsExample : Type 0 where
   pub all-accepted : AllAccepted m5fields
   -- both categories stay open
   pub high-internal : fedAll T3 fresh m5fields ≡ record { signal = 7; status = replicate 8 0; values = 3 }
   -- the second value shuts the first category
   pub low : fedAll T3 fresh m8fields ≡ record { signal = 3; status = 1 ∷ replicate 7 0; values = 3 }
+  -- T5: a recall is held at its node, the second, and its reason in a later value is still said
+  pub held : fedAll T5 fresh (recall ∷ []) ≡ record { signal = 0; status = 3 ∷ replicate 7 0; values = 1 }
+  pub reason : fedAll T5 fresh (recall ∷ bytes "<urn:alert:service:recall:callback>" ∷ []) ≡ record { signal = 2; status = replicate 8 0; values = 2 }
   -- a refused value is counted
   pub refused : fedAll T3 fresh (bytes "<a>," ∷ []) ≡ record { signal = 0; status = replicate 8 0; values = 1 }

@@ -2,7 +2,7 @@
 use crate::Resolution;
 use crate::run::Current;
 use crate::run::Outcome;
-use crate::run::Progress;
+use crate::run::Point;
 use stored_table::Decoded;
 ghost use mathlib.Core.Path.{_≡_};
 ghost use mathlib.Core.Bool.{cond};
@@ -40,22 +40,23 @@ pub(crate) fn value_first(v: &[u8], k: u8) -> Resolution
 fn signal_in(categories: usize, image: &[u8], current: Current) -> u8
     ensures { λ r. ⌜ r ≡ signalNow categories (now (image .entry)) current ⌝ }
 {
-    match current {
-        Current::Direct(st) => st.signal,
-        Current::Walk(j) => signal_table::image::signal(image, categories, j),
+    if current.walks {
+        return signal_table::image::signal(image, categories, current.number);
     }
+    let st = current.state;
+    st.signal
 }
 
 // The answer at the end of a value.
 pub(crate) fn answer(o: Outcome, signal: u8) -> Resolution
-    requires { ⌜ o .progress .used + o .progress .skipped ≤ 4097 ⌝ }
+    requires { ⌜ o .point .used + o .point .skipped ≤ 4097 ⌝ }
     ensures { λ r. ⌜ r ≡ answerOf o signal ⌝ }
 {
     if !o.fits {
         return refused(2);
     }
-    let used = o.progress.used;
-    let skipped = o.progress.skipped;
+    let used = o.point.used;
+    let skipped = o.point.skipped;
     if 64 < used + skipped {
         return refused(3);
     }
@@ -71,7 +72,6 @@ pub(crate) fn answer(o: Outcome, signal: u8) -> Resolution
 pub(crate) fn resolved(
     t: &[u8],
     d: Decoded,
-    branches: &[bool; 64],
     index: &[u8; 136],
     symbols: &[u8; 384],
     count: usize,
@@ -80,15 +80,15 @@ pub(crate) fn resolved(
     v: &[u8],
 ) -> Resolution
     requires { ⌜ length (now v) ≤ 4096 ⌝ }
-    ensures { λ r. ⌜ r ≡ resolvedFrom (now (t .entry)) d (record { branches = now (branches .entry); index = now (index .entry); symbols = now (symbols .entry); count = count; categories = d .categories; image = now (image .entry) }) from (now (v .entry)) ⌝ }
+    ensures { λ r. ⌜ r ≡ resolvedFrom (now (t .entry)) d (record { index = now (index .entry); symbols = now (symbols .entry); count = count; categories = d .categories; image = now (image .entry) }) from (now (v .entry)) ⌝ }
 {
-    let start = Progress {
+    let start = Point {
         current: from,
         used: 0,
         skipped: 0,
     };
-    let o = crate::run::run(t, d, branches, index, symbols, count, image, start, v);
-    let p = o.progress;
+    let o = crate::run::run(t, d, index, symbols, count, image, start, v);
+    let p = o.point;
     let last = p.current;
     let signal = signal_in(d.categories, image, last);
     answer(o, signal)

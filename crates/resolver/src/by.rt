@@ -2,8 +2,7 @@
 // decodes it once.
 use crate::Resolution;
 use crate::answer;
-use crate::run::Current;
-use node_step::State;
+use crate::run::at_start;
 use stored_table::Decoded;
 ghost use mathlib.Core.Path.{_≡_};
 ghost use Rattle.stored_table.specs.Decoded.{Means};
@@ -19,7 +18,6 @@ pub fn plain(t: &[u8], d: Decoded, v: &[u8]) -> Resolution
     if d.refusal != 0 {
         return answer::value_first(v, d.refusal);
     }
-    let start = State { signal: 0, shut: 0 };
     let no_index = [0u8; 136];
     let no_symbols = [0u8; 384];
     answer::resolved(
@@ -29,7 +27,7 @@ pub fn plain(t: &[u8], d: Decoded, v: &[u8]) -> Resolution
         &no_symbols,
         0,
         t,
-        Current::Direct(start),
+        at_start(),
         v,
     )
 }

@@ -3,10 +3,9 @@ use crate::Fed;
 use crate::Resolution;
 use crate::answer::answer;
 use crate::answer::refused;
-use crate::run::Current;
-use crate::run::Progress;
+use crate::run::Point;
+use crate::run::at_state;
 use carried_record::Carried;
-use node_step::State;
 use stored_table::Decoded;
 ghost use mathlib.Core.Path.{_≡_};
 ghost use Prim.Native.Nat.{_<_};
@@ -14,19 +13,8 @@ ghost use lib.ListN.{length};
 ghost use Rattle.stored_table.specs.Tables.{tableRefusal, tableOf};
 ghost use Rattle.stored_table.specs.Decoded.{Means};
 ghost use Rattle.carried_record.specs.Record.{counted as countedOf};
-ghost use Rattle.carried_record.specs.Bits.{Fits};
+ghost use Rattle.carried_record.specs.Coded.{Fits};
 ghost use Rattle.resolver.specs.Feed.{unchanged as unchangedWith, readFrom};
-ghost use Rattle.resolver.specs.Run.{directIn};
-
-// The state of direct resolution where a resolver is.
-fn direct_in(current: Current) -> State
-    ensures { λ r. ⌜ r ≡ directIn current ⌝ }
-{
-    match current {
-        Current::Direct(st) => st,
-        Current::Walk(j) => State { signal: j, shut: 0 },
-    }
-}
 
 // A refused value changes nothing.
 pub(crate) fn unchanged(k: u8, carried: Carried) -> Fed
@@ -63,17 +51,17 @@ pub(crate) fn read_from(t: &[u8], d: Decoded, carried: Carried, v: &[u8]) -> Fed
         return counted(refused(1), carried);
     }
     let start = carried_record::state(carried);
-    let from = Progress {
-        current: Current::Direct(start),
+    let from = Point {
+        current: at_state(start),
         used: 0,
         skipped: 0,
     };
     let no_index = [0u8; 136];
     let no_symbols = [0u8; 384];
     let o = crate::run::run(t, d, &no_index, &no_symbols, 0, t, from, v);
-    let p = o.progress;
+    let p = o.point;
     let last = p.current;
-    let st = direct_in(last);
+    let st = last.state;
     let a = answer(o, st.signal);
     if a.refusal != 0 {
         return counted(a, carried);

@@ -15,13 +15,8 @@ mod fields;
 mod run;
 
 use crate::answer::refused;
-use crate::run::Current;
-<<<<<<< HEAD
+use crate::run::at_number;
 use carried_record::Carried;
-=======
-use node_step::branches::branches_of;
-use node_step::stored::Packed;
->>>>>>> b8e7a93 (prototype: held, on the base)
 ghost use mathlib.Core.Path.{_≡_};
 ghost use Rattle.resolver.specs.Resolve.{plainOf, machineOf};
 ghost use Rattle.resolver.specs.Feed.{feedOf};
@@ -49,31 +44,7 @@ pub fn plain(t: &[u8], v: &[u8]) -> Resolution
         return refused(1);
     }
     let d = stored_table::decode(t);
-<<<<<<< HEAD
     by::plain(t, d, v)
-=======
-    if d.refusal != 0 {
-        return answer::value_first(v, d.refusal);
-    }
-    let branches = branches_of(&d.parent, d.nodes);
-    let start = Packed {
-        signal: 0,
-        statuses: 0,
-    };
-    let no_index = [0u8; 136];
-    let no_symbols = [0u8; 384];
-    answer::resolved(
-        t,
-        d,
-        &branches,
-        &no_index,
-        &no_symbols,
-        0,
-        t,
-        Current::Direct(start),
-        v,
-    )
->>>>>>> b8e7a93 (prototype: held, on the base)
 }
 
 // The machine resolver: the walk of the image, as it is stored, over the value v with the table t.
@@ -90,13 +61,12 @@ pub fn machine(t: &[u8], image: &[u8], v: &[u8]) -> Resolution
     let categories = d.categories;
     let nodes = d.nodes;
     let signals = d.signals;
-    let branches = branches_of(&d.parent, nodes);
     let s = signal_table::symbols::list(&d.category, &d.parent, nodes, categories);
     let count = s.count;
     if !signal_table::image::formed(
         &d.rows,
         &d.parent,
-        &branches,
+        &d.inner,
         &d.category,
         nodes,
         &s.bytes,
@@ -108,17 +78,7 @@ pub fn machine(t: &[u8], image: &[u8], v: &[u8]) -> Resolution
         return answer::value_first(v, 15);
     }
     let index = signal_table::symbols::index(&s.bytes, count);
-    answer::resolved(
-        t,
-        d,
-        &branches,
-        &index,
-        &s.bytes,
-        count,
-        image,
-        Current::Walk(0),
-        v,
-    )
+    answer::resolved(t, d, &index, &s.bytes, count, image, at_number(0), v)
 }
 
 // One value of a message that has several: direct resolution goes on from what is carried.
@@ -129,7 +89,16 @@ pub fn feed(t: &[u8], carried: Carried, v: &[u8]) -> Fed
     if d.refusal != 0 {
         return fields::unchanged(d.refusal, carried);
     }
-    if !carried_record::fits(d.signals, d.categories, carried) {
+    if !carried_record::fits(
+        &d.rows,
+        &d.parent,
+        &d.inner,
+        &d.category,
+        d.nodes,
+        d.signals,
+        d.categories,
+        carried,
+    ) {
         return fields::unchanged(28, carried);
     }
     if carried.values == 16 {

@@ -2,24 +2,26 @@
 use alert_info::Cursor;
 use alert_info::Found;
 use alert_info::Span;
-use node_step::stored::Packed;
-use node_step::stored::step_packed;
+use node_step::Progress;
+use node_step::State;
+use node_step::Status;
 use node_step::uses::Use;
 use node_step::uses::uses;
 use stored_table::Decoded;
 ghost use mathlib.Core.Path.{_≡_};
 ghost use Prim.Native.Nat.{_+_, _≤_};
 ghost use lib.ListN.{length};
-ghost use Rattle.resolver.specs.Run.{moved, afterUse, Met, runFrom};
+ghost use Rattle.resolver.specs.Run.{startNow, Direct, Walk, moved, afterUse, Met, runFrom};
 
-// Where a resolver is: a state of direct resolution, or a state's number in an image.
-pub enum Current {
-    Direct(Packed),
-    Walk(u8),
+// Where a resolver is: a state of direct resolution or, if it walks, a state's number in an image.
+pub struct Current {
+    pub walks: bool,
+    pub number: u8,
+    pub state: State,
 }
 
 // Where a resolver is after some entries, with the numbers of used and skipped ones.
-pub struct Progress {
+pub struct Point {
     pub current: Current,
     pub used: usize,
     pub skipped: usize,
@@ -28,20 +30,62 @@ pub struct Progress {
 // A whole value: whether it fits the grammar, and where the resolver is at its end.
 pub struct Outcome {
     pub fits: bool,
-    pub progress: Progress,
+    pub point: Point,
 }
 
-fn ended(fits: bool, progress: Progress) -> Outcome
-    ensures { λ r. ⌜ r ≡ record { fits = fits; progress = progress } ⌝ }
+// Signal 0, and every category open.
+fn start() -> State
+    ensures { λ r. ⌜ r ≡ startNow ⌝ }
 {
-    Outcome { fits, progress }
+    let open = Progress {
+        status: Status::Open,
+    };
+    State {
+        signal: 0,
+        categories: [open; 8],
+    }
+}
+
+// At a state of direct resolution.
+pub(crate) fn at_state(state: State) -> Current
+    ensures { λ r. ⌜ r ≡ Direct state ⌝ }
+{
+    Current {
+        walks: false,
+        number: 0,
+        state,
+    }
+}
+
+// At the start of direct resolution.
+pub(crate) fn at_start() -> Current
+    ensures { λ r. ⌜ r ≡ Direct startNow ⌝ }
+{
+    at_state(start())
+}
+
+// At a state of an image.
+pub(crate) fn at_number(number: u8) -> Current
+    ensures { λ r. ⌜ r ≡ Walk number ⌝ }
+{
+    Current {
+        walks: true,
+        number,
+        state: start(),
+    }
+}
+
+fn ended(fits: bool, point: Point) -> Outcome
+    ensures { λ r. ⌜ r ≡ record { fits = fits; point = point } ⌝ }
+{
+    Outcome { fits, point }
 }
 
 // A used URN takes direct resolution one step on, or the walk to the target that the state's row holds for its symbol.
 fn moved_by<'a>(
     rows: &'a [u64; 32],
     parent: &'a [u8; 64],
-    branches: &'a [bool; 64],
+    inner: &'a [bool; 64],
     signals: usize,
     nodes: usize,
     index: &[u8; 136],
@@ -55,27 +99,27 @@ fn moved_by<'a>(
     w: bool,
 ) -> Current
     ensures { λ r. ⌜
-        r ≡ moved (now (rows .entry)) (now (parent .entry)) signals nodes
-        (record { branches = now (branches .entry); index = now (index .entry); symbols = now (symbols .entry); count = count; categories = categories; image = now (image .entry) }) current c k w
+        r ≡ moved (now (rows .entry)) (now (parent .entry)) (now (inner .entry)) signals nodes
+        (record { index = now (index .entry); symbols = now (symbols .entry); count = count; categories = categories; image = now (image .entry) }) current c k w
         ⌝ }
 {
-    match current {
-        Current::Direct(st) => {
-            let category = c as usize;
-            Current::Direct(step_packed(rows, parent, branches, signals, st, category, k, w))
-        }
-        Current::Walk(j) => {
-            let n = signal_table::symbols::number(index, symbols, count, parent, nodes, c, k, w);
-            Current::Walk(signal_table::image::target(image, categories, j, n))
-        }
+    if current.walks {
+        let n = signal_table::symbols::number(index, symbols, count, parent, nodes, c, k, w);
+        let number = signal_table::image::target(image, categories, current.number, n);
+        return at_number(number);
     }
+    let category = c as usize;
+    let st = current.state;
+    at_state(node_step::step(
+        rows, parent, inner, signals, st, category, k, w,
+    ))
 }
 
 // One URI more, by what it is to the table.
 fn taken<'a>(
     rows: &'a [u64; 32],
     parent: &'a [u8; 64],
-    branches: &'a [bool; 64],
+    inner: &'a [bool; 64],
     signals: usize,
     nodes: usize,
     index: &[u8; 136],
@@ -83,18 +127,18 @@ fn taken<'a>(
     count: usize,
     categories: usize,
     image: &[u8],
-    p: Progress,
+    p: Point,
     u: Use,
-) -> Progress
+) -> Point
     requires { ⌜ p .used + p .skipped ≤ 4096 ⌝ }
     ensures { λ r. ⌜
-        r ≡ afterUse (now (rows .entry)) (now (parent .entry)) signals nodes
-        (record { branches = now (branches .entry); index = now (index .entry); symbols = now (symbols .entry); count = count; categories = categories; image = now (image .entry) }) p u
+        r ≡ afterUse (now (rows .entry)) (now (parent .entry)) (now (inner .entry)) signals nodes
+        (record { index = now (index .entry); symbols = now (symbols .entry); count = count; categories = categories; image = now (image .entry) }) p u
         ⌝ }
 {
     let current = p.current;
     match u {
-        Use::Skipped => Progress {
+        Use::Skipped => Point {
             current,
             used: p.used,
             skipped: p.skipped + 1,
@@ -108,7 +152,7 @@ fn taken<'a>(
             let next = moved_by(
                 rows,
                 parent,
-                branches,
+                inner,
                 signals,
                 nodes,
                 index,
@@ -121,7 +165,7 @@ fn taken<'a>(
                 k,
                 w,
             );
-            Progress {
+            Point {
                 current: next,
                 used: p.used + 1,
                 skipped: p.skipped,
@@ -170,17 +214,16 @@ fn entry_at(v: &[u8], at: usize) -> Entry
 pub(crate) fn run(
     t: &[u8],
     d: Decoded,
-    branches: &[bool; 64],
     index: &[u8; 136],
     symbols: &[u8; 384],
     count: usize,
     image: &[u8],
-    from: Progress,
+    from: Point,
     v: &[u8],
 ) -> Outcome
     requires { ⌜ (length (now v) ≤ 4096) × (from .used + from .skipped ≡ 0) ⌝ }
-    ensures ends { λ r. ⌜ r ≡ runFrom (now (t .entry)) d (record { branches = now (branches .entry); index = now (index .entry); symbols = now (symbols .entry); count = count; categories = d .categories; image = now (image .entry) }) (now (v .entry)) from 0 ⌝ }
-    ensures few { λ r. ⌜ r .progress .used + r .progress .skipped ≤ 4097 ⌝ }
+    ensures ends { λ r. ⌜ r ≡ runFrom (now (t .entry)) d (record { index = now (index .entry); symbols = now (symbols .entry); count = count; categories = d .categories; image = now (image .entry) }) (now (v .entry)) from 0 ⌝ }
+    ensures few { λ r. ⌜ r .point .used + r .point .skipped ≤ 4097 ⌝ }
 {
     let mut at = 0;
     let mut p = from;
@@ -207,7 +250,7 @@ pub(crate) fn run(
         p = taken(
             &d.rows,
             &d.parent,
-            branches,
+            &d.inner,
             d.signals,
             d.nodes,
             index,

@@ -6,9 +6,10 @@ use mathlib.Core.List.{List, [], _∷_, _++_, map, append-assoc, append-nil}
 use lib.Dec.{eqb, ltb}
 use borrow.Author.Tests.{ltb-false}
 use lib.ListN.{length, getD, take, replicate, length-map}
-use lib.Seq.{take-all}
+use lib.Seq.{take-all, length-take-le, getD-take}
 use native.Mathlib.Omega.{arith}
 use native.Mathlib.Nat.{zero-add}
+use Rattle.resolution.specs.Lists.{tabulate}
 use Rattle.resolution.specs.Table.{Table, WellFormed}
 use Rattle.resolution.specs.Direct.{start, sameState, StateOf}
 use Rattle.resolution.specs.Direct as direct
@@ -18,26 +19,21 @@ use Rattle.resolution.specs.Machine.{MachineState}
 use Rattle.resolution.specs.Build.{discovered}
 use Rattle.resolution.proofs.Lists.{mem-at}
 use Rattle.resolution.specs.Nodes.{nodes}
-use Rattle.node_step.specs.Arrays.{Numbers, BranchesIn}
+use Rattle.node_step.specs.Arrays.{Numbers, InnerIn}
 use Rattle.node_step.specs.Step.{digit, coded}
 use Rattle.node_step.specs.StatusByte.{byteOf}
 use Rattle.node_step.specs.declared.stored.Packed.{Packed}
 use Rattle.node_step.proofs.ByteLaws.{packed-digit}
 use Rattle.node_step.proofs.Both.{coded-at}
-use Rattle.machine_image.specs.Image.{joined, statusByte, statusBytes, stateBytes, imageOf, machineImage}
+use Rattle.machine_image.specs.Image.{joined, storedSymbols, statusByte, statusBytes, stateBytes, imageOf, machineImage}
 use Rattle.machine_image.proofs.Joined.{tabulate-entries}
 use Rattle.machine_image.proofs.Statuses.{bytes-length, bytes-at, status-coded}
 use Rattle.machine_image.specs.Refusals.{buildRefusal, buildLength, bufferOf}
 use Rattle.machine_image.proofs.Build.{own-length}
 use Rattle.signal_table.specs.Built.{refused, accepted, builtOf}
 use Rattle.signal_table.specs.Listed.{SymbolsIn}
-<<<<<<< HEAD
-use Rattle.signal_table.specs.States.{nextPair, found, bytesOf, statesBytes, imageBy, sizeBy, builtBy, bufferBy}
-use Rattle.signal_table.proofs.PairsRight.{code, of-code, found-code, all-found, targets-found}
-=======
-use Rattle.signal_table.specs.States.{begin, nextState, found, pairBytes, bytesOf, rowsBytes, imageBy, sizeBy, builtBy, bufferBy}
+use Rattle.signal_table.specs.States.{begin, nextState, symbolByte, headBytes, found, pairBytes, bytesOf, statesBytes, imageBy, sizeBy, builtBy, bufferBy}
 use Rattle.signal_table.proofs.PairsRight.{code, found-code, all-found, targets-found}
->>>>>>> b8e7a93 (prototype: held, on the base)
 
 joined-last : {A : Type 0} (f : A → List ℕ) (l : List A) (x : A) → joined f (l ++ x ∷ []) ≡ joined f l ++ f x
 unfolding joined
@@ -66,9 +62,9 @@ pair-right T eight few st g =
     ∙ sym (bytes-at (nodes T) 0 (st .status) c (omega (arith, g .sized)) ∙ ap (λ z. statusByte (nodes T) z (getD (st .status) c direct.Open)) (zero-add c))))
 
 module _ (T : Table) (wf : WellFormed T) (rows ps : List ℕ) (signals : ℕ) (nu : Numbers rows ps signals T) (sy : List ℕ) (count : ℕ) (si : SymbolsIn T sy count)
-    (bs : List Bool) (br : BranchesIn bs T) where
+    (inner : List Bool) (ii : InnerIn inner T) where
   abbrev next : Packed → ℕ → Packed
-  next = nextState rows ps bs signals sy
+  next = nextState rows ps inner signals sy
 
   abbrev first : direct.State
   first = start (T .cats)
@@ -79,54 +75,39 @@ module _ (T : Table) (wf : WellFormed T) (rows ps : List ℕ) (signals : ℕ) (n
   abbrev made : direct.State → MachineState
   made st = record { pair = st; row = targets sameState (stepAt T) (length (symbols T)) states st }
 
-<<<<<<< HEAD
-  row-right : (st : direct.State) → StateOf T st → bytesOf next count (map code states) (code st) ≡ stateBytes (made st)
-  unfolding bytesOf
-=======
   row-right : (st : direct.State) → StateOf T st → bytesOf next (T .cats) count (map (code T) states) (code T st) ≡ stateBytes (nodes T) (made st)
->>>>>>> b8e7a93 (prototype: held, on the base)
+  unfolding bytesOf
   row-right st g =
       ap₂ (λ x y. x ++ y) (pair-right T (nu .few-cats) (nu .few-nodes) st g)
-      (targets-found T wf rows ps signals nu sy count si bs br states st g (all-found T wf rows ps signals nu sy count si bs br 256))
+      (targets-found T wf rows ps signals nu sy count si inner ii states st g (all-found T wf rows ps signals nu sy count si inner ii 256))
 
-<<<<<<< HEAD
-  rows-right : (i : ℕ) → i ≤ length states → statesBytes next count (map code states) i ≡ joined stateBytes (map made (take i states))
+  rows-right : (i : ℕ) → i ≤ length states → statesBytes next (T .cats) count (map (code T) states) i ≡ joined (stateBytes (nodes T)) (map made (take i states))
   unfolding statesBytes joined
   rows-right zero h = refl
   rows-right (suc i) h =
       ap₂ _++_ (rows-right i (omega arith))
-      (ap (bytesOf next count (map code states)) (map-at code states i begin h)
-      ∙ row-right (getD states i begin) (all-found T wf rows ps signals nu sy count si 256 (getD states i begin) (mem-at states i begin h)))
-      ∙ sym (joined-last stateBytes (map made (take i states)) (made (getD states i begin)))
-      ∙ ap (joined stateBytes) (sym (map-take made states i begin h))
-=======
-  rows-right : (i : ℕ) → i ≤ length states → rowsBytes next (T .cats) count (map (code T) states) i ≡ joined (stateBytes (nodes T)) (map made (take i states))
-  unfolding rowsBytes joined
-  rows-right zero h = refl
-  rows-right (suc i) h =
-      ap₂ _++_ (rows-right i (omega arith))
       (ap (bytesOf next (T .cats) count (map (code T) states)) (map-at (code T) states i first begin h)
-      ∙ row-right (getD states i first) (all-found T wf rows ps signals nu sy count si bs br 256 (getD states i first) (mem-at states i first h)))
+      ∙ row-right (getD states i first) (all-found T wf rows ps signals nu sy count si inner ii 256 (getD states i first) (mem-at states i first h)))
       ∙ sym (joined-last (stateBytes (nodes T)) (map made (take i states)) (made (getD states i first)))
       ∙ ap (joined (stateBytes (nodes T))) (sym (map-take made states i first h))
->>>>>>> b8e7a93 (prototype: held, on the base)
 
   found-length : length (found next count 256) ≡ length states
-  found-length = ap length (found-code T wf rows ps signals nu sy count si bs br 256) ∙ length-map states (code T)
+  found-length = ap length (found-code T wf rows ps signals nu sy count si inner ii 256) ∙ length-map states (code T)
+
+  -- the symbols' bytes
+  symbols-right : tabulate (symbolByte sy) (3 * count) ≡ storedSymbols T
+  symbols-right =
+      tabulate-entries 0 (take (3 * count) sy) (symbolByte sy) (3 * count) (length-take-le (3 * count) sy (omega (arith, si .wide, si .few-symbols)))
+      (λ k h. sym (getD-take (3 * count) sy k 0 h))
+      ∙ si .held
 
   pub image-right : imageBy next (T .cats) count sy ≡ machineImage T
   unfolding imageBy imageOf
   image-right =
-      ap₂ (λ n r. count ∷ take (3 * count) sy ++ n % 256 ∷ n / 256 ∷ [] ++ r) (found-length ∙ sym (length-map states made))
-<<<<<<< HEAD
-      (ap₂ (statesBytes next count) (found-code T wf rows ps signals nu sy count si 256) found-length
-      ∙ rows-right (length states) (omega arith) ∙ ap (λ z. joined stateBytes (map made z)) (take-all (length states) states (omega arith)))
-      ∙ ap₂ (λ c s. c ∷ s ++ length (map made states) % 256 ∷ length (map made states) / 256 ∷ [] ++ joined stateBytes (map made states)) (sym (si .all-symbols)) (si .held)
-=======
-      (ap₂ (rowsBytes next (T .cats) count) (found-code T wf rows ps signals nu sy count si bs br 256) found-length
+      ap₂ (λ n r. headBytes sy count n ++ r) (found-length ∙ sym (length-map states made))
+      (ap₂ (statesBytes next (T .cats) count) (found-code T wf rows ps signals nu sy count si inner ii 256) found-length
       ∙ rows-right (length states) (omega arith) ∙ ap (λ z. joined (stateBytes (nodes T)) (map made z)) (take-all (length states) states (omega arith)))
-      ∙ ap₂ (λ c s. c ∷ s ++ length (map made states) % 256 ∷ length (map made states) / 256 ∷ [] ++ joined (stateBytes (nodes T)) (map made states)) (sym (si .all-symbols)) (si .held)
->>>>>>> b8e7a93 (prototype: held, on the base)
+      ∙ ap₂ (λ c s. c ∷ s ++ length (map made states) % 256 ∷ length (map made states) / 256 ∷ [] ++ joined (stateBytes (nodes T)) (map made states)) (sym (si .all-symbols)) symbols-right
 
   size-right : length states ≤ 256 → sizeBy next (T .cats) count ≡ length (machineImage T)
   size-right h = ap₂ (λ n c. 3 + 3 * c + n * (c + T .cats + 1)) found-length (sym (si .all-symbols)) ∙ sym (own-length T wf h)

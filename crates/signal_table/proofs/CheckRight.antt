@@ -12,7 +12,7 @@ use native.Mathlib.Decide.{decLt}
 use Rattle.resolution.specs.Lists.{all, tabulate}
 use Rattle.resolution.specs.Names.{Parts, sameName, properAncestor}
 use Rattle.resolution.specs.Table.{Urn, Table, WellFormed, rowOf, place}
-use Rattle.resolution.specs.Nodes.{nodes, nodeAt, number, isNode, hasUnder, isBranch}
+use Rattle.resolution.specs.Nodes.{nodes, nodeAt, number, isNode, hasUnder}
 use Rattle.resolution.specs.Direct.{start, sameState, statusFits, StateOf}
 use Rattle.resolution.specs.Direct as direct
 use Rattle.resolution.specs.Symbols.{symbolAt, stepsAs, stepAt}
@@ -21,7 +21,7 @@ use Rattle.resolution.proofs.Lists.{tabulate-length, tabulate-at}
 use Rattle.resolution.proofs.Table.{row-place}
 use Rattle.resolution.proofs.Numbers.{number-at, number-positive}
 use Rattle.resolution.proofs.TableStep.{state-of, state-start, state-step}
-use Rattle.node_step.specs.Arrays.{NodesIn, Numbers, BranchesIn}
+use Rattle.node_step.specs.Arrays.{NodesIn, Numbers, InnerIn}
 use Rattle.node_step.specs.Step.{coded, codedStatus, digit, rowAt, extends, statusIn}
 use Rattle.node_step.specs.StatusByte.{byteOf, packed, packedOf, samePacked, fitsBy}
 use Rattle.node_step.specs.Uses.{fewer}
@@ -74,31 +74,31 @@ packed-from im l (suc m) (suc n) i c a h o =
 
 -- a byte that a category can have
 module _ (t ca pos len : List ℕ) (n : ℕ) (T : Table) (ni : NodesIn t ca pos len n T) (wf : WellFormed T) (rows ps : List ℕ) (signals : ℕ) (nu : Numbers rows ps signals T)
-    (bs : List Bool) (br : BranchesIn bs T) (s c : ℕ) (hs : s < signals) (hc : c < T .cats) where
+    (inner : List Bool) (ii : InnerIn inner T) (s c : ℕ) (hs : s < signals) (hc : c < T .cats) where
   abbrev ns : List Urn
   ns = nodes T
 
   node-fits : (k : ℕ) → k < length ns
-      → eqb (getD ca k 0) c && (getD bs k false && extends ps (digit (rowAt rows s) c) (suc k) true)
+      → eqb (getD ca k 0) c && (getD inner k false && extends ps (digit (rowAt rows s) c) (suc k) true)
       ≡ (eqb (nodeAt ns k .cat) c && (hasUnder ns c (nodeAt ns k .path) && properAncestor (place T s c) (nodeAt ns k .path)))
   node-fits k h =
-      ap (λ z. eqb z c && (getD bs k false && extends ps (digit (rowAt rows s) c) (suc k) true)) (ni .cat-at k (omega (arith, ni .all-nodes)))
+      ap (λ z. eqb z c && (getD inner k false && extends ps (digit (rowAt rows s) c) (suc k) true)) (ni .cat-at k (omega (arith, ni .all-nodes)))
       ∙ go (eqb (nodeAt ns k .cat) c) refl
     where
       p : Parts
       p = nodeAt ns k .path
 
       go : (b : Bool) → eqb (nodeAt ns k .cat) c ≡ b
-          → (b && (getD bs k false && extends ps (digit (rowAt rows s) c) (suc k) true)) ≡ (b && (hasUnder ns c p && properAncestor (place T s c) p))
+          → (b && (getD inner k false && extends ps (digit (rowAt rows s) c) (suc k) true)) ≡ (b && (hasUnder ns c p && properAncestor (place T s c) p))
       go false e = refl
       go true e =
           let q : nodeAt ns k .cat ≡ c = eqb-true (nodeAt ns k .cat) c e in
           let m : number ns c p ≡ suc k = ap (λ z. number ns z p) (sym q) ∙ number-at T k h in
           let i : isNode ns c p ≡ true = number-positive ns c p k m in
-          ap₂ _&&_ (br .branch-at k h ∙ ap (λ z. isBranch ns z p) q ∙ ap (λ z. z && hasUnder ns c p) i)
+          ap₂ _&&_ (ii k h ∙ ap (λ z. hasUnder ns z p) q)
           (ap (λ z. extends ps (digit (rowAt rows s) c) z true) (sym m) ∙ place-extends rows ps signals T wf nu c hc s hs p i ∙ ap (λ z. properAncestor z p) (row-place T s c hc))
 
-  pub fits-right : (b : ℕ) → fitsBy rows ps bs ca n s c b ≡ byteFits ns c (place T s c) b
+  pub fits-right : (b : ℕ) → fitsBy rows ps inner ca n s c b ≡ byteFits ns c (place T s c) b
   unfolding fitsBy
   fits-right zero = refl
   fits-right (suc zero) = refl
@@ -109,19 +109,19 @@ module _ (t ca pos len : List ℕ) (n : ℕ) (T : Table) (ni : NodesIn t ca pos 
       rw (lt-leb (suc (suc k)) 1 (omega arith), lt-leb 8 c (omega (arith, nu .few-cats)), e, f, m) (go (decLt k (length ns)))
     where
       go : Dec (k < length ns)
-          → cond (ltb k (length ns)) (eqb (getD ca k 0) c && (getD bs k false && extends ps (digit (rowAt rows s) c) (suc k) true)) false
+          → cond (ltb k (length ns)) (eqb (getD ca k 0) c && (getD inner k false && extends ps (digit (rowAt rows s) c) (suc k) true)) false
           ≡ (ltb k (length ns) && (eqb (nodeAt ns k .cat) c && (hasUnder ns c (nodeAt ns k .path) && properAncestor (place T s c) (nodeAt ns k .path))))
       go (yes h) = rw (lt-ltb k (length ns) h) (node-fits k h)
       go (no h) = rw (le-ltb k (length ns) (omega arith))
 
 module _ (t ca pos len : List ℕ) (n : ℕ) (T : Table) (ni : NodesIn t ca pos len n T) (wf : WellFormed T)
     (apart : (i j : ℕ) → i < length (T .signals) → j < length (T .signals) → rowOf T i ≡ rowOf T j → i ≡ j)
-    (rows ps : List ℕ) (signals : ℕ) (nu : Numbers rows ps signals T) (bs : List Bool) (br : BranchesIn bs T) (sy : List ℕ) (count : ℕ) (si : SymbolsIn T sy count) (im : List ℕ) where
+    (rows ps : List ℕ) (signals : ℕ) (nu : Numbers rows ps signals T) (inner : List Bool) (ii : InnerIn inner T) (sy : List ℕ) (count : ℕ) (si : SymbolsIn T sy count) (im : List ℕ) where
   abbrev next : Packed → ℕ → Packed
-  next = nextState rows ps bs signals sy
+  next = nextState rows ps inner signals sy
 
   abbrev fits : ℕ → ℕ → ℕ → Bool
-  fits = fitsBy rows ps bs ca n
+  fits = fitsBy rows ps inner ca n
 
   state-right : (j : ℕ) → stateFormedBy fits signals (T .cats) im j ≡ stateFormed T im j
   unfolding stateFormedBy stateFormed
@@ -137,7 +137,7 @@ module _ (t ca pos len : List ℕ) (n : ℕ) (T : Table) (ni : NodesIn t ca pos 
           let l : signalIn (T .cats) im j < signals = omega (arith, ltb-true (signalIn (T .cats) im j) (length (T .signals)) e, nu .all-signals) in
           ap (λ z. z && all (symbolCount im) (targetBelow T im j))
           (all-same (T .cats) (statusFormedBy fits (T .cats) im j) (statusFormed T im j)
-          (λ c h. fits-right t ca pos len n T ni wf rows ps signals nu bs br (signalIn (T .cats) im j) c l h (byteIn (T .cats) im j c)))
+          (λ c h. fits-right t ca pos len n T ni wf rows ps signals nu inner ii (signalIn (T .cats) im j) c l h (byteIn (T .cats) im j c)))
 
   pub form-right : formBy fits sy count signals (T .cats) im ≡ formOf T im
   unfolding formBy formOf
@@ -197,7 +197,7 @@ module _ (t ca pos len : List ℕ) (n : ℕ) (T : Table) (ni : NodesIn t ca pos 
         let l : targetIn (T .cats) im j k < stateCount im = ok .leads j k h s in
         let g = is-state j h in
         let e : target (machineIn T im) j k ≡ targetIn (T .cats) im j k = machine-target T im j k h s in
-        ap₂ samePacked (pair-code (targetIn (T .cats) im j k) l) (ap (λ z. next z k) (pair-code j h) ∙ next-code T wf rows ps signals nu sy count si bs br (pair j) k g i)
+        ap₂ samePacked (pair-code (targetIn (T .cats) im j k) l) (ap (λ z. next z k) (pair-code j h) ∙ next-code T wf rows ps signals nu sy count si inner ii (pair j) k g i)
         ∙ tests (pair (targetIn (T .cats) im j k)) (stepAt T (pair j) k) (is-state (targetIn (T .cats) im j k) l) (state-step T wf (pair j) (stepsAs (symbolAt T k)) g)
         ∙ ap₂ sameState (sym (pair-is (targetIn (T .cats) im j k) l)) (ap (λ z. stepAt T z k) (sym (pair-is j h)))
         ∙ sym (ap (λ z. ltb z (length (machineIn T im)) && sameState (machineState (machineIn T im) z .pair) (stepAt T (machineState (machineIn T im) j .pair) k)) e

@@ -1,33 +1,41 @@
 -- The test of an image's form says that the form is right, both ways.
-use Prim.Native.Nat.{ℕ, zero, suc, _+_, _-_, _/_, _%_, _^_, _≤_}
-use mathlib.Core.Path.{_≡_, ap, _∙_}
-use mathlib.Core.Bool.{true}
+use Prim.Native.Nat.{ℕ}
+use mathlib.Core.Path.{_≡_, refl, subst}
+use mathlib.Core.Bool.{true, and-eq-true-iff}
 use mathlib.Core.List.{List}
-use lib.Pow.{shr-shr, shr-le}
 use native.Mathlib.Omega.{arith}
-use Rattle.resolution.specs.Table.{Table}
-use Rattle.machine_image.specs.Image.{shutIn}
-use Rattle.machine_image.specs.Refusals.{formOf}
+use Rattle.resolution.specs.Names.{Parts, properAncestor}
+use Rattle.resolution.specs.Table.{Table, place}
+use Rattle.resolution.specs.Direct.{Status, Open, Held, Shut, statusFits}
+use Rattle.resolution.specs.Nodes.{nodes, isNode, hasUnder, isInner}
+use Rattle.resolution.proofs.Names.{proper-to, proper-of}
+use Rattle.resolution.proofs.Deepest.{under-to, under-of}
+use Rattle.machine_image.specs.Image.{signalIn, byteIn, statusByte, statusOf}
+use Rattle.machine_image.specs.Refusals.{byteFits, formOf}
 use Rattle.machine_image.proofs.Form.{form-to, form-of}
-use Rattle.signal_table.specs.Claims.{RightForm}
+use Rattle.machine_image.proofs.Statuses.{byte-again, byte-fits, status-formed}
+use Rattle.signal_table.specs.Claims.{StatusByte, openByte, shutByte, heldByte, RightForm}
 
--- a number without a bit at or above n is below 2 ^ n, and back
-no-bits : (n x c : ℕ) → x / 2 ^ n ≡ 0 → n ≤ c → x / 2 ^ c % 2 ≡ 0
-no-bits n x c e h =
-    let above : n + (c - n) ≡ c = omega arith in
-    let none : x / 2 ^ n / 2 ^ (c - n) ≤ 0 = rw (← e) (shr-le (x / 2 ^ n) (c - n)) in
-    let same : x / 2 ^ n / 2 ^ (c - n) ≡ x / 2 ^ c = shr-shr x n (c - n) ∙ ap (λ k. x / 2 ^ k) above in
-    omega (arith, none, same)
+-- a byte that passes is one that the category can have, and back
+module _ (T : Table) (c : ℕ) (p : Parts) where
+  of-status : (s : Status) → statusFits (nodes T) c p s ≡ true → StatusByte T c p (statusByte (nodes T) c s)
+  of-status Open e = openByte
+  of-status (Held w) e =
+      let a = and-eq-true-iff (properAncestor p w) (isInner (nodes T) c w) .0 e in
+      let b = and-eq-true-iff (isNode (nodes T) c w) (hasUnder (nodes T) c w) .0 (a .1) in
+      heldByte w (b .0) (proper-to p w (a .0)) (under-to (nodes T) c (nodes T) w (b .1))
+  of-status Shut e = shutByte
 
-all-bits : (n y : ℕ) → y ≤ n → ((i : ℕ) → y / 2 ^ i % 2 ≡ 0) → y ≡ 0
-all-bits zero y h e = omega arith
-all-bits (suc n) y h e =
-    let low : y / 2 ^ 0 % 2 ≡ 0 = e 0 in
-    let high : y / 2 ≡ 0 = all-bits n (y / 2) (omega arith) (λ i. ap (λ z. z % 2) (shr-shr y 1 i) ∙ e (1 + i)) in
-    omega (arith, low, high)
+  byte-right : (b : ℕ) → byteFits (nodes T) c p b ≡ true → StatusByte T c p b
+  byte-right b e = subst (StatusByte T c p) (byte-again T c p b e) (of-status (statusOf (nodes T) b) (byte-fits T c p b e))
 
-bits-none : (n x : ℕ) → ((c : ℕ) → n ≤ c → x / 2 ^ c % 2 ≡ 0) → x / 2 ^ n ≡ 0
-bits-none n x h = all-bits (x / 2 ^ n) (x / 2 ^ n) (omega arith) (λ i. ap (λ z. z % 2) (shr-shr x n i) ∙ h (n + i) (omega arith))
+  right-byte : (b : ℕ) → StatusByte T c p b → byteFits (nodes T) c p b ≡ true
+  right-byte _ openByte = refl
+  right-byte _ shutByte = refl
+  right-byte _ (heldByte w n (x, r, j) (y, q, m)) =
+      status-formed T c p (Held w)
+      (and-eq-true-iff (properAncestor p w) (isInner (nodes T) c w) .1
+      (proper-of p w x r j, and-eq-true-iff (isNode (nodes T) c w) (hasUnder (nodes T) c w) .1 (n, under-of (nodes T) c (nodes T) w y q m)))
 
 module _ (T : Table) (im : List ℕ) where
   pub form-to-right : formOf T im ≡ true → RightForm T im
@@ -39,7 +47,7 @@ module _ (T : Table) (im : List ℕ) where
         some-state = f .some-state;
         few-states = f .few-states;
         signal-listed = f .signal-listed;
-        shut-within = λ j c h i. no-bits (T .cats) (shutIn im j) c (f .shut-within j h) i;
+        status-right = λ j c h i. byte-right T c (place T (signalIn (T .cats) im j) c) (byteIn (T .cats) im j c) (f .status-formed j c h i);
         leads = f .leads;
       }
 
@@ -53,6 +61,6 @@ module _ (T : Table) (im : List ℕ) where
         some-state = r .some-state;
         few-states = r .few-states;
         signal-listed = r .signal-listed;
-        shut-within = λ j h. bits-none (T .cats) (shutIn im j) (λ c i. r .shut-within j c h i);
+        status-formed = λ j c h i. right-byte T c (place T (signalIn (T .cats) im j) c) (byteIn (T .cats) im j c) (r .status-right j c h i);
         leads = r .leads;
       })

@@ -6,6 +6,8 @@ use native.Mathlib.Omega.{arith}
 use native.Mathlib.Numerals.{add-one}
 use lib.ListN.{length, getD, set, take, drop, length-append, drop-of-length-le}
 use lib.Seq.{length-take-le, take-suc, drop-cons, set-at}
+use Rattle.resolution.specs.Lists.{tabulate}
+use Rattle.resolution.proofs.Lists.{tabulate-length}
 
 unfoldable pub over : List ℕ → List ℕ → List ℕ
 over p b = p ++ drop (length p) b
@@ -24,6 +26,14 @@ module _ (p b : List ℕ) where
       ∙ ap (λ (n : ℕ). (p ++ (v ∷ [])) ++ drop n b) (sym (add-one (length p)) ∙ sym (length-append p (v ∷ [])))
 
 module _ (q b r : List ℕ) (a v : ℕ) (room : a < length b) where
+  -- a turn of a loop that stores f 0, f 1, ..
+  pub over-tabulate : (f : ℕ → ℕ) (k : ℕ) → r ≡ over (q ++ tabulate f k) b → length q + k ≡ a → v ≡ f k → set r a v ≡ over (q ++ tabulate f (k + 1)) b
+  unfolding tabulate
+  over-tabulate f k e l g =
+      rw (e, add-one, g)
+      (over-set (q ++ tabulate f k) b a (f k) (length-append q (tabulate f k) ∙ ap (λ (n : ℕ). length q + n) (tabulate-length f k) ∙ l) room
+      ∙ ap (λ (t : List ℕ). over t b) (append-assoc q (tabulate f k) (f k ∷ [])))
+
   -- a turn of a loop that copies a list's elements
   pub over-copy : (x : List ℕ) (k : ℕ) → r ≡ over (q ++ take k x) b → length q + k ≡ a → k < length x → v ≡ getD x k 0 → set r a v ≡ over (q ++ take (k + 1) x) b
   over-copy x k e l h g =

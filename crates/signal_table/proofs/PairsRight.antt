@@ -19,7 +19,7 @@ use Rattle.resolution.proofs.Direct.{state-exact}
 use Rattle.resolution.proofs.Symbols.{symbol-known}
 use Rattle.resolution.proofs.TableStep.{state-valid, state-start, state-step}
 use Rattle.resolution.proofs.Coded.{discover-all, discover-code, targets-code}
-use Rattle.node_step.specs.Arrays.{Numbers, BranchesIn}
+use Rattle.node_step.specs.Arrays.{Numbers, InnerIn}
 use Rattle.node_step.specs.Step.{coded, stepNumbers}
 use Rattle.node_step.specs.StatusByte.{packed, packedOf, samePacked, stepPacked}
 use Rattle.node_step.specs.declared.stored.Packed.{Packed}
@@ -67,23 +67,23 @@ module _ (T : Table) (wf : WellFormed T) (rows ps : List ℕ) (signals : ℕ) (n
         the : (A : Type 0) → A → A
         the A x = x
 
-  module _ (bs : List Bool) (br : BranchesIn bs T) where
+  module _ (inner : List Bool) (ii : InnerIn inner T) where
     -- the step
-    pub next-code : (st : direct.State) (k : ℕ) → StateOf T st → k < count → nextState rows ps bs signals sy (code T st) k ≡ code T (stepAt T st k)
+    pub next-code : (st : direct.State) (k : ℕ) → StateOf T st → k < count → nextState rows ps inner signals sy (code T st) k ≡ code T (stepAt T st k)
     unfolding nextState stepPacked
     next-code st k g h =
         let w = symbol-known T (symbolAt T k) (mem-at (symbols T) k (other 0 []) (omega (arith, si .all-symbols))) in
-        ap₂ (λ x y. packedOf (stepNumbers rows ps bs signals x y (getD sy (3 * k + 1) 0) (eqb (getD sy (3 * k + 2) 0) 0)))
+        ap₂ (λ x y. packedOf (stepNumbers rows ps inner signals x y (getD sy (3 * k + 1) 0) (eqb (getD sy (3 * k + 2) 0) 0)))
         (of-packed T (nu .few-cats) (nu .few-nodes) st g) (category-at k h)
-        ∙ ap₂ (λ x y. packedOf (stepNumbers rows ps bs signals (coded T st) (symbolAt T k .cat) x y)) (node-at k h)
+        ∙ ap₂ (λ x y. packedOf (stepNumbers rows ps inner signals (coded T st) (symbolAt T k .cat) x y)) (node-at k h)
         (ap (λ z. eqb z 0) (kind-at k h) ∙ kind-whole (symbolAt T k .other))
-        ∙ ap packedOf (step-symbol rows ps bs signals T wf nu br st (state-valid T st g) (symbolAt T k) (w .0) (w .1))
+        ∙ ap packedOf (step-symbol rows ps inner signals T wf nu ii st (state-valid T st g) (symbolAt T k) (w .0) (w .1))
 
     keeps : (st : direct.State) (k : ℕ) → StateOf T st → k < count → StateOf T (stepAt T st k)
     keeps st k g h = state-step T wf st (stepsAs (symbolAt T k)) g
 
     abbrev next : Packed → ℕ → Packed
-    next = nextState rows ps bs signals sy
+    next = nextState rows ps inner signals sy
 
     -- discovery
     pub found-code : (n : ℕ) → found next count n ≡ map (code T) (discovered T n)

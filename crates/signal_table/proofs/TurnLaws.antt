@@ -3,33 +3,21 @@ use Prim.Native.Nat.{ℕ, zero, suc, _+_, _≤_, _<_}
 use mathlib.Core.Path.{_≡_, refl, sym, ap, subst, _∙_}
 use mathlib.Core.Bool.{Bool, true, false, cond}
 use mathlib.Core.List.{List, [], _∷_, _++_}
-<<<<<<< HEAD
-use lib.Dec.{eqb}
 use lib.ListN.{length, set, take, drop, length-append}
 use lib.Seq.{take-at, length-take-le}
-=======
-use lib.ListN.{length, set, take, drop, length-append}
-use lib.Seq.{take-at}
->>>>>>> b8e7a93 (prototype: held, on the base)
 use native.Mathlib.Omega.{arith}
 use native.Mathlib.Decide.{ℕ-discrete}
 use native.Mathlib.Numerals.{add-one}
 use Rattle.resolution.specs.Lists.{memberBy, addBy, indexBy, tabulate}
 use Rattle.resolution.specs.Discovery.{expand, targets}
-<<<<<<< HEAD
-use Rattle.resolution.proofs.Lists.{eqb-exact, Extends, add-extends, add-has, member-extends, tabulate-length, tabulate-same}
-use Rattle.signal_table.specs.States.{Kept, longer, Turned}
-use Rattle.signal_table.proofs.KeptLaws.{index-extends, index-add, add-longer}
-use Rattle.signal_table.proofs.Over.{over, over-all, over-set}
-=======
 use Rattle.resolution.proofs.Lists.{Extends, add-extends, add-has, member-extends, tabulate-length, tabulate-same}
+use Rattle.node_step.specs.Step.{digit}
 use Rattle.node_step.specs.StatusByte.{samePacked}
 use Rattle.node_step.specs.declared.stored.Packed.{Packed}
 use Rattle.node_step.proofs.PackedStep.{packed-exact}
-use Rattle.signal_table.specs.States.{Kept, longer, Turned}
+use Rattle.signal_table.specs.States.{Kept, longer, pairBytes, Turned}
 use Rattle.signal_table.proofs.KeptLaws.{index-extends, index-add, add-longer}
-use Rattle.signal_table.proofs.Over.{over, over-set}
->>>>>>> b8e7a93 (prototype: held, on the base)
+use Rattle.signal_table.proofs.Over.{over, over-all, over-set}
 
 pub extends-length : {l k : List Packed} → Extends l k → length l ≤ length k
 extends-length {l} e = omega (arith, length-append l (e .more), ap length (e .joined))
@@ -60,88 +48,41 @@ module _ (next : Packed → ℕ → Packed) (p : Packed) (l : List Packed) where
 
   -- the numbers of the targets at the first k symbols
   abbrev pub begun : ℕ → List ℕ
-<<<<<<< HEAD
-  begun k = targets eqb next k (after k) p
-
-  begun-length : (k : ℕ) → length (begun k) ≡ k
-  begun-length k = tabulate-length (λ i. indexBy eqb (next p i) (after k)) k
-=======
   begun k = targets samePacked next k (after k) p
 
   begun-length : (k : ℕ) → length (begun k) ≡ k
   begun-length k = tabulate-length (λ i. indexBy samePacked (next p i) (after k)) k
->>>>>>> b8e7a93 (prototype: held, on the base)
 
   -- one target more: those before it keep their numbers
   begun-more : (k : ℕ) → begun (suc k) ≡ begun k ++ indexBy samePacked (next p k) (after k) ∷ []
   unfolding tabulate expand
   begun-more k =
-<<<<<<< HEAD
-      ap (λ z. z ++ indexBy eqb (next p k) (addBy eqb (after k) (next p k)) ∷ [])
-      (tabulate-same (λ i. indexBy eqb (next p i) (addBy eqb (after k) (next p k))) (λ i. indexBy eqb (next p i) (after k)) k
-      (λ i h. index-extends (next p i) (add-extends eqb eqb-exact (after k) (next p k)) (target-there k i h)))
-      ∙ ap (λ z. targets eqb next k (after k) p ++ z ∷ []) (index-add (next p k) (after k))
-
-  -- what the loop keeps
-  pub record Turning (k : ℕ) (numbers₀ numbers states index : List ℕ) (m : ℕ) : Type 0 where
-    pub kept : Kept states index m (after k)
-    pub numbered : numbers ≡ over (begun k) numbers₀
-
-  module _ (numbers₀ : List ℕ) where
-    pub turning-start : (states index : List ℕ) (m : ℕ) → Kept states index m l → Turning 0 numbers₀ numbers₀ states index m
-    unfolding expand tabulate over
-    turning-start states index m k = record { kept = k; numbered = refl }
-
-    module _ (k : ℕ) (numbers states index : List ℕ) (m : ℕ) (t : Turning k numbers₀ numbers states index m) where
-      pub turning-more : (states′ index′ : List ℕ) {q : ℕ} {j m′ : ℕ} → k < length numbers₀ → q ≡ next p k
-          → ((l′ : List ℕ) → Kept states index m l′ → (j ≡ indexBy eqb q l′) × (j < 256 → Kept states′ index′ (longer m j) (addBy eqb l′ q)))
-          → j < 256 → m′ ≡ longer m j → Turning (k + 1) numbers₀ (set numbers k j) states′ index′ m′
-      unfolding expand
-      turning-more states′ index′ {q} {j} {m′} h e f i g =
-          let w = f (after k) (t .kept) in
-          rw add-one
-          (record {
-            kept = subst (λ (z : ℕ). Kept states′ index′ z (addBy eqb (after k) (next p k))) (sym g)
-                (subst (λ (z : ℕ). Kept states′ index′ (longer m j) (addBy eqb (after k) z)) e (w .1 i));
-            numbered =
-                ap (λ z. set z k j) (t .numbered)
-                ∙ over-set (begun k) numbers₀ k j (begun-length k) h
-                ∙ ap (λ z. over z numbers₀) (ap (λ z. begun k ++ z ∷ []) (w .0 ∙ ap (λ z. indexBy eqb z (after k)) e) ∙ sym (begun-more k));
-          })
-
-      -- a 257th state
-      pub turning-over : (count : ℕ) (states′ index′ numbers′ : List ℕ) {q : ℕ} {j : ℕ} → k < count → q ≡ next p k
-          → ((l′ : List ℕ) → Kept states index m l′ → (j ≡ indexBy eqb q l′) × (j < 256 → Kept states′ index′ (longer m j) (addBy eqb l′ q)))
-          → 256 ≤ j → Turned next count l p numbers′ states′ index′ 257
-      unfolding expand
-      turning-over count states′ index′ numbers′ {q} {j} h e f i =
-=======
       ap (λ z. z ++ indexBy samePacked (next p k) (addBy samePacked (after k) (next p k)) ∷ [])
       (tabulate-same (λ i. indexBy samePacked (next p i) (addBy samePacked (after k) (next p k))) (λ i. indexBy samePacked (next p i) (after k)) k
       (λ i h. index-extends (next p i) (add-extends samePacked packed-exact (after k) (next p k)) (target-there k i h)))
       ∙ ap (λ z. targets samePacked next k (after k) p ++ z ∷ []) (index-add (next p k) (after k))
 
   -- what the loop keeps
-  pub record Turning (k : ℕ) (numbers₀ numbers signal statuses : List ℕ) (m : ℕ) : Type 0 where
-    pub kept : Kept signal statuses m (after k)
+  pub record Turning (k : ℕ) (numbers₀ numbers signal statuses hints : List ℕ) (m : ℕ) : Type 0 where
+    pub kept : Kept signal statuses hints m (after k)
     pub numbered : numbers ≡ over (begun k) numbers₀
 
   module _ (numbers₀ : List ℕ) where
-    pub turning-start : (signal statuses : List ℕ) (m : ℕ) → Kept signal statuses m l → Turning 0 numbers₀ numbers₀ signal statuses m
+    pub turning-start : (signal statuses hints : List ℕ) (m : ℕ) → Kept signal statuses hints m l → Turning 0 numbers₀ numbers₀ signal statuses hints m
     unfolding expand tabulate over
-    turning-start signal statuses m k = record { kept = k; numbered = refl }
+    turning-start signal statuses hints m k = record { kept = k; numbered = refl }
 
-    module _ (k : ℕ) (numbers signal statuses : List ℕ) (m : ℕ) (t : Turning k numbers₀ numbers signal statuses m) where
-      pub turning-more : (signal′ statuses′ : List ℕ) {q : Packed} {j m′ : ℕ} → k < length numbers₀ → q ≡ next p k
-          → ((l′ : List Packed) → Kept signal statuses m l′ → (j ≡ indexBy samePacked q l′) × (j < 256 → Kept signal′ statuses′ (longer m j) (addBy samePacked l′ q)))
-          → j < 256 → m′ ≡ longer m j → Turning (k + 1) numbers₀ (set numbers k j) signal′ statuses′ m′
+    module _ (k : ℕ) (numbers signal statuses hints : List ℕ) (m : ℕ) (t : Turning k numbers₀ numbers signal statuses hints m) where
+      pub turning-more : (signal′ statuses′ hints′ : List ℕ) {q : Packed} {j m′ : ℕ} → k < length numbers₀ → q ≡ next p k
+          → ((l′ : List Packed) → Kept signal statuses hints m l′ → (j ≡ indexBy samePacked q l′) × (j < 256 → Kept signal′ statuses′ hints′ (longer m j) (addBy samePacked l′ q)))
+          → j < 256 → m′ ≡ longer m j → Turning (k + 1) numbers₀ (set numbers k j) signal′ statuses′ hints′ m′
       unfolding expand
-      turning-more signal′ statuses′ {q} {j} {m′} h e f i g =
+      turning-more signal′ statuses′ hints′ {q} {j} {m′} h e f i g =
           let w = f (after k) (t .kept) in
           rw add-one
           (record {
-            kept = subst (λ (z : ℕ). Kept signal′ statuses′ z (addBy samePacked (after k) (next p k))) (sym g)
-                (subst (λ (z : Packed). Kept signal′ statuses′ (longer m j) (addBy samePacked (after k) z)) e (w .1 i));
+            kept = subst (λ (z : ℕ). Kept signal′ statuses′ hints′ z (addBy samePacked (after k) (next p k))) (sym g)
+                (subst (λ (z : Packed). Kept signal′ statuses′ hints′ (longer m j) (addBy samePacked (after k) z)) e (w .1 i));
             numbered =
                 ap (λ z. set z k j) (t .numbered)
                 ∙ over-set (begun k) numbers₀ k j (begun-length k) h
@@ -149,12 +90,11 @@ module _ (next : Packed → ℕ → Packed) (p : Packed) (l : List Packed) where
           })
 
       -- a 257th state
-      pub turning-over : (count : ℕ) (signal′ statuses′ numbers′ : List ℕ) {q : Packed} {j : ℕ} → k < count → q ≡ next p k
-          → ((l′ : List Packed) → Kept signal statuses m l′ → (j ≡ indexBy samePacked q l′) × (j < 256 → Kept signal′ statuses′ (longer m j) (addBy samePacked l′ q)))
-          → 256 ≤ j → Turned next count l p numbers′ signal′ statuses′ 257
+      pub turning-over : (count : ℕ) (signal′ statuses′ hints′ numbers′ : List ℕ) {q : Packed} {j : ℕ} → k < count → q ≡ next p k
+          → ((l′ : List Packed) → Kept signal statuses hints m l′ → (j ≡ indexBy samePacked q l′) × (j < 256 → Kept signal′ statuses′ hints′ (longer m j) (addBy samePacked l′ q)))
+          → 256 ≤ j → Turned next count l p numbers′ signal′ statuses′ hints′ 257
       unfolding expand
-      turning-over count signal′ statuses′ numbers′ {q} {j} h e f i =
->>>>>>> b8e7a93 (prototype: held, on the base)
+      turning-over count signal′ statuses′ hints′ numbers′ {q} {j} h e f i =
           let w = f (after k) (t .kept) in
           let a : j ≡ indexBy samePacked (next p k) (after k) = w .0 ∙ ap (λ z. indexBy samePacked z (after k)) e in
           let b : length (after k) ≤ 256 = omega (arith, t .kept .all-kept, t .kept .few) in
@@ -174,42 +114,30 @@ module _ (next : Packed → ℕ → Packed) (p : Packed) (l : List Packed) where
               by true ih = omega arith
               by false ih = omega arith
 
-<<<<<<< HEAD
-      pub turning-end : (count : ℕ) → k ≤ count → count ≤ k → m ≤ 256 → Turned next count l p numbers states index m
+      pub turning-end : (count : ℕ) → k ≤ count → count ≤ k → m ≤ 256 → Turned next count l p numbers signal statuses hints m
       unfolding over
       turning-end count a b c =
           let e : k ≡ count = omega arith in
-          let u : Turning count numbers₀ numbers states index m = subst (λ (z : ℕ). Turning z numbers₀ numbers states index m) e t in
-=======
-      pub turning-end : (count : ℕ) → k ≤ count → count ≤ k → m ≤ 256 → Turned next count l p numbers signal statuses m
-      unfolding over
-      turning-end count a b c =
-          let e : k ≡ count = omega arith in
-          let u : Turning count numbers₀ numbers signal statuses m = subst (λ (z : ℕ). Turning z numbers₀ numbers signal statuses m) e t in
->>>>>>> b8e7a93 (prototype: held, on the base)
+          let u : Turning count numbers₀ numbers signal statuses hints m = subst (λ (z : ℕ). Turning z numbers₀ numbers signal statuses hints m) e t in
           record {
             kept = λ z. u .kept;
             over = λ z. absurd (omega arith);
             numbered = λ z. ap (take count) (u .numbered) ∙ take-at (begun count) (drop (length (begun count)) numbers₀) count (begun-length count);
           }
-<<<<<<< HEAD
 
 -- the row writer, at the start and at the end
 pub row-start : (numbers row : List ℕ) → row ≡ over ([] ++ take 0 numbers) row
 unfolding over
 row-start numbers row = refl
 
-pub row-done : (numbers row : List ℕ) (k : ℕ) {r : List ℕ} → k ≤ length row → length row ≤ k → length row ≤ length numbers
-    → r ≡ over ([] ++ take k numbers) row → r ≡ take (length row) numbers
+pub row-done : (numbers row : List ℕ) (k : ℕ) {r : List ℕ} → k ≤ length row → length row ≤ k → length row ≤ length numbers → r ≡ over ([] ++ take k numbers) row → r ≡ take (length row) numbers
 row-done numbers row k h i l e =
     let z : k ≡ length row = omega arith in
     e ∙ ap (λ y. over ([] ++ take y numbers) row) z ∙ over-all (take (length row) numbers) row (length-take-le (length row) numbers l)
 
--- a pair's two bytes fill its part
-pub pair-done : (r : List ℕ) (a b : ℕ) → length r ≡ 2 → set (set r 0 a) 1 b ≡ a ∷ b ∷ []
-pair-done [] a b h = absurd (omega arith)
-pair-done (x ∷ []) a b h = absurd (omega arith)
-pair-done (x ∷ y ∷ []) a b h = refl
-pair-done (x ∷ y ∷ z ∷ r) a b h = absurd (omega arith)
-=======
->>>>>>> b8e7a93 (prototype: held, on the base)
+-- the bytes before the row are all written
+pub pair-done : (cats : ℕ) (st : Packed) (c : ℕ) (b : List ℕ) {r : List ℕ} → c ≤ cats → cats ≤ c → length b ≡ cats + 1 → r ≡ over (st .signal ∷ [] ++ tabulate (digit (st .statuses)) c) b → r ≡ pairBytes cats st
+pair-done cats st c b h k l e =
+    let z : c ≡ cats = omega arith in
+    e ∙ ap (λ y. over (st .signal ∷ [] ++ tabulate (digit (st .statuses)) y) b) z
+    ∙ over-all (st .signal ∷ [] ++ tabulate (digit (st .statuses)) cats) b (omega (arith, tabulate-length (digit (st .statuses)) cats))

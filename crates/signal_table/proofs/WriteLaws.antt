@@ -9,8 +9,10 @@ use native.Mathlib.Omega.{arith}
 use native.Mathlib.Nat.{sub-zero, mul-le-mul-right}
 use borrow.Rule.Slice.PartMut.{putMid}
 use Rattle.node_step.specs.declared.stored.Packed.{Packed}
+use Rattle.resolution.specs.Lists.{tabulate}
+use Rattle.resolution.proofs.Lists.{tabulate-length}
 use Rattle.signal_table.specs.Built.{refused, accepted}
-use Rattle.signal_table.specs.States.{found, statesBytes, imageBy, sizeBy, builtBy, bufferBy, Discovered}
+use Rattle.signal_table.specs.States.{symbolByte, headBytes, found, statesBytes, imageBy, sizeBy, builtBy, bufferBy, Discovered}
 
 -- a part lent up to the end
 lend-end : (b y : List ℕ) (f : ℕ) → f ≤ length b → length y ≡ length b - f → putMid f (length b - f) b y ≡ take f b ++ y
@@ -82,18 +84,11 @@ module _ (next : Packed → ℕ → Packed) (cats count : ℕ) (sy : List ℕ) (
     build-done k = let a = le-ltb 256 (length (found next count 256)) h in let b = le-ltb room (sizeBy next cats count) k in (sym (rw (a, b)), sym (rw (a, b)))
 
   -- the image, from the head and the rows
-  pub image-is : (n : ℕ) (h y : List ℕ) → n ≡ length (found next count 256) → h ≡ count ∷ take (3 * count) sy ++ n % 256 ∷ n / 256 ∷ []
-<<<<<<< HEAD
-      → take (n * (count + 2)) y ≡ statesBytes next count (found next count 256) n → h ++ take (n * (count + 2)) y ≡ imageBy next count sy
+  pub image-is : (n : ℕ) (h y : List ℕ) → n ≡ length (found next count 256) → h ≡ headBytes sy count n
+      → take (n * (count + cats + 1)) y ≡ statesBytes next cats count (found next count 256) n → h ++ take (n * (count + cats + 1)) y ≡ imageBy next cats count sy
   unfolding imageBy
   image-is n h y e f g =
-      ap₂ _++_ (f ∙ ap (λ z. count ∷ take (3 * count) sy ++ z % 256 ∷ z / 256 ∷ []) e) (g ∙ ap (statesBytes next count (found next count 256)) e)
-=======
-      → take (n * (count + cats + 1)) y ≡ rowsBytes next cats count (found next count 256) n → h ++ take (n * (count + cats + 1)) y ≡ imageBy next cats count sy
-  unfolding imageBy
-  image-is n h y e f g =
-      ap₂ _++_ (f ∙ ap (λ z. count ∷ take (3 * count) sy ++ z % 256 ∷ z / 256 ∷ []) e) (g ∙ ap (rowsBytes next cats count (found next count 256)) e)
->>>>>>> b8e7a93 (prototype: held, on the base)
+      ap₂ _++_ (f ∙ ap (headBytes sy count) e) (g ∙ ap (statesBytes next cats count (found next count 256)) e)
 
 -- the same from what discovery gave: n states, their rows in y
 module _ (next : Packed → ℕ → Packed) (cats count : ℕ) (sy : List ℕ) (b y part : List ℕ) (f n : ℕ) (d : Discovered next cats count part y n) where
@@ -110,12 +105,12 @@ module _ (next : Packed → ℕ → Packed) (cats count : ℕ) (sy : List ℕ) (
     pub built-short : length b < 3 + 3 * count + n * (count + cats + 1) → (refused 14 ≡ builtBy next cats count (length b)) × (replicate (length b) 0 ≡ bufferBy next cats count sy (length b))
     built-short h = build-short next cats count sy (length b) (omega (arith, is)) (omega (arith, sized))
 
-    module _ (fits : 3 + 3 * count + n * (count + cats + 1) ≤ length b) (h z : List ℕ) (e : f ≡ 3 + 3 * count) (wide : length sy ≡ 384) (low : count ≤ 128)
+    module _ (fits : 3 + 3 * count + n * (count + cats + 1) ≤ length b) (h z : List ℕ) (e : f ≡ 3 + 3 * count)
         (p : part ≡ take (length b - f) (drop f b))
-        (eh : h ≡ count ∷ take (3 * count) sy ++ n % 256 ∷ n / 256 ∷ [])
+        (eh : h ≡ headBytes sy count n)
         (ez : z ≡ replicate (length (take (length b - (3 + 3 * count + n * (count + cats + 1))) (drop (3 + 3 * count + n * (count + cats + 1)) (putMid 0 (3 + 3 * count - 0) (putMid f (length b - f) b y) h)))) 0) where
       head-length : length h ≡ 3 + 3 * count
-      head-length = ap length eh ∙ length-append (count ∷ take (3 * count) sy) (n % 256 ∷ n / 256 ∷ []) ∙ omega (arith, length-take-le (3 * count) sy (omega arith))
+      head-length = ap length eh ∙ length-append (count ∷ tabulate (symbolByte sy) (3 * count)) (n % 256 ∷ n / 256 ∷ []) ∙ omega (arith, tabulate-length (symbolByte sy) (3 * count))
 
       part-length : length part ≡ length b - (3 + 3 * count)
       part-length = ap length p ∙ length-take-le (length b - f) (drop f b) (omega (arith, length-drop f b)) ∙ ap (λ z. length b - z) e

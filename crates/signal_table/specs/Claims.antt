@@ -1,12 +1,15 @@
 -- What holds of every build and of every image that the checker accepts.
-use Prim.Native.Nat.{ℕ, _-_, _*_, _/_, _%_, _^_, _≤_, _<_}
+use Prim.Native.Nat.{ℕ, suc, _-_, _*_, _≤_, _<_}
 use mathlib.Core.Path.{_≡_}
-use mathlib.Core.List.{List, _++_}
+use mathlib.Core.Bool.{true}
+use mathlib.Core.List.{List, _∷_, _++_}
 use lib.ListN.{length, take, drop, replicate}
-use Rattle.resolution.specs.Table.{Table}
+use Rattle.resolution.specs.Names.{Name, Parts}
+use Rattle.resolution.specs.Table.{Table, place}
+use Rattle.resolution.specs.Nodes.{nodes, isNode, number}
 use Rattle.resolution.specs.Machine.{Accepted}
 use Rattle.stored_table.specs.Tables.{tableOf, tableRefusal}
-use Rattle.machine_image.specs.Image.{storedSymbols, machineImage, symbolCount, stateCount, placeOf, signalIn, shutIn, targetIn, machineIn}
+use Rattle.machine_image.specs.Image.{storedSymbols, machineImage, symbolCount, stateCount, placeOf, signalIn, byteIn, targetIn, machineIn}
 use Rattle.signal_table.specs.Built.{accepted, builtFrom, bufferFrom, checkFrom}
 
 -- of a well-formed table with at most 256 reachable states
@@ -25,17 +28,25 @@ pub record RefusedBuild (t : List ℕ) (room : ℕ) : Type 0 where
   pub no-length : builtFrom t room .len ≡ 0
   pub cleared : bufferFrom t room ≡ replicate room 0
 
+-- a byte that category c can have at its place p: open, shut, or held at a node w of c that lies properly below p and has a node
+-- under it
+pub data StatusByte (T : Table) (c : ℕ) (p : Parts) : ℕ → Type 0 where
+  openByte : StatusByte T c p 0
+  shutByte : StatusByte T c p 1
+  heldByte : (w : Parts) → isNode (nodes T) c w ≡ true → (x : Name) × (r : Parts) × (p ++ x ∷ r ≡ w) → (x : Name) × (r : Parts) × (isNode (nodes T) c (w ++ x ∷ r) ≡ true)
+      → StatusByte T c p (suc (number (nodes T) c w))
+
 -- an image of the right form for a table
 pub record RightForm (T : Table) (im : List ℕ) : Type 0 where
   -- it is as long as its two counts give, its symbols are the table's, and it has 1 to 256 states
-  pub length-right : length im ≡ placeOf im (stateCount im)
+  pub length-right : length im ≡ placeOf (T .cats) im (stateCount im)
   pub symbols-right : take (3 * symbolCount im) (drop 1 im) ≡ storedSymbols T
   pub some-state : 1 ≤ stateCount im
   pub few-states : stateCount im ≤ 256
-  -- every state's signal is in the table, no bit of its shut set is at or above the category count, and every target is a state
-  pub signal-listed : (j : ℕ) → j < stateCount im → signalIn im j < length (T .signals)
-  pub shut-within : (j c : ℕ) → j < stateCount im → T .cats ≤ c → shutIn im j / 2 ^ c % 2 ≡ 0
-  pub leads : (j k : ℕ) → j < stateCount im → k < symbolCount im → targetIn im j k < stateCount im
+  -- every state's signal is in the table, each category's byte is one that it can have at the signal's place, and every target is a state
+  pub signal-listed : (j : ℕ) → j < stateCount im → signalIn (T .cats) im j < length (T .signals)
+  pub status-right : (j c : ℕ) → j < stateCount im → c < T .cats → StatusByte T c (place T (signalIn (T .cats) im j) c) (byteIn (T .cats) im j c)
+  pub leads : (j k : ℕ) → j < stateCount im → k < symbolCount im → targetIn (T .cats) im j k < stateCount im
 
 -- the table is well-formed, and the image's form, its start and every row of every state are right for it
 pub record RightImage (t im : List ℕ) : Type 0 where

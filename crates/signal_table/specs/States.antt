@@ -1,8 +1,4 @@
-<<<<<<< HEAD
--- Discovery as the code does it: a state is one number, and each state is written when its targets are found.
-=======
--- Discovery as the code does it: a state has its categories' bytes in one number, and the rows are written as the states are found.
->>>>>>> b8e7a93 (prototype: held, on the base)
+-- Discovery as the code does it: a state has its categories' bytes in one number, and is written when its targets are found.
 use Prim.Native.Nat.{ℕ, zero, suc, _+_, _-_, _*_, _/_, _%_, _≤_, _<_}
 use mathlib.Core.Path.{_≡_}
 use mathlib.Core.Bool.{Bool, cond}
@@ -23,62 +19,30 @@ begin = record { signal = 0; statuses = 0 }
 
 -- the state after symbol k of those in sy
 unfoldable pub nextState : List ℕ → List ℕ → List Bool → ℕ → List ℕ → Packed → ℕ → Packed
-nextState rows ps bs n sy st k =
-    stepPacked rows ps bs n st (getD sy (3 * k) 0) (getD sy (3 * k + 1) 0) (eqb (getD sy (3 * k + 2) 0) 0)
+nextState rows ps inner n sy st k =
+    stepPacked rows ps inner n st (getD sy (3 * k) 0) (getD sy (3 * k + 1) 0) (eqb (getD sy (3 * k + 2) 0) 0)
 
 -- state i in the arrays of signals and statuses
 abbrev pub stateAt : List ℕ → List ℕ → ℕ → Packed
 stateAt signal statuses i = record { signal = getD signal i 0; statuses = getD statuses i 0 }
 
--- the n states of a list, in the arrays
-pub record Kept (signal statuses : List ℕ) (n : ℕ) (l : List Packed) : Type 0 where
-  pub wide : (length signal ≡ 256) × (length statuses ≡ 256)
+-- where the hints say which number a state may have
+unfoldable pub hintAt : Packed → ℕ
+hintAt st = (st .statuses % 4294967296 * 3635633 + st .statuses / 4294967296 * 2442741 + st .signal * 10368889) / 65536 % 4096
+
+-- the n states of a list, in the arrays; where the hints say 0 stands no state but the first
+pub record Kept (signal statuses hints : List ℕ) (n : ℕ) (l : List Packed) : Type 0 where
+  pub wide : (length signal ≡ 256) × (length statuses ≡ 256) × (length hints ≡ 4096)
   pub all-kept : length l ≡ n
   pub few : n ≤ 256
   pub held : (i : ℕ) → i < n → stateAt signal statuses i ≡ getD l i begin
   pub distinct : Distinct samePacked l
+  pub hinted : (i : ℕ) → 0 < i → i < n → 0 < getD hints (hintAt (getD l i begin)) 0
 
 -- n, or one more if j is n
 abbrev pub longer : ℕ → ℕ → ℕ
 longer n j = cond (eqb j n) (n + 1) n
 
-<<<<<<< HEAD
--- the bytes of state p before its row: its signal and its shut set
-abbrev pub pairBytes : ℕ → List ℕ
-pairBytes p = p / 256 ∷ p % 256 ∷ []
-
--- state p, with the row that starts the array of numbers, in its stretch at a of a part, if that lies in it
-pub record Placed (count p : ℕ) (numbers : List ℕ) (a : ℕ) (part part′ : List ℕ) : Type 0 where
-  pub same-length : length part′ ≡ length part
-  pub written : a + 2 + count ≤ length part → take (a + 2 + count) part′ ≡ take a part ++ (pairBytes p ++ take count numbers)
-
-module _ (next : ℕ → ℕ → ℕ) (count : ℕ) where
-  -- the states found after i turns
-  abbrev pub found : ℕ → List ℕ
-  found i = discover eqb next count 0 i
-
-  -- the bytes of state p, its targets being numbered by the list l
-  unfoldable pub bytesOf : List ℕ → ℕ → List ℕ
-  bytesOf l p = pairBytes p ++ targets eqb next count l p
-
-  -- those of the first i states of l
-  unfoldable pub statesBytes : List ℕ → ℕ → List ℕ
-  statesBytes l zero = []
-  statesBytes l (suc i) = statesBytes l i ++ bytesOf l (getD l i 0)
-
-  -- the turn of state p over the list l: r states after it, and the numbers of its targets; 257 if there are over 256
-  pub record Turned (l : List ℕ) (p : ℕ) (numbers states index : List ℕ) (r : ℕ) : Type 0 where
-    pub kept : r ≤ 256 → Kept states index r (expand eqb next p count l)
-    pub over : 256 < r → 256 < length (expand eqb next p count l)
-    pub numbered : r ≤ 256 → take count numbers ≡ targets eqb next count (expand eqb next p count l) p
-
-  -- all turns: r states, their bytes at the front of the part, if it has room for them
-  pub record Discovered (part part′ : List ℕ) (r : ℕ) : Type 0 where
-    pub same-length : length part′ ≡ length part
-    pub few : r ≤ 256 → r ≡ length (found 256)
-    pub over : 256 < r → 256 < length (found 256)
-    pub rows : r ≤ 256 → r * (count + 2) ≤ length part → take (r * (count + 2)) part′ ≡ statesBytes (found 256) r
-=======
 -- the bytes of a state before its row: its signal, and one byte for each category
 abbrev pub pairBytes : ℕ → Packed → List ℕ
 pairBytes cats st = st .signal ∷ tabulate (digit (st .statuses)) cats
@@ -93,38 +57,40 @@ module _ (next : Packed → ℕ → Packed) (count : ℕ) where
   abbrev pub found : ℕ → List Packed
   found i = discover samePacked next count begin i
 
-  -- the turn of a state over the list l: r states after it, and its targets' numbers; 257 if there are over 256
-  pub record Turned (l : List Packed) (st : Packed) (numbers signal statuses : List ℕ) (r : ℕ) : Type 0 where
-    pub kept : r ≤ 256 → Kept signal statuses r (expand samePacked next st count l)
+  -- the turn of a state over the list l: r states after it, and the numbers of its targets; 257 if there are over 256
+  pub record Turned (l : List Packed) (st : Packed) (numbers signal statuses hints : List ℕ) (r : ℕ) : Type 0 where
+    pub kept : r ≤ 256 → Kept signal statuses hints r (expand samePacked next st count l)
     pub over : 256 < r → 256 < length (expand samePacked next st count l)
     pub numbered : r ≤ 256 → take count numbers ≡ targets samePacked next count (expand samePacked next st count l) st
 
+-- byte i of the symbols in sy
+abbrev pub symbolByte : List ℕ → ℕ → ℕ
+symbolByte sy i = getD sy i 0
+
+-- the head of an image: the symbol count, the symbols and the state count
+abbrev pub headBytes : List ℕ → ℕ → ℕ → List ℕ
+headBytes sy count n = count ∷ tabulate (symbolByte sy) (3 * count) ++ n % 256 ∷ n / 256 ∷ []
+
 module _ (next : Packed → ℕ → Packed) (cats count : ℕ) where
   -- the bytes of a state, its targets being numbered by the list l
-  abbrev pub bytesOf : List Packed → Packed → List ℕ
+  unfoldable pub bytesOf : List Packed → Packed → List ℕ
   bytesOf l st = pairBytes cats st ++ targets samePacked next count l st
 
   -- those of the first i states of l
-  unfoldable pub rowsBytes : List Packed → ℕ → List ℕ
-  rowsBytes l zero = []
-  rowsBytes l (suc i) = rowsBytes l i ++ bytesOf l (getD l i begin)
+  unfoldable pub statesBytes : List Packed → ℕ → List ℕ
+  statesBytes l zero = []
+  statesBytes l (suc i) = statesBytes l i ++ bytesOf l (getD l i begin)
 
-  -- all turns: r states, with their rows at the front of the part, if it has room for them
+  -- all turns: r states, their bytes at the front of the part, if it has room for them
   pub record Discovered (part part′ : List ℕ) (r : ℕ) : Type 0 where
     pub same-length : length part′ ≡ length part
     pub few : r ≤ 256 → r ≡ length (found next count 256)
     pub over : 256 < r → 256 < length (found next count 256)
-    pub rows : r ≤ 256 → r * (count + cats + 1) ≤ length part → take (r * (count + cats + 1)) part′ ≡ rowsBytes (found next count 256) r
->>>>>>> b8e7a93 (prototype: held, on the base)
+    pub rows : r ≤ 256 → r * (count + cats + 1) ≤ length part → take (r * (count + cats + 1)) part′ ≡ statesBytes (found next count 256) r
 
   -- the image of the states found
   unfoldable pub imageBy : List ℕ → List ℕ
-  imageBy sy =
-<<<<<<< HEAD
-      count ∷ take (3 * count) sy ++ length (found 256) % 256 ∷ length (found 256) / 256 ∷ [] ++ statesBytes (found 256) (length (found 256))
-=======
-      count ∷ take (3 * count) sy ++ length (found next count 256) % 256 ∷ length (found next count 256) / 256 ∷ [] ++ rowsBytes (found next count 256) (length (found next count 256))
->>>>>>> b8e7a93 (prototype: held, on the base)
+  imageBy sy = headBytes sy count (length (found next count 256)) ++ statesBytes (found next count 256) (length (found next count 256))
 
   -- its length
   abbrev pub sizeBy : ℕ

@@ -5,8 +5,8 @@ ghost use Prim.Native.Nat.{_+_, _*_, _≤_, _<_, max};
 ghost use lib.ListN.{getD, length};
 ghost use Rattle.resolution.specs.Lists.{all};
 ghost use Rattle.node_step.specs.StatusByte.{samePacked, fitsBy};
+ghost use Rattle.node_step.specs.Uses.{fewer};
 ghost use Rattle.machine_image.specs.Image.{symbolCount, stateCount, placeOf, signalIn, targetIn};
-ghost use Rattle.signal_table.specs.Listed.{fewer};
 ghost use Rattle.signal_table.specs.States.{nextState};
 ghost use Rattle.signal_table.specs.Checks.{packFrom, packedIn, Read, statusFormedBy, belowBy, stateFormedBy, formBy, rowRightBy, checkBy};
 
@@ -107,7 +107,7 @@ fn targets_below(im: &[u8], categories: usize, n: usize, j: usize) -> bool
 fn statuses_formed<'a>(
     rows: &'a [u64; 32],
     parents: &'a [u8; 64],
-    branches: &'a [bool; 64],
+    inner: &'a [bool; 64],
     category: &'a [u8; 64],
     nodes: usize,
     categories: usize,
@@ -117,12 +117,12 @@ fn statuses_formed<'a>(
     j: usize,
 ) -> bool
     requires { ⌜ (categories ≤ 8) × (i < 18000000) × (i ≡ placeOf categories (now im) j) × (s ≡ signalIn categories (now im) j) ⌝ }
-    ensures { λ r. ⌜ r ≡ all categories (statusFormedBy (fitsBy (now (rows .entry)) (now (parents .entry)) (now (branches .entry)) (now (category .entry)) nodes) categories (now (im .entry)) j) ⌝ }
+    ensures { λ r. ⌜ r ≡ all categories (statusFormedBy (fitsBy (now (rows .entry)) (now (parents .entry)) (now (inner .entry)) (now (category .entry)) nodes) categories (now (im .entry)) j) ⌝ }
 {
     let mut c = 0;
     while c < categories {
         let b = byte(im, i + 1 + c);
-        if !node_step::stored::fits(rows, parents, branches, category, nodes, s, c, b) {
+        if !node_step::stored::fits(rows, parents, inner, category, nodes, s, c, b) {
             return false;
         }
         c += 1;
@@ -133,7 +133,7 @@ fn statuses_formed<'a>(
 fn state_formed<'a>(
     rows: &'a [u64; 32],
     parents: &'a [u8; 64],
-    branches: &'a [bool; 64],
+    inner: &'a [bool; 64],
     category: &'a [u8; 64],
     nodes: usize,
     signals: usize,
@@ -143,7 +143,7 @@ fn state_formed<'a>(
     j: usize,
 ) -> bool
     requires { ⌜ (categories ≤ 8) × (j < n) × (n ≤ 256) × (n ≡ stateCount (now im)) ⌝ }
-    ensures { λ r. ⌜ r ≡ stateFormedBy (fitsBy (now (rows .entry)) (now (parents .entry)) (now (branches .entry)) (now (category .entry)) nodes) signals categories (now (im .entry)) j ⌝ }
+    ensures { λ r. ⌜ r ≡ stateFormedBy (fitsBy (now (rows .entry)) (now (parents .entry)) (now (inner .entry)) (now (category .entry)) nodes) signals categories (now (im .entry)) j ⌝ }
 {
     let i = place(im, categories, j);
     let s = byte(im, i);
@@ -153,7 +153,7 @@ fn state_formed<'a>(
     if !statuses_formed(
         rows,
         parents,
-        branches,
+        inner,
         category,
         nodes,
         categories,
@@ -170,7 +170,7 @@ fn state_formed<'a>(
 fn states_formed<'a>(
     rows: &'a [u64; 32],
     parents: &'a [u8; 64],
-    branches: &'a [bool; 64],
+    inner: &'a [bool; 64],
     category: &'a [u8; 64],
     nodes: usize,
     signals: usize,
@@ -179,14 +179,14 @@ fn states_formed<'a>(
     n: usize,
 ) -> bool
     requires { ⌜ (categories ≤ 8) × (n ≤ 256) × (n ≡ stateCount (now im)) ⌝ }
-    ensures { λ r. ⌜ r ≡ all (stateCount (now (im .entry))) (stateFormedBy (fitsBy (now (rows .entry)) (now (parents .entry)) (now (branches .entry)) (now (category .entry)) nodes) signals categories (now (im .entry))) ⌝ }
+    ensures { λ r. ⌜ r ≡ all (stateCount (now (im .entry))) (stateFormedBy (fitsBy (now (rows .entry)) (now (parents .entry)) (now (inner .entry)) (now (category .entry)) nodes) signals categories (now (im .entry))) ⌝ }
 {
     let mut j = 0;
     while j < n {
         if !state_formed(
             rows,
             parents,
-            branches,
+            inner,
             category,
             nodes,
             signals,
@@ -203,11 +203,11 @@ fn states_formed<'a>(
 }
 
 // The image has the form of a machine with these symbols, over so many signals and categories, and the places, parents,
-// branches and categories of these nodes.
+// inner and categories of these nodes.
 pub fn formed<'a>(
     rows: &'a [u64; 32],
     parents: &'a [u8; 64],
-    branches: &'a [bool; 64],
+    inner: &'a [bool; 64],
     category: &'a [u8; 64],
     nodes: usize,
     symbols: &[u8; 384],
@@ -216,7 +216,7 @@ pub fn formed<'a>(
     categories: usize,
     im: &[u8],
 ) -> bool
-    ensures { λ r. ⌜ r ≡ formBy (fitsBy (now (rows .entry)) (now (parents .entry)) (now (branches .entry)) (now (category .entry)) nodes) (now (symbols .entry)) count signals categories (now (im .entry)) ⌝ }
+    ensures { λ r. ⌜ r ≡ formBy (fitsBy (now (rows .entry)) (now (parents .entry)) (now (inner .entry)) (now (category .entry)) nodes) (now (symbols .entry)) count signals categories (now (im .entry)) ⌝ }
 {
     if 8 < categories {
         return false;
@@ -246,7 +246,7 @@ pub fn formed<'a>(
     states_formed(
         rows,
         parents,
-        branches,
+        inner,
         category,
         nodes,
         signals,
@@ -300,7 +300,7 @@ fn is_right(
 fn row_right<'a>(
     rows: &'a [u64; 32],
     parents: &'a [u8; 64],
-    branches: &'a [bool; 64],
+    inner: &'a [bool; 64],
     signals: usize,
     categories: usize,
     symbols: &[u8; 384],
@@ -312,14 +312,14 @@ fn row_right<'a>(
     j: usize,
 ) -> bool
     requires { ⌜ (categories ≤ 8) × (count ≤ 128) × (n ≤ 256) × (j < 65536) × Read categories (now im) (now signal) (now statuses) n ⌝ }
-    ensures { λ r. ⌜ r ≡ rowRightBy (nextState (now (rows .entry)) (now (parents .entry)) (now (branches .entry)) signals (now (symbols .entry))) count categories (now (im .entry)) j ⌝ }
+    ensures { λ r. ⌜ r ≡ rowRightBy (nextState (now (rows .entry)) (now (parents .entry)) (now (inner .entry)) signals (now (symbols .entry))) count categories (now (im .entry)) j ⌝ }
 {
     let i = place(im, categories, j) + 1 + categories;
     let from = state(im, categories, j);
     let mut k = 0;
     while k < count {
         let t = at(im, i + k);
-        let right = crate::states::next(rows, parents, branches, signals, symbols, from, k);
+        let right = crate::states::next(rows, parents, inner, signals, symbols, from, k);
         if !is_right(im, categories, signal, statuses, n, t, right) {
             return false;
         }
@@ -331,7 +331,7 @@ fn row_right<'a>(
 fn rows_right<'a>(
     rows: &'a [u64; 32],
     parents: &'a [u8; 64],
-    branches: &'a [bool; 64],
+    inner: &'a [bool; 64],
     signals: usize,
     categories: usize,
     symbols: &[u8; 384],
@@ -340,16 +340,16 @@ fn rows_right<'a>(
     n: usize,
 ) -> bool
     requires { ⌜ (categories ≤ 8) × (count ≤ 128) × (n < 65536) ⌝ }
-    ensures { λ r. ⌜ r ≡ all n (rowRightBy (nextState (now (rows .entry)) (now (parents .entry)) (now (branches .entry)) signals (now (symbols .entry))) count categories (now (im .entry))) ⌝ }
+    ensures { λ r. ⌜ r ≡ all n (rowRightBy (nextState (now (rows .entry)) (now (parents .entry)) (now (inner .entry)) signals (now (symbols .entry))) count categories (now (im .entry))) ⌝ }
 {
     let mut signal = [0u8; 256];
     let mut statuses = [0u64; 256];
-    let read = crate::symbols::at_most(n, 256);
+    let read = node_step::uses::at_most(n, 256);
     read_states(im, categories, read, &mut signal, &mut statuses);
     let mut j = 0;
     while j < n {
         if !row_right(
-            rows, parents, branches, signals, categories, symbols, count, im, &signal, &statuses,
+            rows, parents, inner, signals, categories, symbols, count, im, &signal, &statuses,
             read, j,
         ) {
             return false;
@@ -359,11 +359,11 @@ fn rows_right<'a>(
     true
 }
 
-// 0 if the image is a right machine of a table whose places, parents, branches and symbols these are, else 15 to 17.
+// 0 if the image is a right machine of a table whose places, parents, inner and symbols these are, else 15 to 17.
 pub fn check_by<'a>(
     rows: &'a [u64; 32],
     parents: &'a [u8; 64],
-    branches: &'a [bool; 64],
+    inner: &'a [bool; 64],
     category: &'a [u8; 64],
     nodes: usize,
     signals: usize,
@@ -372,12 +372,12 @@ pub fn check_by<'a>(
     count: usize,
     im: &[u8],
 ) -> u8
-    ensures { λ r. ⌜ r ≡ checkBy (fitsBy (now (rows .entry)) (now (parents .entry)) (now (branches .entry)) (now (category .entry)) nodes) (nextState (now (rows .entry)) (now (parents .entry)) (now (branches .entry)) signals (now (symbols .entry))) (now (symbols .entry)) count signals categories (now (im .entry)) ⌝ }
+    ensures { λ r. ⌜ r ≡ checkBy (fitsBy (now (rows .entry)) (now (parents .entry)) (now (inner .entry)) (now (category .entry)) nodes) (nextState (now (rows .entry)) (now (parents .entry)) (now (inner .entry)) signals (now (symbols .entry))) (now (symbols .entry)) count signals categories (now (im .entry)) ⌝ }
 {
     if !formed(
         rows,
         parents,
-        branches,
+        inner,
         category,
         nodes,
         symbols,
@@ -400,7 +400,7 @@ pub fn check_by<'a>(
     if !rows_right(
         rows,
         parents,
-        branches,
+        inner,
         signals,
         categories,
         symbols,
@@ -417,7 +417,7 @@ pub fn check_by<'a>(
 pub fn target(im: &[u8], categories: usize, j: u8, k: u8) -> u8
     ensures { λ r. ⌜ r ≡ targetIn (fewer categories 8) (now (im .entry)) j k ⌝ }
 {
-    let cats = crate::symbols::at_most(categories, 8);
+    let cats = node_step::uses::at_most(categories, 8);
     let state = crate::states::wide(j);
     let symbol = crate::states::wide(k);
     let i = place(im, cats, state) + 1 + cats;
@@ -428,7 +428,7 @@ pub fn target(im: &[u8], categories: usize, j: u8, k: u8) -> u8
 pub fn signal(im: &[u8], categories: usize, j: u8) -> u8
     ensures { λ r. ⌜ r ≡ signalIn (fewer categories 8) (now (im .entry)) j ⌝ }
 {
-    let cats = crate::symbols::at_most(categories, 8);
+    let cats = node_step::uses::at_most(categories, 8);
     let state = crate::states::wide(j);
     let i = place(im, cats, state);
     byte(im, i)

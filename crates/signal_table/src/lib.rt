@@ -8,7 +8,6 @@ mod write;
 
 pub use crate::matching::Match;
 pub use crate::write::Built;
-use node_step::branches::branches_of;
 ghost use mathlib.Core.Path.{_≡_};
 ghost use lib.ListN.{length};
 ghost use Rattle.stored_table.specs.Tables.{tableRefusal};
@@ -32,14 +31,13 @@ pub fn build(t: &[u8], buf: &mut [u8]) -> Built
     if refused != 0 {
         return write::refuse(buf, refused);
     }
-    let branches = branches_of(&d.parent, d.nodes);
     let s = symbols::list(&d.category, &d.parent, d.nodes, d.categories);
     write::build_by(
         &d.rows,
         &d.parent,
-        &branches,
+        &d.inner,
         d.signals,
-        symbols::at_most(d.categories, 8),
+        d.categories,
         &s.bytes,
         s.count,
         buf,
@@ -55,12 +53,11 @@ pub fn check(t: &[u8], image: &[u8]) -> u8
     if refused != 0 {
         return refused;
     }
-    let branches = branches_of(&d.parent, d.nodes);
     let s = symbols::list(&d.category, &d.parent, d.nodes, d.categories);
     image::check_by(
         &d.rows,
         &d.parent,
-        &branches,
+        &d.inner,
         &d.category,
         d.nodes,
         d.signals,

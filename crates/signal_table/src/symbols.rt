@@ -118,19 +118,6 @@ fn push_all<'a>(
     n
 }
 
-<<<<<<< HEAD
-=======
-// n, or m if that is less.
-pub(crate) fn at_most(n: usize, m: usize) -> usize
-    ensures { λ r. ⌜ (r ≡ fewer n m) × (r ≤ m) ⌝ }
-{
-    if n <= m {
-        return n;
-    }
-    m
-}
-
->>>>>>> b8e7a93 (prototype: held, on the base)
 // The symbols of a table with these nodes, at most 128 of them.
 pub fn list<'a>(
     category: &'a [u8; 64],

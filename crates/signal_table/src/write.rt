@@ -1,10 +1,10 @@
 // The image of a table's machine, written to a lent buffer.
 ghost use mathlib.Core.Path.{_≡_};
-ghost use mathlib.Core.List.{[], _∷_, _++_};
-ghost use Prim.Native.Nat.{_+_, _*_, _/_, _%_, _≤_};
-ghost use lib.ListN.{length, take, replicate};
+ghost use Prim.Native.Nat.{_+_, _*_, _≤_};
+ghost use lib.ListN.{length, replicate};
+ghost use Rattle.node_step.specs.Uses.{fewer};
 ghost use Rattle.signal_table.specs.Built.{refused};
-ghost use Rattle.signal_table.specs.States.{nextState, builtBy, bufferBy};
+ghost use Rattle.signal_table.specs.States.{nextState, headBytes, builtBy, bufferBy};
 
 // What a build answers: its refusal number, and the image's length, 0 if refused.
 #[repr(C)]
@@ -34,8 +34,8 @@ pub(crate) fn refuse(buf: &mut [u8], refusal: u8) -> Built
 
 // The symbol count, the symbols and the state count.
 fn put_head(symbols: &[u8; 384], count: usize, n: usize, head: &mut [u8])
-    requires { ⌜ (count ≤ 128) × (n ≤ 256) × (length (now head) ≡ 3 + 3 * count) × (length (now symbols) ≡ 384) ⌝ }
-    ensures { λ _. ⌜ now (head .exit) ≡ count ∷ take (3 * count) (now (symbols .entry)) ++ n % 256 ∷ n / 256 ∷ [] ⌝ }
+    requires { ⌜ (count ≤ 128) × (n ≤ 256) × (length (now head) ≡ 3 + 3 * count) ⌝ }
+    ensures { λ _. ⌜ now (head .exit) ≡ headBytes (now (symbols .entry)) count n ⌝ }
 {
     head[0] = count as u8;
     let end = 3 * count;
@@ -48,39 +48,34 @@ fn put_head(symbols: &[u8; 384], count: usize, n: usize, head: &mut [u8])
     head[2 + end] = (n / 256) as u8;
 }
 
-// The machine of a table whose places, parents and symbols these are.
-pub(crate) fn build_by<'a>(
+// The machine of a table whose places, parents, inner nodes and symbols these are.
+fn write_image<'a>(
     rows: &'a [u64; 32],
     parents: &'a [u8; 64],
-    branches: &'a [bool; 64],
+    inner: &'a [bool; 64],
     signals: usize,
     categories: usize,
     symbols: &[u8; 384],
     count: usize,
     buf: &mut [u8],
 ) -> Built
-    requires { ⌜ (categories ≤ 8) × (count ≤ 128) × (length (now symbols) ≡ 384) ⌝ }
-    ensures { λ r. ⌜ r ≡ builtBy (nextState (now (rows .entry)) (now (parents .entry)) (now (branches .entry)) signals (now (symbols .entry))) categories count (length (now (buf .entry))) ⌝ }
-    ensures { λ _. ⌜ now (buf .exit) ≡ bufferBy (nextState (now (rows .entry)) (now (parents .entry)) (now (branches .entry)) signals (now (symbols .entry))) categories count (now (symbols .entry)) (length (now (buf .entry))) ⌝ }
+    requires { ⌜ (categories ≤ 8) × (count ≤ 128) ⌝ }
+    ensures { λ r. ⌜ r ≡ builtBy (nextState (now (rows .entry)) (now (parents .entry)) (now (inner .entry)) signals (now (symbols .entry))) categories count (length (now (buf .entry))) ⌝ }
+    ensures { λ _. ⌜ now (buf .exit) ≡ bufferBy (nextState (now (rows .entry)) (now (parents .entry)) (now (inner .entry)) signals (now (symbols .entry))) categories count (now (symbols .entry)) (length (now (buf .entry))) ⌝ }
 {
     let head = 3 + 3 * count;
     let room = buf.len();
-<<<<<<< HEAD
     let from = node_step::uses::at_most(head, room);
-    let n = crate::states::discover(rows, parents, signals, symbols, count, &mut buf[from..room]);
-=======
-    let from = at_most(head, room);
     let n = crate::states::discover(
         rows,
         parents,
-        branches,
+        inner,
         signals,
         categories,
         symbols,
         count,
         &mut buf[from..room],
     );
->>>>>>> b8e7a93 (prototype: held, on the base)
     if 256 < n {
         return refuse(buf, 13);
     }
@@ -95,4 +90,23 @@ pub(crate) fn build_by<'a>(
         refusal: 0,
         len: size,
     }
+}
+
+// The same for any numbers: at most 8 categories and 128 symbols.
+pub(crate) fn build_by<'a>(
+    rows: &'a [u64; 32],
+    parents: &'a [u8; 64],
+    inner: &'a [bool; 64],
+    signals: usize,
+    categories: usize,
+    symbols: &[u8; 384],
+    count: usize,
+    buf: &mut [u8],
+) -> Built
+    ensures { λ r. ⌜ r ≡ builtBy (nextState (now (rows .entry)) (now (parents .entry)) (now (inner .entry)) signals (now (symbols .entry))) (fewer categories 8) (fewer count 128) (length (now (buf .entry))) ⌝ }
+    ensures { λ _. ⌜ now (buf .exit) ≡ bufferBy (nextState (now (rows .entry)) (now (parents .entry)) (now (inner .entry)) signals (now (symbols .entry))) (fewer categories 8) (fewer count 128) (now (symbols .entry)) (length (now (buf .entry))) ⌝ }
+{
+    let k = node_step::uses::at_most(categories, 8);
+    let n = node_step::uses::at_most(count, 128);
+    write_image(rows, parents, inner, signals, k, symbols, n, buf)
 }

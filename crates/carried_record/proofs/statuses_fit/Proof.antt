@@ -1,43 +1,44 @@
+use Prim.Native.Nat.{_-_, _≤_}
 use mathlib.Core.Path.{_≡_}
-use Prim.Native.Nat.{_-_}
-use lib.ListN.{drop}
+use mathlib.Core.Bool.{true}
 use native.Mathlib.Omega.{arith}
-use denote.Ref.{now}
-use Rattle.carried_record.specs.Record.{statusesFit}
-use Rattle.carried_record.proofs.BitLaws.{fit-start, fit-stop, fit-more, fit-end}
+use borrow.Author.Tests.{not-true, not-false}
+use Rattle.resolution.specs.Lists.{all}
+use Rattle.carried_record.specs.Coded.{statusAt}
+use Rattle.carried_record.proofs.FitLaws.{all-none, all-next, all-fails, all-done}
 use borrow.Author.Needs.{needs}
 use Rattle.carried_record.proofs.statuses_fit.Statement.{statement}
 use Rattle.carried_record.proofs.statuses_fit.Tie as tie
 
 abbrev Inv-loop : tie.InvT-loop
-Inv-loop status categories c₀ c = statusesFit categories status ≡ statusesFit (categories - c) (drop c status)
+Inv-loop rows parents inner category nodes categories s status c₀ c = (c ≤ 8) × (all c (statusAt rows parents inner category nodes categories s status) ≡ true)
 
 abbrev μ-loop : tie.MeasureT-loop
-μ-loop status categories c₀ c = 8 - c
+μ-loop rows parents inner category nodes categories s status c₀ c = 8 - c
 
 loop-holds : tie.Need-loop-holds Inv-loop μ-loop
-loop-holds c = fit-start _ _
+loop-holds c = (omega arith, all-none _)
 
-most-at-requires : tie.Need-most-at-requires Inv-loop μ-loop
-most-at-requires c κs = search needs
+element-copy-out-b : tie.Need-element-copy-out-b Inv-loop μ-loop
+element-copy-out-b c = search needs
 
-element-copy-out-if1 : tie.Need-element-copy-out-if1 Inv-loop μ-loop
-element-copy-out-if1 c = search needs
+status-fits-requires : tie.Need-status-fits-requires Inv-loop μ-loop
+status-fits-requires c κs = search needs
 
 returns : tie.Need-returns Inv-loop μ-loop
-returns c = fit-stop _ (now (c .before .before .before .before .before .args .status)) (c .before .before .before .before .loop .c) (c .before .before .before .before .loop .inv) (omega arith) _ (c .before .before .most-at .ensures) (c .if1 .taken)
+returns c = all-fails _ (c .before .before .before .before .loop .c) 8 (c .before .before .before .loop-test .taken) (c .before .status-fits .ensures) (not-true _ (c .if1 .taken))
 
 add-c : tie.Need-add-c Inv-loop μ-loop
 add-c c = search needs
 
 loop-less : tie.Need-loop-less Inv-loop μ-loop
-loop-less c = omega arith
+loop-less c = omega (arith, c .before .before .before .loop-test .taken)
 
 loop-again : tie.Need-loop-again Inv-loop μ-loop
-loop-again c = fit-more _ (now (c .before .before .before .before .before .args .status)) (c .before .before .before .before .loop .c) (c .before .before .before .before .loop .inv) (omega arith) _ (c .before .before .most-at .ensures) (c .if1 .left)
+loop-again c = (omega (arith, c .before .before .before .loop-test .taken), all-next _ (c .before .before .before .before .loop .c) (c .before .before .before .before .loop .inv .1) (c .before .status-fits .ensures) (not-false _ (c .if1 .left)))
 
 returns-2 : tie.Need-returns-2 Inv-loop μ-loop
-returns-2 c = fit-end _ (now (c .before .before .args .status)) (c .before .loop .c) (c .before .loop .inv) (omega arith)
+returns-2 c = all-done _ (c .before .loop .c) 8 (c .before .loop .inv .0) (c .loop-test .left) (c .before .loop .inv .1)
 
 pub statuses-fit-spec : {M : Type 1} → statement M
 statuses-fit-spec =
@@ -46,8 +47,8 @@ statuses-fit-spec =
     Inv-loop
     μ-loop
     loop-holds
-    most-at-requires
-    element-copy-out-if1
+    element-copy-out-b
+    status-fits-requires
     returns
     add-c
     loop-less

@@ -2,7 +2,7 @@ use mathlib.Core.Path.{sym, _∙_}
 use borrow.Author.Tests.{not-true, not-false}
 use native.Mathlib.Omega.{arith}
 use Rattle.alert_info.proofs.ReadingLaws.{refusal-long}
-use Rattle.resolver.proofs.MachineLaws.{machine-right, machine-long, machine-table, machine-form, symbols-listed, cats-listed, form-listed}
+use Rattle.resolver.proofs.MachineLaws.{machine-right, machine-long, machine-table, machine-form, symbols-listed, form-listed}
 use borrow.Author.Needs.{needs}
 use Rattle.resolver.proofs.machine.Statement.{statement}
 use Rattle.resolver.proofs.machine.Tie as tie
@@ -22,9 +22,6 @@ value-first-requires c κs = search needs
 returns-2 : tie.Need-returns-2
 returns-2 c = c .value-first .ensures ∙ machine-table _ _ _ (c .before .before .decode .ensures .refusal) (c .before .if2 .taken)
 
-branches-of-requires : tie.Need-branches-of-requires
-branches-of-requires c κs = search needs
-
 list-requires : tie.Need-list-requires
 list-requires c κs = search needs
 
@@ -35,36 +32,21 @@ value-first-requires-2 : tie.Need-value-first-requires-2
 value-first-requires-2 c κs = search needs
 
 returns-3 : tie.Need-returns-3
-<<<<<<< HEAD
 returns-3 c = let z = sym (c .before .before .before .before .before .before .before .before .before .before .decode .ensures .refusal) ∙ c .before .before .before .before .before .before .before .before .before .if2 .left in
     let h = c .before .before .before .before .before .before .before .before .before .before .decode .ensures .holds z in
     c .value-first2 .ensures ∙ machine-form _ _ _ z (sym (form-listed _ _ (c .before .before .before .before .before .before .before .before .before .before .decode .ensures) (c .before .before .before .before .before .before .before .before .before .if2 .left) (c .before .before .before .before .before .list .ensures) _ (c .before .before .formed .ensures)) ∙ not-true _ (c .before .if3 .taken))
-=======
-returns-3 c = let d = c .before .before .before .before .before .before .before .before .before .before .before .before .before .before .before .before .before .before .decode in
-    let z = sym (d .ensures .refusal) ∙ c .before .before .before .before .before .before .before .before .before .before .before .before .before .before .before .before .before .if2 .left in
-    c .value-first2 .ensures ∙ machine-form _ _ _ z (sym (form-listed _ _ (d .ensures) (c .before .before .before .before .before .before .before .before .before .before .before .before .before .before .before .before .before .if2 .left) (c .before .before .before .before .before .before .before .before .before .before .list .ensures .0) (c .before .before .before .before .before .before .before .before .before .before .before .before .before .before .branches-of .ensures) _ (c .before .before .formed .ensures)) ∙ not-true _ (c .before .if3 .taken))
->>>>>>> b8e7a93 (prototype: held, on the base)
 
 index-requires : tie.Need-index-requires
 index-requires c κs = search needs
 
 resolved-requires : tie.Need-resolved-requires
-resolved-requires c κs = omega (arith, c .before .before .before .before .before .before .before .before .before .before .before .before .before .before .before .before .before .before .before .before .before .before .before .before .before .if1 .left)
+resolved-requires c κs = search needs
 
 returns-4 : tie.Need-returns-4
-<<<<<<< HEAD
 returns-4 c = let z = sym (c .before .before .before .before .before .before .before .before .before .before .before .before .before .before .before .before .decode .ensures .refusal) ∙ c .before .before .before .before .before .before .before .before .before .before .before .before .before .before .before .if2 .left in
     let h = c .before .before .before .before .before .before .before .before .before .before .before .before .before .before .before .before .decode .ensures .holds z in
     let f = sym (form-listed _ _ (c .before .before .before .before .before .before .before .before .before .before .before .before .before .before .before .before .decode .ensures) (c .before .before .before .before .before .before .before .before .before .before .before .before .before .before .before .if2 .left) (c .before .before .before .before .before .before .before .before .before .before .before .list .ensures) _ (c .before .before .before .before .before .before .before .before .formed .ensures)) ∙ not-false _ (c .before .before .before .before .before .before .before .if3 .left) in
     c .resolved .ensures ∙ machine-right _ _ h _ (symbols-listed _ _ (c .before .before .before .before .before .before .before .before .before .before .before .before .before .before .before .before .decode .ensures) (c .before .before .before .before .before .before .before .before .before .before .before .before .before .before .before .if2 .left) (c .before .before .before .before .before .before .before .before .before .before .before .list .ensures)) (c .before .before .before .before .index .ensures) _ (omega (arith, c .before .before .before .before .before .before .before .before .before .before .before .before .before .before .before .before .before .if1 .left)) z f
-=======
-returns-4 c = let d = c .before .before .before .before .before .before .before .before .before .before .before .before .before .before .before .before .before .before .before .before .before .before .before .before .before .decode in
-    let z = sym (d .ensures .refusal) ∙ c .before .before .before .before .before .before .before .before .before .before .before .before .before .before .before .before .before .before .before .before .before .before .before .before .if2 .left in
-    let h = d .ensures .holds z in
-    let l = c .before .before .before .before .before .before .before .before .before .before .before .before .before .before .before .before .before .list .ensures .0 in
-    let f = sym (form-listed _ _ (d .ensures) (c .before .before .before .before .before .before .before .before .before .before .before .before .before .before .before .before .before .before .before .before .before .before .before .before .if2 .left) l (c .before .before .before .before .before .before .before .before .before .before .before .before .before .before .before .before .before .before .before .before .before .branches-of .ensures) _ (c .before .before .before .before .before .before .before .before .before .formed .ensures)) ∙ not-false _ (c .before .before .before .before .before .before .before .before .if3 .left) in
-    c .resolved .ensures ∙ machine-right _ _ h _ (symbols-listed _ _ (d .ensures) (c .before .before .before .before .before .before .before .before .before .before .before .before .before .before .before .before .before .before .before .before .before .before .before .before .if2 .left) l) (c .before .before .before .before .before .index .ensures) (cats-listed _ _ (d .ensures) (c .before .before .before .before .before .before .before .before .before .before .before .before .before .before .before .before .before .before .before .before .before .before .before .before .if2 .left) l) _ (omega (arith, c .before .before .before .before .before .before .before .before .before .before .before .before .before .before .before .before .before .before .before .before .before .before .before .before .before .before .if1 .left)) z f
->>>>>>> b8e7a93 (prototype: held, on the base)
 
 pub machine-spec : {M : Type 1} → statement M
 machine-spec =
@@ -75,7 +57,6 @@ machine-spec =
     decode-requires
     value-first-requires
     returns-2
-    branches-of-requires
     list-requires
     formed-requires
     value-first-requires-2

@@ -1,20 +1,29 @@
 use mathlib.Core.Path.{_∙_}
 use lib.ListN.{length}
 use Rattle.signal_table.proofs.TableRight.{refused-built, refused-buffer, table-built, table-buffer}
-use Rattle.signal_table.proofs.SymbolLaws.{lists-listed}
 use borrow.Author.Needs.{needs}
 use Rattle.signal_table.proofs.build.Statement.{statement}
 use Rattle.signal_table.proofs.build.Tie as tie
+use Rattle.signal_table.proofs.build.Reads as reads
+use Rattle.signal_table.proofs.build.Lts as lts
+use Rattle.signal_table.proofs.symbols.list.Reads as list-reads
+use Rattle.signal_table.proofs.write.build_by.Reads as build-by-reads
+use Rattle.signal_table.proofs.write.refuse.Reads as refuse-reads
+use Rattle.stored_table.proofs.decode.Reads as decode-reads
 
+-- src/lib.rt:29:13
 decode-requires : tie.Need-decode-requires
 decode-requires c κs = search needs
 
+-- src/lib.rt:32:9
 refuse-requires : tie.Need-refuse-requires
 refuse-requires c κs = search needs
 
+-- src/lib.rt:32:9
 same-length : tie.Need-same-length
 same-length c = search needs
 
+-- src/lib.rt:32:9
 returns : tie.Need-returns
 returns c = let a = c .before .before .before .before .before .before .before .before .args in
     let d = c .before .before .before .before .before .decode in (
@@ -22,35 +31,25 @@ returns c = let a = c .before .before .before .before .before .before .before .b
       c .before .before .refuse .ensures .1 ∙ refused-buffer (a .t .now) (d .result) (d .ensures) (c .before .before .before .before .if1 .taken) (length (a .buf .now)),
     )
 
-branches-of-requires : tie.Need-branches-of-requires
-branches-of-requires c κs = search needs
-
+-- src/lib.rt:34:13
 list-requires : tie.Need-list-requires
 list-requires c κs = search needs
 
-at-most-requires : tie.Need-at-most-requires
-at-most-requires c κs = search needs
-
+-- src/lib.rt:35:5
 build-by-requires : tie.Need-build-by-requires
-build-by-requires c κs = let v = lists-listed _ _ _ _ (c .before .before .before .before .before .before .list .ensures) in (v .1, v .0 .wide)
+build-by-requires c κs = search needs
 
+-- src/lib.rt:25:1
 same-length-2 : tie.Need-same-length-2
 same-length-2 c = search needs
 
+-- src/lib.rt:25:1
 returns-2 : tie.Need-returns-2
-<<<<<<< HEAD
-returns-2 c = let a = c .before .before .before .before .before .before .before .before .before .before .before .before .before .before .before .before .before .args in
-    let d = c .before .before .before .before .before .before .before .before .before .before .before .before .before .before .decode in
-    let s = c .before .before .before .before .before .before .before .before .before .list in (
-      c .before .before .build-by .ensures .0 ∙ table-built (a .t .now) (d .result) (d .ensures) (c .before .before .before .before .before .before .before .before .before .before .before .before .before .if1 .left) (s .result) (s .ensures) (length (a .buf .now)),
-      c .before .before .build-by .ensures .1 ∙ table-buffer (a .t .now) (d .result) (d .ensures) (c .before .before .before .before .before .before .before .before .before .before .before .before .before .if1 .left) (s .result) (s .ensures) (length (a .buf .now)),
-=======
-returns-2 c = let a = c .before .before .before .before .before .before .before .before .before .before .before .before .before .before .before .before .before .before .before .before .before .before .args in
-    let d = c .before .before .before .before .before .before .before .before .before .before .before .before .before .before .before .before .before .before .before .decode in
-    let s = c .before .before .before .before .before .before .before .before .before .before .before .list in (
-      c .before .before .build-by .ensures .0 ∙ table-built (a .t .now) (d .result) (d .ensures) (c .before .before .before .before .before .before .before .before .before .before .before .before .before .before .before .before .before .before .if1 .left) (s .result .bytes) (s .result .count) (s .ensures .0) (c .before .before .before .before .before .before .before .before .before .before .before .before .before .before .before .branches-of .ensures) (length (a .buf .now)) (c .before .before .before .before .before .before .at-most .ensures .0),
-      c .before .before .build-by .ensures .1 ∙ table-buffer (a .t .now) (d .result) (d .ensures) (c .before .before .before .before .before .before .before .before .before .before .before .before .before .before .before .before .before .before .if1 .left) (s .result .bytes) (s .result .count) (s .ensures .0) (c .before .before .before .before .before .before .before .before .before .before .before .before .before .before .before .branches-of .ensures) (length (a .buf .now)) (c .before .before .before .before .before .before .at-most .ensures .0),
->>>>>>> b8e7a93 (prototype: held, on the base)
+returns-2 c = let a = c .before .before .before .before .before .before .before .before .before .before .before .before .before .before .before .before .before .before .args in
+    let d = c .before .before .before .before .before .before .before .before .before .before .before .before .before .before .before .decode in
+    let s = c .before .before .before .before .before .before .before .before .before .before .list in (
+      c .before .before .build-by .ensures .0 ∙ table-built (a .t .now) (d .result) (d .ensures) (c .before .before .before .before .before .before .before .before .before .before .before .before .before .before .if1 .left) (s .result) (s .ensures) (length (a .buf .now)),
+      c .before .before .build-by .ensures .1 ∙ table-buffer (a .t .now) (d .result) (d .ensures) (c .before .before .before .before .before .before .before .before .before .before .before .before .before .before .if1 .left) (s .result) (s .ensures) (length (a .buf .now)),
     )
 
 pub build-spec : {M : Type 1} → statement M
@@ -61,9 +60,7 @@ build-spec =
     refuse-requires
     same-length
     returns
-    branches-of-requires
     list-requires
-    at-most-requires
     build-by-requires
     same-length-2
     returns-2)

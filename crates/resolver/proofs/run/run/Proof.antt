@@ -11,10 +11,10 @@ use Rattle.resolver.proofs.run.run.Statement.{statement}
 use Rattle.resolver.proofs.run.run.Tie as tie
 
 abbrev Inv-loop : tie.InvT-loop
-Inv-loop t branches index symbols count image from v d at₀ p₀ at p = (runFrom t d (record { branches = branches; index = index; symbols = symbols; count = count; categories = d .categories; image = image }) v from 0 ≡ runOf from (over v (after t d (record { branches = branches; index = index; symbols = symbols; count = count; categories = d .categories; image = image })) p (readingFrom v at))) × (p .used + p .skipped ≤ at) × (at ≤ length v)
+Inv-loop t index symbols count image from v d at₀ p₀ at p = (runFrom t d (record { index = index; symbols = symbols; count = count; image = image }) v from 0 ≡ runOf from (over v (after t d (record { index = index; symbols = symbols; count = count; image = image })) p (readingFrom v at))) × (p .used + p .skipped ≤ at) × (at ≤ length v)
 
 abbrev μ-loop : tie.MeasureT-loop
-μ-loop t branches index symbols count image from v d at₀ p₀ at p = length v - at
+μ-loop t index symbols count image from v d at₀ p₀ at p = length v - at
 
 loop-holds : tie.Need-loop-holds Inv-loop μ-loop
 unfolding runFrom

@@ -1,8 +1,4 @@
-<<<<<<< HEAD
-use native.Mathlib.Omega.{arith}
-=======
 use Rattle.node_step.specs.StatusByte.{fitsBy}
->>>>>>> b8e7a93 (prototype: held, on the base)
 use borrow.Author.Tests.{not-true, not-false}
 use Rattle.signal_table.proofs.ImageLaws.{form-cats, form-count, form-short, form-length, form-symbols, form-none, form-many, form-states}
 use borrow.Author.Needs.{needs}
@@ -19,11 +15,11 @@ use Rattle.signal_table.proofs.image.states_formed.Reads as states-form
 
 -- src/image.rt:222:9
 returns : tie.Need-returns
-returns c = let a = c .before .before .args in form-cats (fitsBy (a .rows .now) (a .parents .now) (a .branches .now) (a .category .now) (a .nodes)) (a .symbols .now) (a .count) (a .signals) (a .categories) (a .im .now) (c .if1 .taken)
+returns c = let a = c .before .before .args in form-cats (fitsBy (a .rows .now) (a .parents .now) (a .inner .now) (a .category .now) (a .nodes)) (a .symbols .now) (a .count) (a .signals) (a .categories) (a .im .now) (c .if1 .taken)
 
 -- src/image.rt:225:9
 returns-2 : tie.Need-returns-2
-returns-2 c = let a = c .before .before .before .args in form-count (fitsBy (a .rows .now) (a .parents .now) (a .branches .now) (a .category .now) (a .nodes)) (a .symbols .now) (a .count) (a .signals) (a .categories) (a .im .now) (c .before .if1 .left) (c .if2 .taken)
+returns-2 c = let a = c .before .before .before .args in form-count (fitsBy (a .rows .now) (a .parents .now) (a .inner .now) (a .category .now) (a .nodes)) (a .symbols .now) (a .count) (a .signals) (a .categories) (a .im .now) (c .before .if1 .left) (c .if2 .taken)
 
 -- src/image.rt:227:9
 at-requires : tie.Need-at-requires
@@ -39,7 +35,7 @@ add-if3 c = search needs
 
 -- src/image.rt:229:9
 returns-3 : tie.Need-returns-3
-returns-3 c = let a = c .before .before .before .before .before .args in form-short (fitsBy (a .rows .now) (a .parents .now) (a .branches .now) (a .category .now) (a .nodes)) (a .symbols .now) (a .count) (a .signals) (a .categories) (a .im .now) (c .before .before .before .if1 .left) (c .before .before .if2 .left) (c .before .at .ensures .0) (c .if3 .taken)
+returns-3 c = let a = c .before .before .before .before .before .args in form-short (fitsBy (a .rows .now) (a .parents .now) (a .inner .now) (a .category .now) (a .nodes)) (a .symbols .now) (a .count) (a .signals) (a .categories) (a .im .now) (c .before .before .before .if1 .left) (c .before .before .if2 .left) (c .before .at .ensures .0) (c .if3 .taken)
 
 -- src/image.rt:231:9
 state-count-requires : tie.Need-state-count-requires
@@ -51,7 +47,7 @@ place-requires c κs = search needs
 
 -- src/image.rt:233:9
 returns-4 : tie.Need-returns-4
-returns-4 c = let a = c .before .before .before .before .before .before .before .before .args in form-length (fitsBy (a .rows .now) (a .parents .now) (a .branches .now) (a .category .now) (a .nodes)) (a .symbols .now) (a .count) (a .signals) (a .categories) (a .im .now) (c .before .before .before .before .before .before .if1 .left) (c .before .before .before .before .before .if2 .left) (c .before .before .before .before .at .ensures .0) (c .before .before .before .if3 .left) (c .before .before .state-count .ensures .0) (c .before .place .ensures .0) (c .if4 .taken)
+returns-4 c = let a = c .before .before .before .before .before .before .before .before .args in form-length (fitsBy (a .rows .now) (a .parents .now) (a .inner .now) (a .category .now) (a .nodes)) (a .symbols .now) (a .count) (a .signals) (a .categories) (a .im .now) (c .before .before .before .before .before .before .if1 .left) (c .before .before .before .before .before .if2 .left) (c .before .before .before .before .at .ensures .0) (c .before .before .before .if3 .left) (c .before .before .state-count .ensures .0) (c .before .place .ensures .0) (c .if4 .taken)
 
 -- src/image.rt:235:45
 mul-part : tie.Need-mul-part
@@ -75,21 +71,15 @@ same-requires c κs = search needs
 
 -- src/image.rt:238:9
 returns-5 : tie.Need-returns-5
-returns-5 c = let a = c .before .before .before .before .before .before .before .before .before .before .before .before .before .args in form-symbols (fitsBy (a .rows .now) (a .parents .now) (a .branches .now) (a .category .now) (a .nodes)) (a .symbols .now) (a .count) (a .signals) (a .categories) (a .im .now) (c .before .before .before .before .before .before .before .before .before .before .before .if1 .left) (c .before .before .before .before .before .before .before .before .before .before .if2 .left) (c .before .before .before .before .before .before .before .before .before .at .ensures .0) (c .before .before .before .before .before .before .before .before .if3 .left) (c .before .before .before .before .before .before .before .state-count .ensures .0) (c .before .before .before .before .before .before .place .ensures .0) (c .before .before .before .before .before .if4 .left) (c .before .before .before .before .part .ensures) (c .before .before .part2 .ensures) (c .before .same .ensures) (not-true _ (c .if5 .taken))
+returns-5 c = let a = c .before .before .before .before .before .before .before .before .before .before .before .before .before .args in form-symbols (fitsBy (a .rows .now) (a .parents .now) (a .inner .now) (a .category .now) (a .nodes)) (a .symbols .now) (a .count) (a .signals) (a .categories) (a .im .now) (c .before .before .before .before .before .before .before .before .before .before .before .if1 .left) (c .before .before .before .before .before .before .before .before .before .before .if2 .left) (c .before .before .before .before .before .before .before .before .before .at .ensures .0) (c .before .before .before .before .before .before .before .before .if3 .left) (c .before .before .before .before .before .before .before .state-count .ensures .0) (c .before .before .before .before .before .before .place .ensures .0) (c .before .before .before .before .before .if4 .left) (c .before .before .before .before .part .ensures) (c .before .before .part2 .ensures) (c .before .same .ensures) (not-true _ (c .if5 .taken))
 
 -- src/image.rt:241:9
 returns-6 : tie.Need-returns-6
-returns-6 c = let a = c .before .before .before .before .before .before .before .before .before .before .before .before .before .before .args in form-none (fitsBy (a .rows .now) (a .parents .now) (a .branches .now) (a .category .now) (a .nodes)) (a .symbols .now) (a .count) (a .signals) (a .categories) (a .im .now) (c .before .before .before .before .before .before .before .before .before .before .before .before .if1 .left) (c .before .before .before .before .before .before .before .before .before .before .before .if2 .left) (c .before .before .before .before .before .before .before .before .before .before .at .ensures .0) (c .before .before .before .before .before .before .before .before .before .if3 .left) (c .before .before .before .before .before .before .before .before .state-count .ensures .0) (c .before .before .before .before .before .before .before .place .ensures .0) (c .before .before .before .before .before .before .if4 .left) (c .before .before .before .before .before .part .ensures) (c .before .before .before .part2 .ensures) (c .before .before .same .ensures) (not-false _ (c .before .if5 .left)) (c .if6 .taken)
+returns-6 c = let a = c .before .before .before .before .before .before .before .before .before .before .before .before .before .before .args in form-none (fitsBy (a .rows .now) (a .parents .now) (a .inner .now) (a .category .now) (a .nodes)) (a .symbols .now) (a .count) (a .signals) (a .categories) (a .im .now) (c .before .before .before .before .before .before .before .before .before .before .before .before .if1 .left) (c .before .before .before .before .before .before .before .before .before .before .before .if2 .left) (c .before .before .before .before .before .before .before .before .before .before .at .ensures .0) (c .before .before .before .before .before .before .before .before .before .if3 .left) (c .before .before .before .before .before .before .before .before .state-count .ensures .0) (c .before .before .before .before .before .before .before .place .ensures .0) (c .before .before .before .before .before .before .if4 .left) (c .before .before .before .before .before .part .ensures) (c .before .before .before .part2 .ensures) (c .before .before .same .ensures) (not-false _ (c .before .if5 .left)) (c .if6 .taken)
 
 -- src/image.rt:244:9
 returns-7 : tie.Need-returns-7
-<<<<<<< HEAD
-returns-7 c = let a = c .before .before .before .before .before .before .before .before .before .before .before .before .before .before .before .args in
-    form-many (a .symbols .now) (a .count) (a .signals) (a .categories) (a .im .now) (c .before .before .before .before .before .before .before .before .before .before .before .before .before .if1 .left) (c .before .before .before .before .before .before .before .before .before .before .before .before .if2 .left) (c .before .before .before .before .before .before .before .before .before .before .before .at .ensures .0) (c .before .before .before .before .before .before .before .before .before .before .if3 .left) (c .before .before .before .before .before .before .before .before .before .state-count .ensures .0) (c .before .before .before .before .before .before .before .before .place .ensures .0) (c .before .before .before .before .before .before .before .if4 .left)
-    (c .before .before .before .before .before .before .part .ensures) (c .before .before .before .before .part2 .ensures) (c .before .before .before .same .ensures) (not-false _ (c .before .before .if5 .left)) (c .before .if6 .left) (omega (arith, c .if7 .taken))
-=======
-returns-7 c = let a = c .before .before .before .before .before .before .before .before .before .before .before .before .before .before .before .args in form-many (fitsBy (a .rows .now) (a .parents .now) (a .branches .now) (a .category .now) (a .nodes)) (a .symbols .now) (a .count) (a .signals) (a .categories) (a .im .now) (c .before .before .before .before .before .before .before .before .before .before .before .before .before .if1 .left) (c .before .before .before .before .before .before .before .before .before .before .before .before .if2 .left) (c .before .before .before .before .before .before .before .before .before .before .before .at .ensures .0) (c .before .before .before .before .before .before .before .before .before .before .if3 .left) (c .before .before .before .before .before .before .before .before .before .state-count .ensures .0) (c .before .before .before .before .before .before .before .before .place .ensures .0) (c .before .before .before .before .before .before .before .if4 .left) (c .before .before .before .before .before .before .part .ensures) (c .before .before .before .before .part2 .ensures) (c .before .before .before .same .ensures) (not-false _ (c .before .before .if5 .left)) (c .before .if6 .left) (c .if7 .taken)
->>>>>>> b8e7a93 (prototype: held, on the base)
+returns-7 c = let a = c .before .before .before .before .before .before .before .before .before .before .before .before .before .before .before .args in form-many (fitsBy (a .rows .now) (a .parents .now) (a .inner .now) (a .category .now) (a .nodes)) (a .symbols .now) (a .count) (a .signals) (a .categories) (a .im .now) (c .before .before .before .before .before .before .before .before .before .before .before .before .before .if1 .left) (c .before .before .before .before .before .before .before .before .before .before .before .before .if2 .left) (c .before .before .before .before .before .before .before .before .before .before .before .at .ensures .0) (c .before .before .before .before .before .before .before .before .before .before .if3 .left) (c .before .before .before .before .before .before .before .before .before .state-count .ensures .0) (c .before .before .before .before .before .before .before .before .place .ensures .0) (c .before .before .before .before .before .before .before .if4 .left) (c .before .before .before .before .before .before .part .ensures) (c .before .before .before .before .part2 .ensures) (c .before .before .before .same .ensures) (not-false _ (c .before .before .if5 .left)) (c .before .if6 .left) (c .if7 .taken)
 
 -- src/image.rt:246:5
 states-formed-requires : tie.Need-states-formed-requires
@@ -97,7 +87,7 @@ states-formed-requires c κs = search needs
 
 -- src/image.rt:207:1
 returns-8 : tie.Need-returns-8
-returns-8 c = let a = c .before .before .before .before .before .before .before .before .before .before .before .before .before .before .before .before .args in form-states (fitsBy (a .rows .now) (a .parents .now) (a .branches .now) (a .category .now) (a .nodes)) (a .symbols .now) (a .count) (a .signals) (a .categories) (a .im .now) (c .before .before .before .before .before .before .before .before .before .before .before .before .before .before .if1 .left) (c .before .before .before .before .before .before .before .before .before .before .before .before .before .if2 .left) (c .before .before .before .before .before .before .before .before .before .before .before .before .at .ensures .0) (c .before .before .before .before .before .before .before .before .before .before .before .if3 .left) (c .before .before .before .before .before .before .before .before .before .before .state-count .ensures .0) (c .before .before .before .before .before .before .before .before .before .place .ensures .0) (c .before .before .before .before .before .before .before .before .if4 .left) (c .before .before .before .before .before .before .before .part .ensures) (c .before .before .before .before .before .part2 .ensures) (c .before .before .before .before .same .ensures) (not-false _ (c .before .before .before .if5 .left)) (c .before .before .if6 .left) (c .before .if7 .left) (c .states-formed .ensures)
+returns-8 c = let a = c .before .before .before .before .before .before .before .before .before .before .before .before .before .before .before .before .args in form-states (fitsBy (a .rows .now) (a .parents .now) (a .inner .now) (a .category .now) (a .nodes)) (a .symbols .now) (a .count) (a .signals) (a .categories) (a .im .now) (c .before .before .before .before .before .before .before .before .before .before .before .before .before .before .if1 .left) (c .before .before .before .before .before .before .before .before .before .before .before .before .before .if2 .left) (c .before .before .before .before .before .before .before .before .before .before .before .before .at .ensures .0) (c .before .before .before .before .before .before .before .before .before .before .before .if3 .left) (c .before .before .before .before .before .before .before .before .before .before .state-count .ensures .0) (c .before .before .before .before .before .before .before .before .before .place .ensures .0) (c .before .before .before .before .before .before .before .before .if4 .left) (c .before .before .before .before .before .before .before .part .ensures) (c .before .before .before .before .before .part2 .ensures) (c .before .before .before .before .same .ensures) (not-false _ (c .before .before .before .if5 .left)) (c .before .before .if6 .left) (c .before .if7 .left) (c .states-formed .ensures)
 
 pub formed-spec : {M : Type 1} → statement M
 formed-spec =

@@ -12,10 +12,10 @@ use Rattle.signal_table.proofs.image.row_right.Statement.{statement}
 use Rattle.signal_table.proofs.image.row_right.Tie as tie
 
 abbrev Inv-loop : tie.InvT-loop
-Inv-loop rows parents branches signals categories symbols count im signal statuses n j i from k₀ k = (k ≤ count) × (all k (targetRightBy (nextState rows parents branches signals symbols) categories im j) ≡ true)
+Inv-loop rows parents inner signals categories symbols count im signal statuses n j i from k₀ k = (k ≤ count) × (all k (targetRightBy (nextState rows parents inner signals symbols) categories im j) ≡ true)
 
 abbrev μ-loop : tie.MeasureT-loop
-μ-loop rows parents branches signals categories symbols count im signal statuses n j i from k₀ k = count - k
+μ-loop rows parents inner signals categories symbols count im signal statuses n j i from k₀ k = count - k
 
 place-requires : tie.Need-place-requires Inv-loop μ-loop
 place-requires c κs = search needs
@@ -46,7 +46,7 @@ is-right-requires : tie.Need-is-right-requires Inv-loop μ-loop
 is-right-requires c κs = (c .before .before .before .before .before .before .before .pre .0, c .before .before .before .before .before .before .before .pre .2, omega (arith, c .before .at .ensures .1), c .before .before .before .before .before .before .before .pre .4)
 
 returns : tie.Need-returns Inv-loop μ-loop
-returns c = let a = c .before .before .before .before .before .before .before .before .before .args in right-no (nextState (a .rows .now) (a .parents .now) (a .branches .now) (a .signals) (a .symbols .now)) (a .im .now) (a .categories) (a .j) (c .before .before .before .before .before .before .before .place .ensures .0) (c .before .before .before .before .before .before .state .ensures) (c .before .before .before .before .before .loop .k) (c .before .before .before .at .ensures .0) (c .before .before .next .ensures) (c .before .is-right .ensures) (a .count) (c .before .before .before .before .loop-test .taken) (not-true _ (c .if1 .taken))
+returns c = let a = c .before .before .before .before .before .before .before .before .before .args in right-no (nextState (a .rows .now) (a .parents .now) (a .inner .now) (a .signals) (a .symbols .now)) (a .im .now) (a .categories) (a .j) (c .before .before .before .before .before .before .before .place .ensures .0) (c .before .before .before .before .before .before .state .ensures) (c .before .before .before .before .before .loop .k) (c .before .before .before .at .ensures .0) (c .before .before .next .ensures) (c .before .is-right .ensures) (a .count) (c .before .before .before .before .loop-test .taken) (not-true _ (c .if1 .taken))
 
 add-k : tie.Need-add-k Inv-loop μ-loop
 add-k c = search needs
@@ -56,11 +56,11 @@ loop-less c = omega arith
 
 loop-again : tie.Need-loop-again Inv-loop μ-loop
 loop-again c = let a = c .before .before .before .before .before .before .before .before .before .args in
-    (omega arith, all-more (targetRightBy (nextState (a .rows .now) (a .parents .now) (a .branches .now) (a .signals) (a .symbols .now)) (a .categories) (a .im .now) (a .j)) (c .before .before .before .before .before .loop .k) (c .before .before .before .before .before .loop .inv .1) (right-yes (nextState (a .rows .now) (a .parents .now) (a .branches .now) (a .signals) (a .symbols .now)) (a .im .now) (a .categories) (a .j) (c .before .before .before .before .before .before .before .place .ensures .0) (c .before .before .before .before .before .before .state .ensures) (c .before .before .before .before .before .loop .k) (c .before .before .before .at .ensures .0) (c .before .before .next .ensures) (c .before .is-right .ensures) (not-false _ (c .if1 .left))))
+    (omega arith, all-more (targetRightBy (nextState (a .rows .now) (a .parents .now) (a .inner .now) (a .signals) (a .symbols .now)) (a .categories) (a .im .now) (a .j)) (c .before .before .before .before .before .loop .k) (c .before .before .before .before .before .loop .inv .1) (right-yes (nextState (a .rows .now) (a .parents .now) (a .inner .now) (a .signals) (a .symbols .now)) (a .im .now) (a .categories) (a .j) (c .before .before .before .before .before .before .before .place .ensures .0) (c .before .before .before .before .before .before .state .ensures) (c .before .before .before .before .before .loop .k) (c .before .before .before .at .ensures .0) (c .before .before .next .ensures) (c .before .is-right .ensures) (not-false _ (c .if1 .left))))
 
 returns-2 : tie.Need-returns-2 Inv-loop μ-loop
 unfolding rowRightBy
-returns-2 c = let a = c .before .before .before .before .before .args in all-done (targetRightBy (nextState (a .rows .now) (a .parents .now) (a .branches .now) (a .signals) (a .symbols .now)) (a .categories) (a .im .now) (a .j)) (a .count) (c .before .loop .k) (c .before .loop .inv .0) (c .loop-test .left) (c .before .loop .inv .1)
+returns-2 c = let a = c .before .before .before .before .before .args in all-done (targetRightBy (nextState (a .rows .now) (a .parents .now) (a .inner .now) (a .signals) (a .symbols .now)) (a .categories) (a .im .now) (a .j)) (a .count) (c .before .loop .k) (c .before .loop .inv .0) (c .loop-test .left) (c .before .loop .inv .1)
 
 pub row-right-spec : {M : Type 1} → statement M
 row-right-spec =

@@ -14,10 +14,10 @@ use Rattle.signal_table.proofs.image.rows_right.Statement.{statement}
 use Rattle.signal_table.proofs.image.rows_right.Tie as tie
 
 abbrev Inv-loop : tie.InvT-loop
-Inv-loop rows parents branches signals categories symbols count im n signal statuses read j₀ j = (j ≤ n) × (all j (rowRightBy (nextState rows parents branches signals symbols) count categories im) ≡ true)
+Inv-loop rows parents inner signals categories symbols count im n signal statuses read j₀ j = (j ≤ n) × (all j (rowRightBy (nextState rows parents inner signals symbols) count categories im) ≡ true)
 
 abbrev μ-loop : tie.MeasureT-loop
-μ-loop rows parents branches signals categories symbols count im n signal statuses read j₀ j = n - j
+μ-loop rows parents inner signals categories symbols count im n signal statuses read j₀ j = n - j
 
 at-most-requires : tie.Need-at-most-requires Inv-loop μ-loop
 at-most-requires c κs = search needs
@@ -33,7 +33,7 @@ row-right-requires : tie.Need-row-right-requires Inv-loop μ-loop
 row-right-requires c κs = (c .before .before .before .before .before .before .before .before .before .pre .0, c .before .before .before .before .before .before .before .before .before .pre .1, c .before .before .before .before .before .before .before .at-most .ensures .1, omega (arith, c .before .before .loop-test .taken, c .before .before .before .before .before .before .before .before .before .pre .2), c .before .before .before .before .read-states .ensures)
 
 returns : tie.Need-returns Inv-loop μ-loop
-returns c = let a = c .before .before .before .before .before .before .before .before .before .before .before .args in all-no (rowRightBy (nextState (a .rows .now) (a .parents .now) (a .branches .now) (a .signals) (a .symbols .now)) (a .count) (a .categories) (a .im .now)) (a .n) (c .before .before .before .before .before .loop .j) (c .before .row-right .ensures) (c .if1 .taken) (c .before .before .before .before .loop-test .taken)
+returns c = let a = c .before .before .before .before .before .before .before .before .before .before .before .args in all-no (rowRightBy (nextState (a .rows .now) (a .parents .now) (a .inner .now) (a .signals) (a .symbols .now)) (a .count) (a .categories) (a .im .now)) (a .n) (c .before .before .before .before .before .loop .j) (c .before .row-right .ensures) (c .if1 .taken) (c .before .before .before .before .loop-test .taken)
 
 add-j : tie.Need-add-j Inv-loop μ-loop
 add-j c = omega (arith, c .before .before .before .before .loop-test .taken, c .before .before .before .before .before .before .before .before .before .before .before .pre .2)
@@ -42,10 +42,10 @@ loop-less : tie.Need-loop-less Inv-loop μ-loop
 loop-less c = omega (arith, c .before .before .before .before .loop-test .taken)
 
 loop-again : tie.Need-loop-again Inv-loop μ-loop
-loop-again c = let a = c .before .before .before .before .before .before .before .before .before .before .before .args in (omega (arith, c .before .before .before .before .loop-test .taken), all-yes (rowRightBy (nextState (a .rows .now) (a .parents .now) (a .branches .now) (a .signals) (a .symbols .now)) (a .count) (a .categories) (a .im .now)) (c .before .before .before .before .before .loop .j) (c .before .row-right .ensures) (c .if1 .left) (c .before .before .before .before .before .loop .inv .1))
+loop-again c = let a = c .before .before .before .before .before .before .before .before .before .before .before .args in (omega (arith, c .before .before .before .before .loop-test .taken), all-yes (rowRightBy (nextState (a .rows .now) (a .parents .now) (a .inner .now) (a .signals) (a .symbols .now)) (a .count) (a .categories) (a .im .now)) (c .before .before .before .before .before .loop .j) (c .before .row-right .ensures) (c .if1 .left) (c .before .before .before .before .before .loop .inv .1))
 
 returns-2 : tie.Need-returns-2 Inv-loop μ-loop
-returns-2 c = let a = c .before .before .before .before .before .before .before .args in all-done (rowRightBy (nextState (a .rows .now) (a .parents .now) (a .branches .now) (a .signals) (a .symbols .now)) (a .count) (a .categories) (a .im .now)) (a .n) (c .before .loop .j) (c .before .loop .inv .0) (c .loop-test .left) (c .before .loop .inv .1)
+returns-2 c = let a = c .before .before .before .before .before .before .before .args in all-done (rowRightBy (nextState (a .rows .now) (a .parents .now) (a .inner .now) (a .signals) (a .symbols .now)) (a .count) (a .categories) (a .im .now)) (a .n) (c .before .loop .j) (c .before .loop .inv .0) (c .loop-test .left) (c .before .loop .inv .1)
 
 pub rows-right-spec : {M : Type 1} → statement M
 rows-right-spec =

@@ -28,7 +28,7 @@ wide-requires c κs = search needs
 
 -- src/image.rt:151:9
 returns : tie.Need-returns
-returns c = let a = c .before .before .before .before .before .args in state-signal (a .im .now) (a .categories) (a .j) (c .before .before .before .place .ensures .0) (fitsBy (a .rows .now) (a .parents .now) (a .branches .now) (a .category .now) (a .nodes)) (a .signals) (c .before .before .byte .ensures) (omega (arith, c .before .wide .ensures .0, c .if1 .taken))
+returns c = let a = c .before .before .before .before .before .args in state-signal (a .im .now) (a .categories) (a .j) (c .before .before .before .place .ensures .0) (fitsBy (a .rows .now) (a .parents .now) (a .inner .now) (a .category .now) (a .nodes)) (a .signals) (c .before .before .byte .ensures) (omega (arith, c .before .wide .ensures .0, c .if1 .taken))
 
 -- src/image.rt:153:9
 statuses-formed-requires : tie.Need-statuses-formed-requires
@@ -36,7 +36,7 @@ statuses-formed-requires c κs = let a = c .before .before .before .before .befo
 
 -- src/image.rt:165:9
 returns-2 : tie.Need-returns-2
-returns-2 c = let a = c .before .before .before .before .before .before .before .args in state-status (a .im .now) (a .categories) (a .j) (c .before .before .before .before .before .place .ensures .0) (fitsBy (a .rows .now) (a .parents .now) (a .branches .now) (a .category .now) (a .nodes)) (a .signals) (c .before .before .before .before .byte .ensures) (omega (arith, c .before .before .before .wide .ensures .0, c .before .before .if1 .left)) (c .before .statuses-formed .ensures) (not-true _ (c .if2 .taken))
+returns-2 c = let a = c .before .before .before .before .before .before .before .args in state-status (a .im .now) (a .categories) (a .j) (c .before .before .before .before .before .place .ensures .0) (fitsBy (a .rows .now) (a .parents .now) (a .inner .now) (a .category .now) (a .nodes)) (a .signals) (c .before .before .before .before .byte .ensures) (omega (arith, c .before .before .before .wide .ensures .0, c .before .before .if1 .left)) (c .before .statuses-formed .ensures) (not-true _ (c .if2 .taken))
 
 -- src/image.rt:167:5
 targets-below-requires : tie.Need-targets-below-requires
@@ -44,7 +44,7 @@ targets-below-requires c κs = search needs
 
 -- src/image.rt:133:1
 returns-3 : tie.Need-returns-3
-returns-3 c = let a = c .before .before .before .before .before .before .before .before .args in state-rest (a .im .now) (a .categories) (a .j) (c .before .before .before .before .before .before .place .ensures .0) (fitsBy (a .rows .now) (a .parents .now) (a .branches .now) (a .category .now) (a .nodes)) (a .signals) (c .before .before .before .before .before .byte .ensures) (omega (arith, c .before .before .before .before .wide .ensures .0, c .before .before .before .if1 .left)) (c .before .before .statuses-formed .ensures) (not-false _ (c .before .if2 .left)) (c .targets-below .ensures)
+returns-3 c = let a = c .before .before .before .before .before .before .before .before .args in state-rest (a .im .now) (a .categories) (a .j) (c .before .before .before .before .before .before .place .ensures .0) (fitsBy (a .rows .now) (a .parents .now) (a .inner .now) (a .category .now) (a .nodes)) (a .signals) (c .before .before .before .before .before .byte .ensures) (omega (arith, c .before .before .before .before .wide .ensures .0, c .before .before .before .if1 .left)) (c .before .before .statuses-formed .ensures) (not-false _ (c .before .if2 .left)) (c .targets-below .ensures)
 
 pub state-formed-spec : {M : Type 1} → statement M
 state-formed-spec =

@@ -17,10 +17,10 @@ use Rattle.signal_table.proofs.image.states_formed.Lts as lts
 use Rattle.signal_table.proofs.image.state_formed.Reads as state-formed-reads
 
 abbrev Inv-loop : tie.InvT-loop
-Inv-loop rows parents branches category nodes signals categories im n j₀ j = (j ≤ n) × (all j (stateFormedBy (fitsBy rows parents branches category nodes) signals categories im) ≡ true)
+Inv-loop rows parents inner category nodes signals categories im n j₀ j = (j ≤ n) × (all j (stateFormedBy (fitsBy rows parents inner category nodes) signals categories im) ≡ true)
 
 abbrev μ-loop : tie.MeasureT-loop
-μ-loop rows parents branches category nodes signals categories im n j₀ j = n - j
+μ-loop rows parents inner category nodes signals categories im n j₀ j = n - j
 
 -- src/image.rt:185:5
 loop-holds : tie.Need-loop-holds Inv-loop μ-loop
@@ -34,7 +34,7 @@ state-formed-requires c κs = search needs
 -- src/image.rt:198:13
 returns : tie.Need-returns Inv-loop μ-loop
 returns c = let a = c .before .before .before .before .before .args in
-    sym (all-stop (stateCount (a .im .now)) (stateFormedBy (fitsBy (a .rows .now) (a .parents .now) (a .branches .now) (a .category .now) (a .nodes)) (a .signals) (a .categories) (a .im .now)) (c .before .before .before .loop .j) (omega (arith, c .before .before .before .before .before .pre .2, c .before .before .loop-test .taken))
+    sym (all-stop (stateCount (a .im .now)) (stateFormedBy (fitsBy (a .rows .now) (a .parents .now) (a .inner .now) (a .category .now) (a .nodes)) (a .signals) (a .categories) (a .im .now)) (c .before .before .before .loop .j) (omega (arith, c .before .before .before .before .before .pre .2, c .before .before .loop-test .taken))
     (sym (c .before .state-formed .ensures) ∙ not-true _ (c .if1 .taken)))
 
 -- src/image.rt:200:9
@@ -48,12 +48,12 @@ loop-less c = omega arith
 -- src/image.rt:185:5
 loop-again : tie.Need-loop-again Inv-loop μ-loop
 loop-again c = let a = c .before .before .before .before .before .args in
-    (omega arith, all-more (stateFormedBy (fitsBy (a .rows .now) (a .parents .now) (a .branches .now) (a .category .now) (a .nodes)) (a .signals) (a .categories) (a .im .now)) (c .before .before .before .loop .j) (c .before .before .before .loop .inv .1) (sym (c .before .state-formed .ensures) ∙ not-false _ (c .if1 .left)))
+    (omega arith, all-more (stateFormedBy (fitsBy (a .rows .now) (a .parents .now) (a .inner .now) (a .category .now) (a .nodes)) (a .signals) (a .categories) (a .im .now)) (c .before .before .before .loop .j) (c .before .before .before .loop .inv .1) (sym (c .before .state-formed .ensures) ∙ not-false _ (c .if1 .left)))
 
 -- src/image.rt:170:1
 returns-2 : tie.Need-returns-2 Inv-loop μ-loop
 returns-2 c = let a = c .before .before .before .args in
-    all-done (stateFormedBy (fitsBy (a .rows .now) (a .parents .now) (a .branches .now) (a .category .now) (a .nodes)) (a .signals) (a .categories) (a .im .now)) (stateCount (a .im .now)) (c .before .loop .j) (omega (arith, c .before .before .before .pre .2)) (omega (arith, c .before .before .before .pre .2, c .loop-test .left)) (c .before .loop .inv .1)
+    all-done (stateFormedBy (fitsBy (a .rows .now) (a .parents .now) (a .inner .now) (a .category .now) (a .nodes)) (a .signals) (a .categories) (a .im .now)) (stateCount (a .im .now)) (c .before .loop .j) (omega (arith, c .before .before .before .pre .2)) (omega (arith, c .before .before .before .pre .2, c .loop-test .left)) (c .before .loop .inv .1)
 
 pub states-formed-spec : {M : Type 1} → statement M
 states-formed-spec =

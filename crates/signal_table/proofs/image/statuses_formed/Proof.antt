@@ -16,10 +16,10 @@ use Rattle.node_step.proofs.stored.fits.Reads as fits-reads
 use Rattle.signal_table.proofs.image.byte.Reads as byte-reads
 
 abbrev Inv-loop : tie.InvT-loop
-Inv-loop rows parents branches category nodes categories im i s j c₀ c = (c ≤ categories) × (all c (statusFormedBy (fitsBy rows parents branches category nodes) categories im j) ≡ true)
+Inv-loop rows parents inner category nodes categories im i s j c₀ c = (c ≤ categories) × (all c (statusFormedBy (fitsBy rows parents inner category nodes) categories im j) ≡ true)
 
 abbrev μ-loop : tie.MeasureT-loop
-μ-loop rows parents branches category nodes categories im i s j c₀ c = categories - c
+μ-loop rows parents inner category nodes categories im i s j c₀ c = categories - c
 
 -- src/image.rt:123:5
 loop-holds : tie.Need-loop-holds Inv-loop μ-loop
@@ -44,7 +44,7 @@ fits-requires c κs = search needs
 
 -- src/image.rt:126:13
 returns : tie.Need-returns Inv-loop μ-loop
-returns c = let a = c .before .before .before .before .before .before .args in fits-no (a .im .now) (a .categories) (a .j) (c .before .before .before .before .before .before .pre .2) (fitsBy (a .rows .now) (a .parents .now) (a .branches .now) (a .category .now) (a .nodes)) (c .before .before .before .before .before .before .pre .3) (c .before .before .before .before .loop .c) (c .before .before .byte .ensures) (c .before .fits2 .ensures) (c .before .before .before .loop-test .taken) (not-true _ (c .if1 .taken))
+returns c = let a = c .before .before .before .before .before .before .args in fits-no (a .im .now) (a .categories) (a .j) (c .before .before .before .before .before .before .pre .2) (fitsBy (a .rows .now) (a .parents .now) (a .inner .now) (a .category .now) (a .nodes)) (c .before .before .before .before .before .before .pre .3) (c .before .before .before .before .loop .c) (c .before .before .byte .ensures) (c .before .fits2 .ensures) (c .before .before .before .loop-test .taken) (not-true _ (c .if1 .taken))
 
 -- src/image.rt:128:9
 add-c : tie.Need-add-c Inv-loop μ-loop
@@ -56,11 +56,11 @@ loop-less c = omega arith
 
 -- src/image.rt:123:5
 loop-again : tie.Need-loop-again Inv-loop μ-loop
-loop-again c = let a = c .before .before .before .before .before .before .args in (omega arith, fits-yes (a .im .now) (a .categories) (a .j) (c .before .before .before .before .before .before .pre .2) (fitsBy (a .rows .now) (a .parents .now) (a .branches .now) (a .category .now) (a .nodes)) (c .before .before .before .before .before .before .pre .3) (c .before .before .before .before .loop .c) (c .before .before .byte .ensures) (c .before .fits2 .ensures) (not-false _ (c .if1 .left)) (c .before .before .before .before .loop .inv .1))
+loop-again c = let a = c .before .before .before .before .before .before .args in (omega arith, fits-yes (a .im .now) (a .categories) (a .j) (c .before .before .before .before .before .before .pre .2) (fitsBy (a .rows .now) (a .parents .now) (a .inner .now) (a .category .now) (a .nodes)) (c .before .before .before .before .before .before .pre .3) (c .before .before .before .before .loop .c) (c .before .before .byte .ensures) (c .before .fits2 .ensures) (not-false _ (c .if1 .left)) (c .before .before .before .before .loop .inv .1))
 
 -- src/image.rt:107:1
 returns-2 : tie.Need-returns-2 Inv-loop μ-loop
-returns-2 c = let a = c .before .before .before .args in all-done (statusFormedBy (fitsBy (a .rows .now) (a .parents .now) (a .branches .now) (a .category .now) (a .nodes)) (a .categories) (a .im .now) (a .j)) (a .categories) (c .before .loop .c) (c .before .loop .inv .0) (c .loop-test .left) (c .before .loop .inv .1)
+returns-2 c = let a = c .before .before .before .args in all-done (statusFormedBy (fitsBy (a .rows .now) (a .parents .now) (a .inner .now) (a .category .now) (a .nodes)) (a .categories) (a .im .now) (a .j)) (a .categories) (c .before .loop .c) (c .before .loop .inv .0) (c .loop-test .left) (c .before .loop .inv .1)
 
 pub statuses-formed-spec : {M : Type 1} → statement M
 statuses-formed-spec =

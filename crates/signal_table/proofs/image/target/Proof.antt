@@ -11,7 +11,6 @@ use Rattle.signal_table.proofs.image.target.Lts as lts
 use Rattle.signal_table.proofs.image.byte.Reads as byte-reads
 use Rattle.signal_table.proofs.image.place.Reads as place-reads
 use Rattle.signal_table.proofs.states.wide.Reads as wide-reads
-use Rattle.signal_table.proofs.symbols.at_most.Reads as at-most-reads
 
 -- src/image.rt:381:9
 at-most-requires : tie.Need-at-most-requires

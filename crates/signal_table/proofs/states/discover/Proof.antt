@@ -1,48 +1,27 @@
-<<<<<<< HEAD
-use mathlib.Core.Path.{refl}
-=======
->>>>>>> b8e7a93 (prototype: held, on the base)
 use native.Mathlib.Omega.{arith}
 use Prim.Native.Nat.{ℕ, _-_}
 use mathlib.Core.Path.{refl, _∙_}
 use lib.ListN.{length-replicate}
-<<<<<<< HEAD
-use Rattle.signal_table.specs.States.{nextPair, found}
-use Rattle.signal_table.proofs.DiscoverLaws.{Discovering, start-kept, discovering-start, state-at, place-fits, discovering-over, discovering-more, discovering-end}
-=======
 use Rattle.signal_table.specs.States.{nextState, found}
 use Rattle.signal_table.proofs.DiscoverLaws.{Discovering, start-kept, discovering-start, place-fits, discovering-over, discovering-more, discovering-end}
->>>>>>> b8e7a93 (prototype: held, on the base)
 use borrow.Author.Needs.{needs}
 use Rattle.signal_table.proofs.states.discover.Statement.{statement}
 use Rattle.signal_table.proofs.states.discover.Tie as tie
 use Rattle.signal_table.proofs.states.discover.Reads as reads
 use Rattle.signal_table.proofs.states.discover.Lts as lts
-use Rattle.signal_table.proofs.states.put_state.Reads as put-state-reads
+use Rattle.signal_table.proofs.states.write_state.Reads as write-state-reads
 use Rattle.signal_table.proofs.states.turn.Reads as turn-reads
 
 abbrev Inv-loop : tie.InvT-loop
-<<<<<<< HEAD
-Inv-loop rows parents signals symbols count part₀ states₀ index₀ numbers₀ n₀ i₀ a₀ part states index numbers n i a =
-    Discovering (nextPair rows parents signals symbols) count part₀ part states index numbers n i a
+Inv-loop rows parents inner signals categories symbols count part₀ signal₀ statuses₀ hints₀ numbers₀ n₀ i₀ a₀ part signal statuses hints numbers n i a = Discovering (nextState rows parents inner signals symbols) categories count part₀ part signal statuses hints numbers n i a
 
 abbrev μ-loop : tie.MeasureT-loop
-μ-loop rows parents signals symbols count part₀ states₀ index₀ numbers₀ n₀ i₀ a₀ part states index numbers n i a = 256 - i
-=======
-Inv-loop rows parents branches signals categories symbols count part₀ signal₀ statuses₀ hints₀ numbers₀ n₀ i₀ a₀ part signal statuses hints numbers n i a = Discovering (nextState rows parents branches signals symbols) categories count part₀ part signal statuses numbers n i a
-
-abbrev μ-loop : tie.MeasureT-loop
-μ-loop rows parents branches signals categories symbols count part₀ signal₀ statuses₀ hints₀ numbers₀ n₀ i₀ a₀ part signal statuses hints numbers n i a = 256 - i
->>>>>>> b8e7a93 (prototype: held, on the base)
+μ-loop rows parents inner signals categories symbols count part₀ signal₀ statuses₀ hints₀ numbers₀ n₀ i₀ a₀ part signal statuses hints numbers n i a = 256 - i
 
 -- src/states.rt:253:5
 loop-holds : tie.Need-loop-holds Inv-loop μ-loop
 loop-holds c = let a = c .before .args in
-<<<<<<< HEAD
-    discovering-start (nextPair (a .rows .now) (a .parents .now) (a .signals) (a .symbols .now)) (a .count) (a .part .now) _ _ _ (length-replicate {A = ℕ} 128 0) (start-kept (nextPair (a .rows .now) (a .parents .now) (a .signals) (a .symbols .now)) (a .count) _ _ (length-replicate {A = ℕ} 256 0) (length-replicate {A = ℕ} 8192 0) refl refl)
-=======
-    discovering-start (nextState (a .rows .now) (a .parents .now) (a .branches .now) (a .signals) (a .symbols .now)) (a .categories) (a .count) (a .part .now) _ _ _ (length-replicate {A = ℕ} 128 0) (start-kept (nextState (a .rows .now) (a .parents .now) (a .branches .now) (a .signals) (a .symbols .now)) (a .categories) (a .count) _ _ (length-replicate {A = ℕ} 256 0) (length-replicate {A = ℕ} 256 0) refl)
->>>>>>> b8e7a93 (prototype: held, on the base)
+    discovering-start (nextState (a .rows .now) (a .parents .now) (a .inner .now) (a .signals) (a .symbols .now)) (a .categories) (a .count) (a .part .now) _ _ _ _ (length-replicate {A = ℕ} 128 0) (start-kept (nextState (a .rows .now) (a .parents .now) (a .inner .now) (a .signals) (a .symbols .now)) (a .categories) (a .count) _ _ _ (length-replicate {A = ℕ} 256 0) (length-replicate {A = ℕ} 256 0) (length-replicate {A = ℕ} 4096 0) refl)
 
 -- src/states.rt:255:21
 array-read-t20 : tie.Need-array-read-t20 Inv-loop μ-loop
@@ -56,16 +35,9 @@ mul-t21 c = omega (arith, c .before .loop .inv .kept .few, c .loop-test .taken)
 array-read-t24 : tie.Need-array-read-t24 Inv-loop μ-loop
 array-read-t24 c = omega (arith, c .before .loop .inv .kept .few, c .loop-test .taken)
 
-<<<<<<< HEAD
-turn-requires : tie.Need-turn-requires Inv-loop μ-loop
-turn-requires c κs = let a = c .before .before .before .before .before .before .before .args in
-    let o = c .before .before .before .before .before .loop in
-    (c .before .before .before .before .before .before .before .pre, o .inv .kept .few, state-at (nextPair (a .rows .now) (a .parents .now) (a .signals) (a .symbols .now)) (a .count) (a .part .now) (o .part) (o .states) (o .index) (o .numbers) (o .n) (o .i) (o .a) (o .inv) (c .before .before .before .before .loop-test .taken) (c .before .before .before .wide16 .ensures) .1, o .inv .wide)
-=======
 -- src/states.rt:258:9
 turn-requires : tie.Need-turn-requires Inv-loop μ-loop
 turn-requires c κs = (c .before .before .before .before .before .before .before .pre .1, c .before .before .before .before .before .loop .inv .kept .few, c .before .before .before .before .before .loop .inv .wide)
->>>>>>> b8e7a93 (prototype: held, on the base)
 
 -- src/states.rt:273:13
 same-length : tie.Need-same-length Inv-loop μ-loop
@@ -73,45 +45,20 @@ same-length c = c .before .before .before .before .before .before .before .loop 
 
 -- src/states.rt:273:13
 returns : tie.Need-returns Inv-loop μ-loop
-<<<<<<< HEAD
-returns c = let a = c .before .before .before .before .before .before .before .before .before .args in
-    let o = c .before .before .before .before .before .before .before .loop in
-    discovering-over (nextPair (a .rows .now) (a .parents .now) (a .signals) (a .symbols .now)) (a .count) (a .part .now) (o .part) (o .states) (o .index) (o .numbers) (o .n) (o .i) (o .a) (o .inv) (c .before .before .before .before .before .before .loop-test .taken) (c .before .before .before .before .before .wide16 .ensures)
-    (c .before .turn .last .1 .1 .1 .1 .1 .0) (c .before .turn .last .1 .1 .1 .1 .1 .1 .0) (c .before .turn .last .1 .1 .1 .1 .1 .1 .1 .1 .1 .0) (c .before .turn .ensures .1 (found (nextPair (a .rows .now) (a .parents .now) (a .signals) (a .symbols .now)) (a .count) (o .i)) (o .inv .kept)) (c .if1 .taken)
-
-write-state-requires : tie.Need-write-state-requires Inv-loop μ-loop
-write-state-requires c κs = let a = c .before .before .before .before .before .before .before .before .before .before .before .args in
-    let o = c .before .before .before .before .before .before .before .before .before .loop in
-    let h = c .before .before .before .before .before .before .before .before .loop-test .taken in (
-      place-fits (nextPair (a .rows .now) (a .parents .now) (a .signals) (a .symbols .now)) (a .count) (a .part .now) (o .part) (o .states) (o .index) (o .numbers) (o .n) (o .i) (o .a) (o .inv) h,
-      state-at (nextPair (a .rows .now) (a .parents .now) (a .signals) (a .symbols .now)) (a .count) (a .part .now) (o .part) (o .states) (o .index) (o .numbers) (o .n) (o .i) (o .a) (o .inv) h (c .before .before .before .before .before .before .before .wide16 .ensures) .1,
-      c .before .before .before .turn .ensures .0 .1,
-      c .before .before .before .before .before .before .before .before .before .before .before .pre,
-    )
-=======
 returns c = let a = c .before .before .before .before .before .before .before .before .before .args in let o = c .before .before .before .before .before .before .before .loop in
-    discovering-over (nextState (a .rows .now) (a .parents .now) (a .branches .now) (a .signals) (a .symbols .now)) (a .categories) (a .count) (a .part .now) (o .part) (o .signal) (o .statuses) (o .numbers) (o .n) (o .i) (o .a) (o .inv) (c .before .before .before .before .before .before .loop-test .taken) (c .before .turn .last .1 .1 .1 .1 .1 .1 .0) (c .before .turn .last .1 .1 .1 .1 .1 .1 .1 .0) (c .before .turn .last .1 .1 .1 .1 .1 .1 .1 .1 .1 .1 .1 .0) (c .before .turn .ensures .1 (found (nextState (a .rows .now) (a .parents .now) (a .branches .now) (a .signals) (a .symbols .now)) (a .count) (o .i)) (o .inv .kept)) (c .if1 .taken)
->>>>>>> b8e7a93 (prototype: held, on the base)
+    discovering-over (nextState (a .rows .now) (a .parents .now) (a .inner .now) (a .signals) (a .symbols .now)) (a .categories) (a .count) (a .part .now) (o .part) (o .signal) (o .statuses) (o .hints) (o .numbers) (o .n) (o .i) (o .a) (o .inv) (c .before .before .before .before .before .before .loop-test .taken) (c .before .turn .last .1 .1 .1 .1 .1 .1 .0) (c .before .turn .last .1 .1 .1 .1 .1 .1 .1 .0) (c .before .turn .last .1 .1 .1 .1 .1 .1 .1 .1 .0) (c .before .turn .last .1 .1 .1 .1 .1 .1 .1 .1 .1 .1 .1 .0) (c .before .turn .ensures .1 (found (nextState (a .rows .now) (a .parents .now) (a .inner .now) (a .signals) (a .symbols .now)) (a .count) (o .i)) (o .inv .kept)) (c .if1 .taken)
 
 -- src/states.rt:275:9
-put-state-requires : tie.Need-put-state-requires Inv-loop μ-loop
-put-state-requires c κs = let a = c .before .before .before .before .before .before .before .before .before .before .before .args in let o = c .before .before .before .before .before .before .before .before .before .loop in (c .before .before .before .before .before .before .before .before .before .before .before .pre .0, c .before .before .before .before .before .before .before .before .before .before .before .pre .1, c .before .before .before .turn .ensures .0 .1, place-fits (nextState (a .rows .now) (a .parents .now) (a .branches .now) (a .signals) (a .symbols .now)) (a .categories) (a .count) (a .part .now) (o .part) (o .signal) (o .statuses) (o .numbers) (o .n) (o .i) (o .a) (o .inv) (c .before .before .before .before .before .before .before .before .loop-test .taken))
+write-state-requires : tie.Need-write-state-requires Inv-loop μ-loop
+write-state-requires c κs = let a = c .before .before .before .before .before .before .before .before .before .before .before .args in let o = c .before .before .before .before .before .before .before .before .before .loop in (place-fits (nextState (a .rows .now) (a .parents .now) (a .inner .now) (a .signals) (a .symbols .now)) (a .categories) (a .count) (a .part .now) (o .part) (o .signal) (o .statuses) (o .hints) (o .numbers) (o .n) (o .i) (o .a) (o .inv) (c .before .before .before .before .before .before .before .before .loop-test .taken), c .before .before .before .before .before .before .before .before .before .before .before .pre .0, c .before .before .before .turn .ensures .0 .1, c .before .before .before .before .before .before .before .before .before .before .before .pre .1)
 
 -- src/states.rt:276:13
 add-a : tie.Need-add-a Inv-loop μ-loop
-<<<<<<< HEAD
-add-a c = let o = c .before .before .before .before .before .before .before .before .before .before .before .before .loop in omega (arith, o .inv .stretch .1, o .inv .kept .few, c .before .before .before .before .before .before .before .before .before .before .before .loop-test .taken, c .before .before .before .before .before .before .before .before .before .before .before .before .before .before .pre)
-=======
 add-a c = let o = c .before .before .before .before .before .before .before .before .before .before .before .before .loop in omega (arith, o .inv .stretch .1, o .inv .kept .few, c .before .before .before .before .before .before .before .before .before .before .before .loop-test .taken, c .before .before .before .before .before .before .before .before .before .before .before .before .before .before .pre .0)
->>>>>>> b8e7a93 (prototype: held, on the base)
 
 -- src/states.rt:276:13
 add-a-2 : tie.Need-add-a-2 Inv-loop μ-loop
-<<<<<<< HEAD
-add-a-2 c = let o = c .before .before .before .before .before .before .before .before .before .before .before .before .loop in omega (arith, o .inv .stretch .1, o .inv .kept .few, c .before .before .before .before .before .before .before .before .before .before .before .loop-test .taken, c .before .before .before .before .before .before .before .before .before .before .before .before .before .before .pre)
-=======
 add-a-2 c = let o = c .before .before .before .before .before .before .before .before .before .before .before .before .loop in omega (arith, o .inv .stretch .1, o .inv .kept .few, c .before .before .before .before .before .before .before .before .before .before .before .loop-test .taken, c .before .before .before .before .before .before .before .before .before .before .before .before .before .before .pre .0)
->>>>>>> b8e7a93 (prototype: held, on the base)
 
 -- src/states.rt:276:13
 add-a-3 : tie.Need-add-a-3 Inv-loop μ-loop
@@ -127,15 +74,8 @@ loop-less c = let o = c .before .before .before .before .before .before .before 
 
 -- src/states.rt:253:5
 loop-again : tie.Need-loop-again Inv-loop μ-loop
-<<<<<<< HEAD
-loop-again c = let a = c .before .before .before .before .before .before .before .before .before .before .before .before .before .before .args in
-    let o = c .before .before .before .before .before .before .before .before .before .before .before .before .loop in
-    discovering-more (nextPair (a .rows .now) (a .parents .now) (a .signals) (a .symbols .now)) (a .count) (a .part .now) (o .part) (o .states) (o .index) (o .numbers) (o .n) (o .i) (o .a) (o .inv) (c .before .before .before .before .before .before .before .before .before .before .before .loop-test .taken) (c .before .before .before .before .before .before .before .before .before .before .wide16 .ensures)
-    (c .before .before .before .before .before .before .turn .last .1 .1 .1 .1 .1 .0) (c .before .before .before .before .before .before .turn .last .1 .1 .1 .1 .1 .1 .0) (c .before .before .before .before .before .before .turn .last .1 .1 .1 .1 .1 .1 .1 .1 .1 .0) (c .before .before .before .before .before .before .turn .ensures .1 (found (nextPair (a .rows .now) (a .parents .now) (a .signals) (a .symbols .now)) (a .count) (o .i)) (o .inv .kept)) (c .before .before .before .before .before .if1 .left) (c .before .before .before .before .before .before .before .before .before .before .before .before .before .before .pre) (c .before .before .before .before .before .before .turn .ensures .0 .1) (c .before .before .write-state .last .0) (c .before .before .write-state .ensures)
-=======
 loop-again c = let a = c .before .before .before .before .before .before .before .before .before .before .before .before .before .before .args in let o = c .before .before .before .before .before .before .before .before .before .before .before .before .loop in
-    discovering-more (nextState (a .rows .now) (a .parents .now) (a .branches .now) (a .signals) (a .symbols .now)) (a .categories) (a .count) (a .part .now) (o .part) (o .signal) (o .statuses) (o .numbers) (o .n) (o .i) (o .a) (o .inv) (c .before .before .before .before .before .before .before .before .before .before .before .loop-test .taken) (c .before .before .before .before .before .before .turn .last .1 .1 .1 .1 .1 .1 .0) (c .before .before .before .before .before .before .turn .last .1 .1 .1 .1 .1 .1 .1 .0) (c .before .before .before .before .before .before .turn .last .1 .1 .1 .1 .1 .1 .1 .1 .1 .1 .1 .0) (c .before .before .before .before .before .before .turn .ensures .1 (found (nextState (a .rows .now) (a .parents .now) (a .branches .now) (a .signals) (a .symbols .now)) (a .count) (o .i)) (o .inv .kept)) (c .before .before .before .before .before .if1 .left) (c .before .before .before .before .before .before .before .before .before .before .before .before .before .before .pre .1) (c .before .before .before .before .before .before .before .before .before .before .before .before .before .before .pre .0) (c .before .before .before .before .before .before .turn .ensures .0 .1) (c .before .before .put-state .last .1 .1 .1 .1 .0) (c .before .before .put-state .ensures)
->>>>>>> b8e7a93 (prototype: held, on the base)
+    discovering-more (nextState (a .rows .now) (a .parents .now) (a .inner .now) (a .signals) (a .symbols .now)) (a .categories) (a .count) (a .part .now) (o .part) (o .signal) (o .statuses) (o .hints) (o .numbers) (o .n) (o .i) (o .a) (o .inv) (c .before .before .before .before .before .before .before .before .before .before .before .loop-test .taken) (c .before .before .before .before .before .before .turn .last .1 .1 .1 .1 .1 .1 .0) (c .before .before .before .before .before .before .turn .last .1 .1 .1 .1 .1 .1 .1 .0) (c .before .before .before .before .before .before .turn .last .1 .1 .1 .1 .1 .1 .1 .1 .0) (c .before .before .before .before .before .before .turn .last .1 .1 .1 .1 .1 .1 .1 .1 .1 .1 .1 .0) (c .before .before .before .before .before .before .turn .ensures .1 (found (nextState (a .rows .now) (a .parents .now) (a .inner .now) (a .signals) (a .symbols .now)) (a .count) (o .i)) (o .inv .kept)) (c .before .before .before .before .before .if1 .left) (c .before .before .before .before .before .before .before .before .before .before .before .before .before .before .pre .1) (c .before .before .before .before .before .before .before .before .before .before .before .before .before .before .pre .0) (c .before .before .before .before .before .before .turn .ensures .0 .1) (c .before .before .write-state .last .0) (c .before .before .write-state .ensures)
 
 -- src/states.rt:233:1
 same-length-2 : tie.Need-same-length-2 Inv-loop μ-loop
@@ -143,13 +83,7 @@ same-length-2 c = c .before .loop .inv .same-length
 
 -- src/states.rt:233:1
 returns-2 : tie.Need-returns-2 Inv-loop μ-loop
-<<<<<<< HEAD
-returns-2 c = let a = c .before .before .before .args in
-    let o = c .before .loop in
-    discovering-end (nextPair (a .rows .now) (a .parents .now) (a .signals) (a .symbols .now)) (a .count) (a .part .now) (o .part) (o .states) (o .index) (o .numbers) (o .n) (o .i) (o .a) (o .inv) (c .loop-test .left)
-=======
-returns-2 c = let a = c .before .before .before .args in let o = c .before .loop in discovering-end (nextState (a .rows .now) (a .parents .now) (a .branches .now) (a .signals) (a .symbols .now)) (a .categories) (a .count) (a .part .now) (o .part) (o .signal) (o .statuses) (o .numbers) (o .n) (o .i) (o .a) (o .inv) (c .loop-test .left)
->>>>>>> b8e7a93 (prototype: held, on the base)
+returns-2 c = let a = c .before .before .before .args in let o = c .before .loop in discovering-end (nextState (a .rows .now) (a .parents .now) (a .inner .now) (a .signals) (a .symbols .now)) (a .categories) (a .count) (a .part .now) (o .part) (o .signal) (o .statuses) (o .hints) (o .numbers) (o .n) (o .i) (o .a) (o .inv) (c .loop-test .left)
 
 pub discover-spec : {M : Type 1} → statement M
 discover-spec =
@@ -158,23 +92,13 @@ discover-spec =
     Inv-loop
     μ-loop
     loop-holds
-<<<<<<< HEAD
-    mul-wide16
-    array-read-wide16
-    wide16-requires
-    turn-requires
-    same-length
-    returns
-    write-state-requires
-=======
     array-read-t20
     mul-t21
     array-read-t24
     turn-requires
     same-length
     returns
-    put-state-requires
->>>>>>> b8e7a93 (prototype: held, on the base)
+    write-state-requires
     add-a
     add-a-2
     add-a-3

@@ -25,7 +25,7 @@ is-state-requires c κs = search needs
 
 -- src/states.rt:67:13
 returns : tie.Need-returns Inv-loop μ-loop
-returns c = let a = c .before .before .before .before .args in λ l k. found-at (a .signal .now) (a .statuses .now) (a .n) l k (a .st) (c .before .before .before .loop .j) (c .before .before .loop-test .taken) (sym (c .before .is-state .ensures) ∙ c .if1 .taken)
+returns c = let a = c .before .before .before .before .args in λ hints l k. found-at (a .signal .now) (a .statuses .now) hints (a .n) l k (a .st) (c .before .before .before .loop .j) (c .before .before .loop-test .taken) (sym (c .before .is-state .ensures) ∙ c .if1 .taken)
 
 -- src/states.rt:69:9
 add-j : tie.Need-add-j Inv-loop μ-loop

@@ -14,7 +14,7 @@ number-of-requires c κs = search needs
 
 -- src/states.rt:119:9
 returns : tie.Need-returns
-returns c = let a = c .before .before .before .before .before .args in (omega arith, λ l k. keep-old (a .signal .now) (a .statuses .now) (a .n) l k (a .st) (c .before .number-of .ensures l k) (c .if1 .taken))
+returns c = let a = c .before .before .before .before .before .args in (omega arith, λ l k. keep-old (a .signal .now) (a .statuses .now) (a .hints .now) (a .n) l k (a .st) (c .before .number-of .ensures l k) (c .if1 .taken))
 
 -- src/states.rt:122:9
 element-write-signal : tie.Need-element-write-signal
@@ -42,11 +42,11 @@ element-write-hints c = search needs
 
 -- src/states.rt:103:1
 returns-2 : tie.Need-returns-2
-returns-2 c = let a = c .before .before .before .before .before .before .before .args in (omega arith, λ l k. keep-new (a .signal .now) (a .statuses .now) (a .n) l k (a .st) (c .before .before .before .number-of .ensures l k) (c .before .before .if1 .left) (c .before .if2 .taken))
+returns-2 c = let a = c .before .before .before .before .before .before .before .args in (omega arith, λ l k. keep-new (a .signal .now) (a .statuses .now) (a .hints .now) (a .n) l k (a .st) (c .before .before .before .number-of .ensures l k) (c .hint-at .ensures .0) (c .hint-at .ensures .1) (c .before .before .if1 .left) (c .before .if2 .taken))
 
 -- src/states.rt:103:1
 returns-3 : tie.Need-returns-3
-returns-3 c = let a = c .before .before .before .before .before .before .args in (c .before .before .before .before .before .before .pre, λ l k. keep-full (a .signal .now) (a .statuses .now) (a .n) l k (a .st) (c .before .before .number-of .ensures l k) (c .before .if1 .left) (c .if2 .left))
+returns-3 c = let a = c .before .before .before .before .before .before .args in (c .before .before .before .before .before .before .pre, λ l k. keep-full (a .signal .now) (a .statuses .now) (a .hints .now) (a .n) l k (a .st) (c .before .before .number-of .ensures l k) (c .before .if1 .left) (c .if2 .left))
 
 pub keep-spec : {M : Type 1} → statement M
 keep-spec =

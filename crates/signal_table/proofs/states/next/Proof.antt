@@ -41,7 +41,7 @@ step-packed-requires c κs = search needs
 
 -- src/states.rt:19:1
 returns : tie.Need-returns
-returns c = let a = c .before .before .before .before .before .args in next-is (a .rows .now) (a .parents .now) (a .branches .now) (a .signals) (a .symbols .now) (a .st) (a .k) (c .before .before .before .wide .ensures .0) (c .step-packed .ensures)
+returns c = let a = c .before .before .before .before .before .args in next-is (a .rows .now) (a .parents .now) (a .inner .now) (a .signals) (a .symbols .now) (a .st) (a .k) (c .before .before .before .wide .ensures .0) (c .step-packed .ensures)
 
 pub next-spec : {M : Type 1} → statement M
 next-spec =

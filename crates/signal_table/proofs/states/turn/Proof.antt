@@ -1,11 +1,6 @@
 use native.Mathlib.Omega.{arith}
-<<<<<<< HEAD
-use Prim.Native.Nat.{ℕ, _≤_, _-_}
-use mathlib.Core.Path.{_≡_, _∙_}
-=======
 use Prim.Native.Nat.{_≤_, _-_}
 use mathlib.Core.Path.{_≡_, refl, _∙_}
->>>>>>> b8e7a93 (prototype: held, on the base)
 use mathlib.Core.List.{List}
 use lib.ListN.{length, length-set}
 use Rattle.node_step.specs.declared.stored.Packed.{Packed}
@@ -22,27 +17,15 @@ use Rattle.signal_table.proofs.states.longer_by.Reads as longer-by-read
 use Rattle.signal_table.proofs.states.next.Reads as next-reads
 
 abbrev Inv-loop : tie.InvT-loop
-<<<<<<< HEAD
-Inv-loop rows parents signals symbols count states₀ index₀ n p numbers₀ m₀ k₀ states index numbers m k = (k ≤ count) × (m ≤ 256) × (length numbers ≡ 128)
-    × ((l : List ℕ) → Kept states₀ index₀ n l → Turning (nextPair rows parents signals symbols) p l k numbers₀ numbers states index m)
+Inv-loop rows parents inner signals symbols count signal₀ statuses₀ hints₀ n st numbers₀ m₀ k₀ signal statuses hints numbers m k = (k ≤ count) × (m ≤ 256) × (length numbers ≡ 128)
+    × ((l : List Packed) → Kept signal₀ statuses₀ hints₀ n l → Turning (nextState rows parents inner signals symbols) st l k numbers₀ numbers signal statuses hints m)
 
 abbrev μ-loop : tie.MeasureT-loop
-μ-loop rows parents signals symbols count states₀ index₀ n p numbers₀ m₀ k₀ states index numbers m k = count - k
-=======
-Inv-loop rows parents branches signals symbols count signal₀ statuses₀ hints₀ n st numbers₀ m₀ k₀ signal statuses hints numbers m k = (k ≤ count) × (m ≤ 256) × (length numbers ≡ 128)
-    × ((l : List Packed) → Kept signal₀ statuses₀ n l → Turning (nextState rows parents branches signals symbols) st l k numbers₀ numbers signal statuses m)
-
-abbrev μ-loop : tie.MeasureT-loop
-μ-loop rows parents branches signals symbols count signal₀ statuses₀ hints₀ n st numbers₀ m₀ k₀ signal statuses hints numbers m k = count - k
->>>>>>> b8e7a93 (prototype: held, on the base)
+μ-loop rows parents inner signals symbols count signal₀ statuses₀ hints₀ n st numbers₀ m₀ k₀ signal statuses hints numbers m k = count - k
 
 -- src/states.rt:165:5
 loop-holds : tie.Need-loop-holds Inv-loop μ-loop
-<<<<<<< HEAD
-loop-holds c = let a = c .args in (omega arith, c .pre .1, c .pre .3, λ l k. turning-start (nextPair (a .rows .now) (a .parents .now) (a .signals) (a .symbols .now)) (a .p) l (a .numbers .now) (a .states .now) (a .index .now) (a .n) k)
-=======
-loop-holds c = let a = c .args in (omega arith, c .pre .1, c .pre .2, λ l k. turning-start (nextState (a .rows .now) (a .parents .now) (a .branches .now) (a .signals) (a .symbols .now)) (a .st) l (a .numbers .now) (a .signal .now) (a .statuses .now) (a .n) k)
->>>>>>> b8e7a93 (prototype: held, on the base)
+loop-holds c = let a = c .args in (omega arith, c .pre .1, c .pre .2, λ l k. turning-start (nextState (a .rows .now) (a .parents .now) (a .inner .now) (a .signals) (a .symbols .now)) (a .st) l (a .numbers .now) (a .signal .now) (a .statuses .now) (a .hints .now) (a .n) k)
 
 -- src/states.rt:166:13
 next-requires : tie.Need-next-requires Inv-loop μ-loop
@@ -50,38 +33,18 @@ next-requires c κs = search needs
 
 -- src/states.rt:167:13
 keep-requires : tie.Need-keep-requires Inv-loop μ-loop
-<<<<<<< HEAD
-keep-requires c κs = (c .before .before .before .before .loop .inv .1, c .before .before .next-pair .ensures .1 (c .before .before .before .before .before .pre .2))
-=======
 keep-requires c κs = c .before .before .before .before .before .loop .inv .1
->>>>>>> b8e7a93 (prototype: held, on the base)
 
 -- src/states.rt:169:13
 returns : tie.Need-returns Inv-loop μ-loop
-<<<<<<< HEAD
-returns c = let a = c .before .before .before .before .before .before .before .args in let o = c .before .before .before .before .before .before .loop in (
-  (omega arith, o .inv .2),
-  λ l k. turning-over (nextPair (a .rows .now) (a .parents .now) (a .signals) (a .symbols .now)) (a .p) l (a .numbers .now) (o .k) (o .numbers) (o .states) (o .index) (o .m) (o .inv .3 l k) (a .count)
-      (c .before .keep .last .0) (c .before .keep .last .1 .0) (o .numbers) (c .before .before .before .before .before .loop-test .taken) (c .before .before .before .before .next-pair .ensures .0) (c .before .keep .ensures .1) (c .if1 .taken),
-=======
 returns c = let a = c .before .before .before .before .before .before .before .before .args in let o = c .before .before .before .before .before .before .before .loop in (
   (omega arith, o .inv .2),
-  λ l k. turning-over (nextState (a .rows .now) (a .parents .now) (a .branches .now) (a .signals) (a .symbols .now)) (a .st) l (a .numbers .now) (o .k) (o .numbers) (o .signal) (o .statuses) (o .m) (o .inv .3 l k) (a .count)
-      (c .before .keep .last .0) (c .before .keep .last .1 .0) (o .numbers) (c .before .before .before .before .before .before .loop-test .taken) (c .before .before .before .before .before .next .ensures) (c .before .keep .ensures .1) (c .if1 .taken),
->>>>>>> b8e7a93 (prototype: held, on the base)
+  λ l k. turning-over (nextState (a .rows .now) (a .parents .now) (a .inner .now) (a .signals) (a .symbols .now)) (a .st) l (a .numbers .now) (o .k) (o .numbers) (o .signal) (o .statuses) (o .hints) (o .m) (o .inv .3 l k) (a .count)
+      (c .before .keep .last .0) (c .before .keep .last .1 .0) (c .before .keep .last .1 .1 .0) (o .numbers) (c .before .before .before .before .before .before .loop-test .taken) (c .before .before .before .before .before .next .ensures) (c .before .keep .ensures .1) (c .if1 .taken),
 )
 
 -- src/states.rt:171:9
 longer-by-requires : tie.Need-longer-by-requires Inv-loop μ-loop
-<<<<<<< HEAD
-longer-by-requires c κs = c .before .before .before .before .before .before .loop .inv .1
-
-cast-numbers : tie.Need-cast-numbers Inv-loop μ-loop
-cast-numbers c = search needs
-
-element-write-numbers : tie.Need-element-write-numbers Inv-loop μ-loop
-element-write-numbers c = omega (arith, c .before .before .before .before .before .before .before .loop .inv .2, c .before .before .before .before .before .before .loop-test .taken, c .before .before .before .before .before .before .before .before .pre .0)
-=======
 longer-by-requires c κs = c .before .before .before .before .before .before .before .loop .inv .1
 
 -- src/states.rt:172:22
@@ -91,7 +54,6 @@ cast-numbers c = search needs
 -- src/states.rt:172:9
 element-write-numbers : tie.Need-element-write-numbers Inv-loop μ-loop
 element-write-numbers c = omega (arith, c .before .before .before .before .before .before .before .before .loop .inv .2, c .before .before .before .before .before .before .before .loop-test .taken, c .before .before .before .before .before .before .before .before .before .pre .0)
->>>>>>> b8e7a93 (prototype: held, on the base)
 
 -- src/states.rt:173:9
 add-k : tie.Need-add-k Inv-loop μ-loop
@@ -99,40 +61,23 @@ add-k c = search needs
 
 -- src/states.rt:165:5
 loop-less : tie.Need-loop-less Inv-loop μ-loop
-<<<<<<< HEAD
-loop-less c = omega (arith, c .before .before .before .before .before .before .loop-test .taken)
-=======
 loop-less c = omega (arith, c .before .before .before .before .before .before .before .loop-test .taken)
->>>>>>> b8e7a93 (prototype: held, on the base)
 
 -- src/states.rt:165:5
 loop-again : tie.Need-loop-again Inv-loop μ-loop
-<<<<<<< HEAD
-loop-again c = let a = c .before .before .before .before .before .before .before .before .args in let o = c .before .before .before .before .before .before .before .loop in (
-  omega (arith, c .before .before .before .before .before .before .loop-test .taken),
-  longer-le (o .m) (c .before .before .keep .result) (c .longer-by .ensures) (o .inv .1) (c .before .if1 .left),
-  length-set (o .numbers) (o .k) (c .before .before .keep .result) ∙ o .inv .2,
-  λ l k. turning-more (nextPair (a .rows .now) (a .parents .now) (a .signals) (a .symbols .now)) (a .p) l (a .numbers .now) (o .k) (o .numbers) (o .states) (o .index) (o .m) (o .inv .3 l k)
-      (c .before .before .keep .last .0) (c .before .before .keep .last .1 .0) (omega (arith, c .before .before .before .before .before .before .loop-test .taken, c .before .before .before .before .before .before .before .before .pre .0, c .before .before .before .before .before .before .before .before .pre .3)) (c .before .before .before .before .before .next-pair .ensures .0) (c .before .before .keep .ensures .1) (c .before .if1 .left) (c .longer-by .ensures),
-=======
 loop-again c = let a = c .before .before .before .before .before .before .before .before .before .args in let o = c .before .before .before .before .before .before .before .before .loop in (
   omega (arith, c .before .before .before .before .before .before .before .loop-test .taken),
   longer-le (o .m) (c .before .before .keep .result) (c .longer-by .ensures) (o .inv .1) (c .before .if1 .left),
   length-set (o .numbers) (o .k) (c .before .before .keep .result) ∙ o .inv .2,
-  λ l k. turning-more (nextState (a .rows .now) (a .parents .now) (a .branches .now) (a .signals) (a .symbols .now)) (a .st) l (a .numbers .now) (o .k) (o .numbers) (o .signal) (o .statuses) (o .m) (o .inv .3 l k)
-      (c .before .before .keep .last .0) (c .before .before .keep .last .1 .0) (omega (arith, c .before .before .before .before .before .before .before .loop-test .taken, c .before .before .before .before .before .before .before .before .before .pre .0, c .before .before .before .before .before .before .before .before .before .pre .2)) (c .before .before .before .before .before .before .next .ensures) (c .before .before .keep .ensures .1) (c .before .if1 .left) (c .longer-by .ensures),
->>>>>>> b8e7a93 (prototype: held, on the base)
+  λ l k. turning-more (nextState (a .rows .now) (a .parents .now) (a .inner .now) (a .signals) (a .symbols .now)) (a .st) l (a .numbers .now) (o .k) (o .numbers) (o .signal) (o .statuses) (o .hints) (o .m) (o .inv .3 l k)
+      (c .before .before .keep .last .0) (c .before .before .keep .last .1 .0) (c .before .before .keep .last .1 .1 .0) (omega (arith, c .before .before .before .before .before .before .before .loop-test .taken, c .before .before .before .before .before .before .before .before .before .pre .0, c .before .before .before .before .before .before .before .before .before .pre .2)) (c .before .before .before .before .before .before .next .ensures) (c .before .before .keep .ensures .1) (c .before .if1 .left) (c .longer-by .ensures),
 )
 
 -- src/states.rt:142:1
 returns-2 : tie.Need-returns-2 Inv-loop μ-loop
 returns-2 c = let a = c .before .before .args in let o = c .before .loop in (
   (omega (arith, o .inv .1), o .inv .2),
-<<<<<<< HEAD
-  λ l k. turning-end (nextPair (a .rows .now) (a .parents .now) (a .signals) (a .symbols .now)) (a .p) l (a .numbers .now) (o .k) (o .numbers) (o .states) (o .index) (o .m) (o .inv .3 l k) (a .count) (o .inv .0) (c .loop-test .left) (o .inv .1),
-=======
-  λ l k. turning-end (nextState (a .rows .now) (a .parents .now) (a .branches .now) (a .signals) (a .symbols .now)) (a .st) l (a .numbers .now) (o .k) (o .numbers) (o .signal) (o .statuses) (o .m) (o .inv .3 l k) (a .count) (o .inv .0) (c .loop-test .left) (o .inv .1),
->>>>>>> b8e7a93 (prototype: held, on the base)
+  λ l k. turning-end (nextState (a .rows .now) (a .parents .now) (a .inner .now) (a .signals) (a .symbols .now)) (a .st) l (a .numbers .now) (o .k) (o .numbers) (o .signal) (o .statuses) (o .hints) (o .m) (o .inv .3 l k) (a .count) (o .inv .0) (c .loop-test .left) (o .inv .1),
 )
 
 pub turn-spec : {M : Type 1} → statement M

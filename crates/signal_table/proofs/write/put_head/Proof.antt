@@ -2,15 +2,17 @@ use mathlib.Core.Path.{_≡_, refl, ap, _∙_}
 use mathlib.Core.List.{List, [], _∷_, _++_, append-assoc}
 use Prim.Native.Nat.{ℕ, _+_, _-_, _*_, _/_, _%_, _≤_}
 use native.Mathlib.Omega.{arith}
-use lib.ListN.{length, take, set, getD, length-set, length-append}
-use lib.Seq.{length-take-le}
-use Rattle.signal_table.proofs.Over.{over, over-copy, over-one, over-set, over-all}
+use lib.ListN.{length, set, getD, length-set, length-append}
+use Rattle.resolution.specs.Lists.{tabulate}
+use Rattle.resolution.proofs.Lists.{tabulate-length}
+use Rattle.signal_table.specs.States.{symbolByte}
+use Rattle.signal_table.proofs.Over.{over, over-tabulate, over-one, over-set, over-all}
 use borrow.Author.Needs.{needs}
 use Rattle.signal_table.proofs.write.put_head.Statement.{statement}
 use Rattle.signal_table.proofs.write.put_head.Tie as tie
 
 abbrev Inv-loop : tie.InvT-loop
-Inv-loop symbols count n head₀ end j₀ head j = (j ≤ end) × (end ≡ 3 * count) × (length head₀ ≡ 3 + end) × (length head ≡ 3 + end) × (head ≡ over (count ∷ take j symbols) head₀)
+Inv-loop symbols count n head₀ end j₀ head j = (j ≤ end) × (end ≡ 3 * count) × (length head₀ ≡ 3 + end) × (length head ≡ 3 + end) × (head ≡ over (count ∷ tabulate (symbolByte symbols) j) head₀)
 
 abbrev μ-loop : tie.MeasureT-loop
 μ-loop symbols count n head₀ end j₀ head j = end - j
@@ -25,6 +27,7 @@ mul-end : tie.Need-mul-end Inv-loop μ-loop
 mul-end c = search needs
 
 loop-holds : tie.Need-loop-holds Inv-loop μ-loop
+unfolding tabulate
 loop-holds c = (omega arith, refl, simp length-set (omega arith), simp length-set (omega arith), over-one (c .args .head .now) (c .args .count) (omega arith))
 
 element-copy-out-head : tie.Need-element-copy-out-head Inv-loop μ-loop
@@ -49,8 +52,8 @@ loop-again c = let at = c .before .before .loop in
       refl,
       at .inv .2,
       simp length-set (at .inv .3),
-      over-copy (a .count ∷ []) (set (a .head .now) 0 (a .count)) (at .head) (1 + at .j) (getD (a .symbols .now) (at .j) 0) (omega arith) (a .symbols .now) (at .j)
-          (at .inv .4) refl (omega (arith, c .before .before .before .pre .3)) refl,
+      over-tabulate (a .count ∷ []) (set (a .head .now) 0 (a .count)) (at .head) (1 + at .j) (getD (a .symbols .now) (at .j) 0) (omega arith) (symbolByte (a .symbols .now)) (at .j)
+          (at .inv .4) refl refl,
     )
 
 cast-head-2 : tie.Need-cast-head-2 Inv-loop μ-loop
@@ -78,12 +81,12 @@ returns : tie.Need-returns Inv-loop μ-loop
 returns c = let at = c .before .loop in
     let a = c .before .before .args in
     let e : at .j ≡ 3 * a .count = omega arith in
-    let p = a .count ∷ take (3 * a .count) (a .symbols .now) in
+    let p = a .count ∷ tabulate (symbolByte (a .symbols .now)) (3 * a .count) in
     let head₀ = set (a .head .now) 0 (a .count) in
     let lo = a .n % 256 in
     let hi = a .n / 256 in
-    let l : length (take (3 * a .count) (a .symbols .now)) ≡ 3 * a .count = length-take-le (3 * a .count) (a .symbols .now) (omega (arith, c .before .before .pre .3)) in
-    let q : at .head ≡ over p head₀ = at .inv .4 ∙ ap (λ (k : ℕ). over (a .count ∷ take k (a .symbols .now)) head₀) e in
+    let l : length (tabulate (symbolByte (a .symbols .now)) (3 * a .count)) ≡ 3 * a .count = tabulate-length (symbolByte (a .symbols .now)) (3 * a .count) in
+    let q : at .head ≡ over p head₀ = at .inv .4 ∙ ap (λ (k : ℕ). over (a .count ∷ tabulate (symbolByte (a .symbols .now)) k) head₀) e in
     let l₁ : length (p ++ (lo ∷ [])) ≡ 2 + 3 * a .count = simp length-append (omega arith) in
     let l₂ : length ((p ++ (lo ∷ [])) ++ (hi ∷ [])) ≡ 3 + 3 * a .count = simp length-append (omega arith) in
     ap (λ (t : List ℕ). set (set t (1 + 3 * a .count) lo) (2 + 3 * a .count) hi) q
