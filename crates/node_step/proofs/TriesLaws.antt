@@ -4,7 +4,7 @@ use mathlib.Core.Path.{_≡_, refl, sym, ap, _∙_}
 use mathlib.Core.Bool.{Bool, true, false, cond}
 use mathlib.Core.List.{List}
 use borrow.Author.Tests.{eq-eqb, ne-eqb, le-leb, lt-leb}
-use lib.Dec.{eqb}
+use lib.Dec.{eqb, leb}
 use native.Mathlib.Omega.{arith}
 use Rattle.node_step.specs.declared.State.{State}
 use Rattle.node_step.specs.declared.Hit.{Hit}
@@ -60,3 +60,25 @@ module _ (rows ps : List ℕ) (n : ℕ) (st : State) (c d : ℕ) (whole : Bool) 
   pub tries-by-hit : {x : Hit} {r : ℕ} → c < 8 → x ≡ hitNumbers rows ps n st c d whole → r ≡ triesTo ps d x → r ≡ triesNumbers rows ps n st c d whole
   unfolding triesNumbers
   tries-by-hit h i v = v ∙ ap (triesTo ps d) i ∙ simp (lt-leb 8 c h)
+
+-- a step has at most ten tries, whatever the arrays hold
+depth-bound : (ps : List ℕ) (n d : ℕ) → depth ps n d ≤ n
+unfolding depth
+depth-bound ps zero d = omega arith
+depth-bound ps (suc n) d = go (eqb d 0) (depth-bound ps n (parentOf ps d))
+  where
+    go : (b : Bool) → depth ps n (parentOf ps d) ≤ n → cond b 0 (suc (depth ps n (parentOf ps d))) ≤ suc n
+    go true h = omega arith
+    go false h = omega arith
+
+pub tries-bound : (rows ps : List ℕ) (n : ℕ) (st : State) (c d : ℕ) (whole : Bool) → triesNumbers rows ps n st c d whole ≤ 10
+unfolding triesNumbers
+tries-bound rows ps n st c d whole = go (leb 8 c) (hitNumbers rows ps n st c d whole)
+  where
+    to : (h : Hit) (b : Bool) → cond b (suc (depth ps 9 d) - depth ps 9 (h .node)) 0 ≤ 10
+    to h true = omega (arith, depth-bound ps 9 d)
+    to h false = omega arith
+
+    go : (b : Bool) (h : Hit) → cond b 0 (triesTo ps d h) ≤ 10
+    go true h = omega arith
+    go false h = to h (h .found)
