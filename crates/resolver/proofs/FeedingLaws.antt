@@ -3,7 +3,7 @@ use Prim.Native.Nat.{ℕ, zero, suc, _+_, _-_, _≤_, _<_, min}
 use mathlib.Core.Path.{_≡_, refl, sym, ap, ap₂, _∙_, subst}
 use mathlib.Core.Bool.{Bool, true, false, cond}
 use mathlib.Core.Option.{Option, none, some}
-use mathlib.Core.List.{List, [], _∷_, _++_, map, foldl, foldl-append}
+use mathlib.Core.List.{List, [], _∷_, _++_, foldl, foldl-append}
 use lib.Dec.{eqb}
 use lib.ListN.{length, take, length-append}
 use lib.Seq.{take-all}
@@ -14,9 +14,9 @@ use Rattle.alert_info.proofs.Agree.{refused-exactly}
 use Rattle.alert_info.proofs.ReadingLaws.{refused-uris}
 use Rattle.alert_urn.proofs.Fields.{byTest}
 use Rattle.resolution.specs.Table.{Urn}
-use Rattle.resolution.specs.Direct.{Status, State, start, envOf, step, usedOf, usedCount, skippedCount, StateOf}
+use Rattle.resolution.specs.Direct.{State, start, envOf, step, usedOf, usedCount, skippedCount, StateOf}
 use Rattle.resolution.proofs.Claim.{used-append}
-use Rattle.resolution.proofs.TableStep.{state-start, state-step, state-signal}
+use Rattle.resolution.proofs.TableStep.{state-start}
 use Rattle.carried_record.specs.declared.Carried.{Carried}
 use Rattle.carried_record.specs.Record.{fresh, stateIn, carriedAs}
 use Rattle.carried_record.specs.Coded.{Fits}

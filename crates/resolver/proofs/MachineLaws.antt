@@ -1,6 +1,6 @@
 -- The walk of an image over a whole value.
 use Prim.Native.Nat.{ℕ, _≤_, _<_}
-use mathlib.Core.Path.{_≡_, refl, sym, ap, ap₂, _∙_}
+use mathlib.Core.Path.{_≡_, sym, ap, ap₂, _∙_}
 use mathlib.Core.Bool.{Bool, true, false, cond}
 use mathlib.Core.List.{List}
 use lib.ListN.{length}
@@ -15,6 +15,7 @@ use Rattle.machine_image.specs.Walk.{stepIn}
 use Rattle.stored_table.specs.Tables.{tableRefusal, tableOf}
 use Rattle.stored_table.specs.Decoded.{Holds, Means}
 use Rattle.stored_table.specs.declared.Decoded.{Decoded}
+use Rattle.resolver.specs.declared.run.Current.{Current}
 use Rattle.resolver.specs.Resolve.{takenAs, refused, answered, walkedSignal, unlessRefused, machineOf}
 use Rattle.resolver.specs.Run.{Walk, Machine, moved, signalNow, resolvedFrom}
 use Rattle.resolver.proofs.FoldLaws.{Steps}
@@ -43,11 +44,12 @@ module _ (t : List ℕ) (d : Decoded) (h : Holds t (tableOf t) d) (m : Machine) 
       }
 
   -- from state 0, an image of right form: the machine resolver's answer
-  pub machine-right : (v : List ℕ) → length v ≤ 4096 → tableRefusal t ≡ 0 → formOf (tableOf t) (m .image) ≡ true
-      → resolvedFrom t d m (Walk 0) v ≡ machineOf t (m .image) v
+  pub machine-right : {x : Current} → x ≡ Walk 0 → (v : List ℕ) → length v ≤ 4096 → tableRefusal t ≡ 0 → formOf (tableOf t) (m .image) ≡ true
+      → resolvedFrom t d m x v ≡ machineOf t (m .image) v
   unfolding machineOf signalNow
-  machine-right v short formed right =
-      resolved-right t (tableOf t) d h m v short (λ j. Unit) (stepIn (tableOf t) (m .image)) Walk walk-steps 0 tt formed (signalIn (tableOf t .cats) (m .image)) (λ j. ap (λ n. signalIn n (m .image) j) all-cats)
+  machine-right e v short formed right =
+      ap (λ (x : Current). resolvedFrom t d m x v) e
+      ∙ resolved-right t (tableOf t) d h m v short (λ j. Unit) (stepIn (tableOf t) (m .image)) Walk walk-steps 0 tt formed (signalIn (tableOf t .cats) (m .image)) (λ j. ap (λ n. signalIn n (m .image) j) all-cats)
       ∙ ap (λ j. unlessRefused t v (answered t (urisOf v) (signalIn (tableOf t .cats) (m .image) j))) (sym (run-used (stepIn (tableOf t) (m .image)) 0 (takenAs t (urisOf v))))
       ∙ ap (λ b. unlessRefused t v (cond b (answered t (urisOf v) (walkedSignal t (m .image) (urisOf v))) (refused 15))) (sym right)
 

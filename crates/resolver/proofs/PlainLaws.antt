@@ -1,20 +1,24 @@
 -- Direct resolution on node numbers, over a whole value.
-use Prim.Native.Nat.{ℕ, _+_, _≤_}
+use Prim.Native.Nat.{ℕ, _+_, _≤_, _<_}
 use mathlib.Core.Path.{_≡_, refl, sym, ap, ap₂, _∙_, subst}
 use mathlib.Core.List.{List, [], _∷_, foldl}
 use lib.ListN.{length}
-use borrow.Author.Tests.{ne-eqb}
+use lib.Dec.{eqb}
+use mathlib.Core.Bool.{cond}
+use borrow.Author.Tests.{ne-eqb, eqb-false}
 use native.Mathlib.Omega.{arith}
 use Rattle.alert_info.specs.Value.{refusalOf, urisOf}
+use Rattle.alert_info.proofs.ReadingLaws.{refusal-long}
+use Rattle.alert_urn.proofs.Fields.{byTest}
 use Rattle.resolution.specs.Table.{Urn, Table}
-use Rattle.resolution.specs.Direct.{envOf, step, usedOf, StateOf}
+use Rattle.resolution.specs.Direct.{envOf, start, step, usedOf, StateOf}
 use Rattle.resolution.specs.Direct as direct
 use Rattle.resolution.specs.Nodes.{nodes}
 use Rattle.resolution.specs.Tries.{tries, triesOver}
-use Rattle.resolution.proofs.TableStep.{state-valid, state-step}
+use Rattle.resolution.proofs.TableStep.{state-valid, state-start, state-step}
 use Rattle.node_step.specs.Step.{coded}
 use Rattle.node_step.specs.declared.State.{State}
-use Rattle.node_step.proofs.Both.{step-direct}
+use Rattle.node_step.proofs.Both.{step-direct, coded-start}
 use Rattle.node_step.proofs.TriesRight.{tries-direct}
 use Rattle.stored_table.specs.Tables.{tableRefusal, tableOf}
 use Rattle.stored_table.specs.Decoded.{Holds}
@@ -23,9 +27,9 @@ use Rattle.resolver.specs.declared.run.Current.{Current}
 use Rattle.resolver.specs.declared.Resolution.{Resolution}
 use Rattle.resolver.specs.declared.run.Outcome.{Outcome}
 use Rattle.resolver.specs.Resolve.{takenAs, directSignal, refused, answered, plainOf, triesIn, triedAs, plainWith}
-use Rattle.resolver.specs.Run.{Direct, Machine, moved, runFrom, answerOf, begin}
+use Rattle.resolver.specs.Run.{startNow, Direct, Machine, moved, runFrom, answerOf, begin}
 use Rattle.resolver.proofs.FoldLaws.{Steps}
-use Rattle.resolver.proofs.AnswerLaws.{Ended, run-ends, value-refused, none-refused, pos-of-ne}
+use Rattle.resolver.proofs.AnswerLaws.{Ended, run-ends, value-refused, none-refused, refused-first, pos-of-ne}
 use Rattle.resolver.proofs.AnswerLaws as answer
 
 -- a state, and the tries so far
@@ -71,19 +75,44 @@ module _ (t : List ℕ) (d : Decoded) (h : Holds t (tableOf t) d) (m : Machine) 
   -- the run over a value, from a state of the table
   pub direct-ends : (v : List ℕ) → length v ≤ 4096 → (st : direct.State) → StateOf table st → {o : Outcome} → o ≡ runFrom t d m v (begin (Direct (coded table st) 0)) 0
       → Ended t v (Direct (coded table (foldl (step (envOf table)) st (usedOf (takenAs t (urisOf v))))) (triesOver table st (usedOf (takenAs t (urisOf v))))) o
-  direct-ends v short st g e =
+  direct-ends v short st g {o} e =
       let us = usedOf (takenAs t (urisOf v)) in
       let z : 0 + triesOver table st us ≡ triesOver table st us = omega arith in
-      subst (λ (x : Current). Ended t v x _)
+      subst (λ (x : Current). Ended t v x o)
       (ap (shown table) (counts-over table us st 0) ∙ ap (Direct (coded table (foldl (step (envOf table)) st us))) z)
       (subst (Ended t v (shown table (foldl (counts table) (begun st) us))) (sym e)
       (run-ends t table d h m v short (λ x. StateOf table (x .at)) (counts table) (shown table) direct-steps (begun st) g))
 
+  -- from signal 0 with every category open
+  pub plain-ends : (v : List ℕ) → length v ≤ 4096 → {x : Current} → x ≡ Direct startNow 0 → {o : Outcome} → o ≡ runFrom t d m v (begin x) 0
+      → Ended t v (Direct (coded table (direct.direct table (usedOf (takenAs t (urisOf v))))) (triesIn t (urisOf v))) o
+  plain-ends v short f e =
+      direct-ends v short (start (table .cats)) (state-start table (h .well-formed))
+      (e ∙ ap (λ (x : Current). runFrom t d m v (begin x) 0) f ∙ ap (λ (x : State). runFrom t d m v (begin (Direct x 0)) 0) (sym (coded-start table (table .cats))))
+
+-- a refused answer has no tries
+tried-refused : (k n i : ℕ) → (k ≡ 0 → ⊥) → triedAs (refused k) n ≡ triedAs (refused k) i
+tried-refused k n i h = rw (ne-eqb k 0 h)
+
+some-number : (v k : ℕ) → (k ≡ 0 → ⊥) → cond (eqb v 0) k v ≡ 0 → ⊥
+some-number v k n = byTest (eqb v 0) (λ q. λ z. n (ap (λ b. cond b k v) (sym q) ∙ z)) (λ q. λ z. eqb-false v 0 q (ap (λ b. cond b k v) (sym q) ∙ z))
+
+-- a value of over 4,096 bytes, and a refused table
+module _ (t v : List ℕ) where
+  pub tried-long : 4096 < length v → triedAs (refused 1) 0 ≡ plainWith t v
+  unfolding plainWith plainOf
+  tried-long h =
+      tried-refused 1 0 (triesIn t (urisOf v)) (λ z. omega arith)
+      ∙ ap (λ (r : Resolution). triedAs r (triesIn t (urisOf v))) (value-refused t v (answered t (urisOf v) (directSignal t (urisOf v))) (refusal-long v h) (omega arith))
+
+  pub tried-table : {k : ℕ} → k ≡ tableRefusal t → (k ≡ 0 → ⊥) → triedAs (refused (cond (eqb (refusalOf v) 0) k (refusalOf v))) 0 ≡ plainWith t v
+  unfolding plainWith plainOf
+  tried-table {k} e n =
+      tried-refused (cond (eqb (refusalOf v) 0) k (refusalOf v)) 0 (triesIn t (urisOf v)) (some-number (refusalOf v) k n)
+      ∙ ap (λ (r : Resolution). triedAs r (triesIn t (urisOf v))) (refused-first t v (answered t (urisOf v) (directSignal t (urisOf v))) e n)
+
 -- the answer with its tries, by how the run ended
 module _ (t v : List ℕ) (o : Outcome) (a : Resolution) (ea : a ≡ answerOf o (o .point .current .state .signal)) (formed : tableRefusal t ≡ 0) where
-  tried-refused : (k n i : ℕ) → (k ≡ 0 → ⊥) → triedAs (refused k) n ≡ triedAs (refused k) i
-  tried-refused k n i h = rw (ne-eqb k 0 h)
-
   pub tried-right : Ended t v (Direct (coded (tableOf t) (direct.direct (tableOf t) (usedOf (takenAs t (urisOf v))))) (triesIn t (urisOf v))) o
       → triedAs a (o .point .current .tries) ≡ plainWith t v
   unfolding plainWith plainOf

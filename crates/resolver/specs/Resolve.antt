@@ -13,7 +13,7 @@ use Rattle.machine_image.specs.Refusals.{formOf}
 use Rattle.machine_image.specs.Walk.{walkSignal}
 use Rattle.stored_table.specs.Tables.{tableRefusal, tableOf, categoryNames}
 use Rattle.resolver.specs.declared.Resolution.{Resolution}
-use Rattle.resolver.specs.declared.Plain.{Plain}
+use Rattle.resolver.specs.declared.PlainResolution.{PlainResolution}
 
 -- a list of URIs as a stored table takes them: a used one with its URN, or skipped
 abbrev pub takenAs : List ℕ → List (List ℕ) → List (Option Urn)
@@ -50,11 +50,11 @@ abbrev pub triesIn : List ℕ → List (List ℕ) → ℕ
 triesIn t uris = triesOver (tableOf t) (start (tableOf t .cats)) (usedOf (takenAs t uris))
 
 -- an answer with its tries, of which a refused one has none
-abbrev pub triedAs : Resolution → ℕ → Plain
+abbrev pub triedAs : Resolution → ℕ → PlainResolution
 triedAs r n = record { refusal = r .refusal; signal = r .signal; used = r .used; skipped = r .skipped; tries = cond (eqb (r .refusal) 0) n 0 }
 
 -- the plain resolver with the tries over the value's list
-unfoldable pub plainWith : List ℕ → List ℕ → Plain
+unfoldable pub plainWith : List ℕ → List ℕ → PlainResolution
 plainWith t v = triedAs (plainOf t v) (triesIn t (urisOf v))
 
 -- the machine resolver: the image as it is stored, followed over the value's list; 15 if it is of wrong form

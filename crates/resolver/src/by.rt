@@ -1,6 +1,6 @@
 // The plain resolver by a table that is decoded already: whoever needs the decoded table too, or resolves many values,
 // decodes it once.
-use crate::Plain;
+use crate::PlainResolution;
 use crate::Resolution;
 use crate::answer;
 use crate::run::Point;
@@ -11,14 +11,14 @@ ghost use Rattle.stored_table.specs.Decoded.{Means};
 ghost use Rattle.resolver.specs.Resolve.{refused as refusedWith, triedAs, plainOf, plainWith};
 
 // An answer with its tries, of which a refused one has none.
-fn with_tries(a: Resolution, tries: u16) -> Plain
+fn with_tries(a: Resolution, tries: u16) -> PlainResolution
     ensures { λ r. ⌜ r ≡ triedAs a tries ⌝ }
 {
     let mut counted = 0;
     if a.refusal == 0 {
         counted = tries;
     }
-    Plain {
+    PlainResolution {
         refusal: a.refusal,
         signal: a.signal,
         used: a.used,
@@ -28,14 +28,14 @@ fn with_tries(a: Resolution, tries: u16) -> Plain
 }
 
 // The answer to a value of over 4,096 bytes.
-pub(crate) fn too_long() -> Plain
+pub(crate) fn too_long() -> PlainResolution
     ensures { λ r. ⌜ r ≡ triedAs (refusedWith 1) 0 ⌝ }
 {
     with_tries(answer::refused(1), 0)
 }
 
 // The value v with the table t, decoded as d, and the tries.
-pub fn tried(t: &[u8], d: Decoded, v: &[u8]) -> Plain
+pub fn tried(t: &[u8], d: Decoded, v: &[u8]) -> PlainResolution
     ensures { λ r. ⌜ (Means (now (t .entry)) d → r ≡ plainWith (now (t .entry)) (now (v .entry))) ⌝ }
 {
     if 4096 < v.len() {

@@ -1,5 +1,5 @@
 // The resolvers for C: a table, an image and a value are each a pointer and a length, a carried record is 10 bytes.
-use crate::Plain;
+use crate::PlainResolution;
 use crate::Resolution;
 ghost use mathlib.Core.Path.{_≡_};
 ghost use Rattle.resolver.specs.Resolve.{plainWith, machineOf};
@@ -10,7 +10,7 @@ ghost use Rattle.resolver.specs.Feed.{feedOf};
 // typedef struct { uint8_t refusal, signal, used, skipped; uint16_t tries; } alert_plain;
 // alert_plain resolve_plain(const uint8_t *table, size_t len, const uint8_t *value, size_t value_len);
 #[no_mangle]
-pub extern "C" fn resolve_plain(t: &[u8], v: &[u8]) -> Plain
+pub extern "C" fn resolve_plain(t: &[u8], v: &[u8]) -> PlainResolution
     ensures { λ r. ⌜ r ≡ plainWith (now (t .entry)) (now (v .entry)) ⌝ }
 {
     crate::plain(t, v)

@@ -32,7 +32,7 @@ pub struct Resolution {
 
 // The plain resolver's answer: the same, and how many candidates its searches tried.
 #[repr(C)]
-pub struct Plain {
+pub struct PlainResolution {
     pub refusal: u8,
     pub signal: u8,
     pub used: u8,
@@ -47,7 +47,7 @@ pub struct Fed {
 }
 
 // The plain resolver: direct resolution of the value v with the table t.
-pub fn plain(t: &[u8], v: &[u8]) -> Plain
+pub fn plain(t: &[u8], v: &[u8]) -> PlainResolution
     ensures { λ r. ⌜ r ≡ plainWith (now (t .entry)) (now (v .entry)) ⌝ }
 {
     if 4096 < v.len() {

@@ -1,7 +1,7 @@
 use mathlib.Core.Path.{sym, _∙_}
 use native.Mathlib.Omega.{arith}
 use borrow.Author.Tests.{not-true, not-false}
-use Rattle.carried_record.proofs.BitLaws.{fits-to}
+use Rattle.carried_record.proofs.FitLaws.{fits-to}
 use Rattle.resolver.proofs.ReadLaws.{feed-table, feed-unfit, feed-full, feed-read, fits-table}
 use borrow.Author.Needs.{needs}
 use Rattle.resolver.proofs.feed.Statement.{statement}
@@ -14,7 +14,7 @@ unchanged-requires : tie.Need-unchanged-requires
 unchanged-requires c κs = search needs
 
 returns : tie.Need-returns
-returns c = c .unchanged .ensures ∙ feed-table _ _ _ (c .before .before .before .decode .ensures .refusal) (c .before .if1 .taken)
+returns c = c .unchanged .ensures ∙ feed-table _ _ _ (c .before .before .decode .ensures .refusal) (c .before .if1 .taken)
 
 fits-requires : tie.Need-fits-requires
 fits-requires c κs = search needs
@@ -24,27 +24,35 @@ unchanged-requires-2 c κs = search needs
 
 returns-2 : tie.Need-returns-2
 returns-2 c =
-    let z = sym (c .before .before .before .before .before .decode .ensures .refusal) ∙ c .before .before .before .if1 .left in
-    c .unchanged2 .ensures ∙ feed-unfit _ _ _ z (sym (fits-table _ _ (c .before .before .before .before .before .decode .ensures .holds z) _) ∙ sym (c .before .before .fits2 .ensures .0) ∙ not-true _ (c .before .if2 .taken))
+    let d = c .before .before .before .before .before .before .before .before .before .decode .ensures in
+    let z = sym (d .refusal) ∙ c .before .before .before .before .before .before .before .before .if1 .left in
+    let e = sym (fits-table _ _ (d .holds z) _ (c .before .before .fits2 .ensures .1)) ∙ sym (c .before .before .fits2 .ensures .0) in
+    c .unchanged2 .ensures ∙ feed-unfit _ _ _ z (e ∙ not-true _ (c .before .if2 .taken))
 
 unchanged-requires-3 : tie.Need-unchanged-requires-3
 unchanged-requires-3 c κs = search needs
 
 returns-3 : tie.Need-returns-3
 returns-3 c =
-    let z = sym (c .before .before .before .before .before .before .before .decode .ensures .refusal) ∙ c .before .before .before .before .before .if1 .left in
-    c .unchanged3 .ensures ∙ feed-full _ _ _ z (sym (fits-table _ _ (c .before .before .before .before .before .before .before .decode .ensures .holds z) _) ∙ sym (c .before .before .before .before .fits2 .ensures .0) ∙ not-false _ (c .before .before .before .if2 .left)) (c .before .if3 .taken)
+    let d = c .before .before .before .before .before .before .before .before .before .before .before .decode .ensures in
+    let z = sym (d .refusal) ∙ c .before .before .before .before .before .before .before .before .before .before .if1 .left in
+    let e = sym (fits-table _ _ (d .holds z) _ (c .before .before .before .before .fits2 .ensures .1)) ∙ sym (c .before .before .before .before .fits2 .ensures .0) in
+    c .unchanged3 .ensures ∙ feed-full _ _ _ z (e ∙ not-false _ (c .before .before .before .if2 .left)) (c .before .if3 .taken)
 
 read-from-requires : tie.Need-read-from-requires
 read-from-requires c κs =
-    let z = sym (c .before .before .before .before .before .before .decode .ensures .refusal) ∙ c .before .before .before .before .if1 .left in
-    let f = fits-to _ _ (sym (fits-table _ _ (c .before .before .before .before .before .before .decode .ensures .holds z) _) ∙ sym (c .before .before .before .fits2 .ensures .0) ∙ not-false _ (c .before .before .if2 .left)) in
-    (c .before .before .before .before .before .before .decode .ensures, z, f, c .before .before .before .fits2 .ensures .1, omega (arith, f .values, c .if3 .left))
+    let d = c .before .before .before .before .before .before .before .before .before .before .decode .ensures in
+    let z = sym (d .refusal) ∙ c .before .before .before .before .before .before .before .before .before .if1 .left in
+    let e = sym (fits-table _ _ (d .holds z) _ (c .before .before .before .fits2 .ensures .1)) ∙ sym (c .before .before .before .fits2 .ensures .0) in
+    let f = fits-to _ _ (e ∙ not-false _ (c .before .before .if2 .left)) in
+    (d, z, f, c .before .before .before .fits2 .ensures .1, omega (arith, f .values, c .if3 .left))
 
 returns-4 : tie.Need-returns-4
 returns-4 c =
-    let z = sym (c .before .before .before .before .before .before .before .decode .ensures .refusal) ∙ c .before .before .before .before .before .if1 .left in
-    c .read-from .ensures ∙ feed-read _ _ _ z (sym (fits-table _ _ (c .before .before .before .before .before .before .before .decode .ensures .holds z) _) ∙ sym (c .before .before .before .before .fits2 .ensures .0) ∙ not-false _ (c .before .before .before .if2 .left)) (c .before .if3 .left)
+    let d = c .before .before .before .before .before .before .before .before .before .before .before .decode .ensures in
+    let z = sym (d .refusal) ∙ c .before .before .before .before .before .before .before .before .before .before .if1 .left in
+    let e = sym (fits-table _ _ (d .holds z) _ (c .before .before .before .before .fits2 .ensures .1)) ∙ sym (c .before .before .before .before .fits2 .ensures .0) in
+    c .read-from .ensures ∙ feed-read _ _ _ z (e ∙ not-false _ (c .before .before .before .if2 .left)) (c .before .if3 .left)
 
 pub feed-spec : {M : Type 1} → statement M
 feed-spec =

@@ -1,7 +1,8 @@
-use mathlib.Core.Path.{sym, _∙_}
+use mathlib.Core.Path.{refl, sym, ap, _∙_}
 use borrow.Author.Tests.{not-true, not-false}
 use native.Mathlib.Omega.{arith}
 use Rattle.alert_info.proofs.ReadingLaws.{refusal-long}
+use Rattle.resolver.specs.declared.run.Current.{Current}
 use Rattle.resolver.proofs.MachineLaws.{machine-right, machine-long, machine-table, machine-form, symbols-listed, form-listed}
 use borrow.Author.Needs.{needs}
 use Rattle.resolver.proofs.machine.Statement.{statement}
@@ -32,21 +33,29 @@ value-first-requires-2 : tie.Need-value-first-requires-2
 value-first-requires-2 c κs = search needs
 
 returns-3 : tie.Need-returns-3
-returns-3 c = let z = sym (c .before .before .before .before .before .before .before .before .before .before .decode .ensures .refusal) ∙ c .before .before .before .before .before .before .before .before .before .if2 .left in
-    let h = c .before .before .before .before .before .before .before .before .before .before .decode .ensures .holds z in
-    c .value-first2 .ensures ∙ machine-form _ _ _ z (sym (form-listed _ _ (c .before .before .before .before .before .before .before .before .before .before .decode .ensures) (c .before .before .before .before .before .before .before .before .before .if2 .left) (c .before .before .before .before .before .list .ensures) _ (c .before .before .formed .ensures)) ∙ not-true _ (c .before .if3 .taken))
+returns-3 c =
+    let d = c .before .before .before .before .before .before .before .before .before .before .before .before .before .before .before .decode .ensures in
+    let left = c .before .before .before .before .before .before .before .before .before .before .before .before .before .before .if2 .left in
+    let f = form-listed _ _ d left (c .before .before .before .before .before .before .before .before .before .before .list .ensures) _ (c .before .before .formed .ensures) in
+    c .value-first2 .ensures ∙ machine-form _ _ _ (sym (d .refusal) ∙ left) (sym f ∙ not-true _ (c .before .if3 .taken))
 
 index-requires : tie.Need-index-requires
 index-requires c κs = search needs
 
+at-number-requires : tie.Need-at-number-requires
+at-number-requires c κs = search needs
+
 resolved-requires : tie.Need-resolved-requires
-resolved-requires c κs = search needs
+resolved-requires c κs = (omega (arith, c .before .before .before .before .before .before .before .before .before .before .before .before .before .before .before .before .before .before .before .before .before .before .if1 .left), ap (λ (x : Current). x .tries) (c .at-number .ensures))
 
 returns-4 : tie.Need-returns-4
-returns-4 c = let z = sym (c .before .before .before .before .before .before .before .before .before .before .before .before .before .before .before .before .decode .ensures .refusal) ∙ c .before .before .before .before .before .before .before .before .before .before .before .before .before .before .before .if2 .left in
-    let h = c .before .before .before .before .before .before .before .before .before .before .before .before .before .before .before .before .decode .ensures .holds z in
-    let f = sym (form-listed _ _ (c .before .before .before .before .before .before .before .before .before .before .before .before .before .before .before .before .decode .ensures) (c .before .before .before .before .before .before .before .before .before .before .before .before .before .before .before .if2 .left) (c .before .before .before .before .before .before .before .before .before .before .before .list .ensures) _ (c .before .before .before .before .before .before .before .before .formed .ensures)) ∙ not-false _ (c .before .before .before .before .before .before .before .if3 .left) in
-    c .resolved .ensures ∙ machine-right _ _ h _ (symbols-listed _ _ (c .before .before .before .before .before .before .before .before .before .before .before .before .before .before .before .before .decode .ensures) (c .before .before .before .before .before .before .before .before .before .before .before .before .before .before .before .if2 .left) (c .before .before .before .before .before .before .before .before .before .before .before .list .ensures)) (c .before .before .before .before .index .ensures) _ (omega (arith, c .before .before .before .before .before .before .before .before .before .before .before .before .before .before .before .before .before .if1 .left)) z f
+returns-4 c =
+    let d = c .before .before .before .before .before .before .before .before .before .before .before .before .before .before .before .before .before .before .before .before .before .before .decode .ensures in
+    let left = c .before .before .before .before .before .before .before .before .before .before .before .before .before .before .before .before .before .before .before .before .before .if2 .left in
+    let z = sym (d .refusal) ∙ left in
+    let f = form-listed _ _ d left (c .before .before .before .before .before .before .before .before .before .before .before .before .before .before .before .before .before .list .ensures) _ (c .before .before .before .before .before .before .before .before .before .formed .ensures) in
+    c .resolved .ensures
+    ∙ machine-right _ _ (d .holds z) _ (symbols-listed _ _ d left (c .before .before .before .before .before .before .before .before .before .before .before .before .before .before .before .before .before .list .ensures)) (c .before .before .before .before .before .index .ensures) refl (c .before .at-number .ensures) _ (omega (arith, c .before .before .before .before .before .before .before .before .before .before .before .before .before .before .before .before .before .before .before .before .before .before .before .if1 .left)) z (sym f ∙ not-false _ (c .before .before .before .before .before .before .before .before .if3 .left))
 
 pub machine-spec : {M : Type 1} → statement M
 machine-spec =
@@ -62,5 +71,6 @@ machine-spec =
     value-first-requires-2
     returns-3
     index-requires
+    at-number-requires
     resolved-requires
     returns-4)

@@ -13,7 +13,7 @@ answer-requires : tie.Need-answer-requires
 answer-requires c κs = search needs
 
 returns : tie.Need-returns
-returns c = resolved-steps _ _ _ _ _ (c .before .before .before .run .ensures .0) (c .before .signal-in .ensures) (c .answer .ensures)
+returns c = resolved-steps _ _ _ _ _ (c .before .before .before .before .run .ensures .0) (c .before .signal-in .ensures) (c .answer .ensures)
 
 pub resolved-spec : {M : Type 1} → statement M
 resolved-spec = tie.close (tie.spec run-requires signal-in-requires answer-requires returns)

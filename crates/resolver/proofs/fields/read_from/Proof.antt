@@ -3,8 +3,9 @@ use native.Mathlib.Omega.{arith}
 use denote.Ref.{now}
 use Rattle.alert_info.proofs.ReadingLaws.{refusal-long}
 use Rattle.resolver.specs.declared.Resolution.{Resolution}
+use Rattle.resolver.specs.declared.run.Current.{Current}
 use Rattle.carried_record.specs.Record.{counted}
-use Rattle.resolver.proofs.ReadLaws.{read-unread, read-refused, read-taken, fed-ends, fed-few}
+use Rattle.resolver.proofs.ReadLaws.{read-unread, read-refused, read-taken, fed-ends}
 use borrow.Author.Needs.{needs}
 use Rattle.resolver.proofs.fields.read_from.Statement.{statement}
 use Rattle.resolver.proofs.fields.read_from.Tie as tie
@@ -21,11 +22,11 @@ returns c = c .counted .ensures ∙ ap (λ (a : Resolution). record { answer = a
 state-requires : tie.Need-state-requires
 state-requires c κs = search needs
 
-run-requires : tie.Need-run-requires
-run-requires c κs = search needs
+at-state-requires : tie.Need-at-state-requires
+at-state-requires c κs = search needs
 
-direct-in-requires : tie.Need-direct-in-requires
-direct-in-requires c κs = search needs
+run-requires : tie.Need-run-requires
+run-requires c κs = (omega arith, omega arith, ap (λ (x : Current). x .tries) (c .before .before .at-state .ensures))
 
 answer-requires : tie.Need-answer-requires
 answer-requires c κs = search needs
@@ -35,10 +36,9 @@ counted-requires-2 c κs = search needs
 
 returns-2 : tie.Need-returns-2
 returns-2 c =
-    let s = c .before .before .before .before .before .before .before .before .before .before .before .before .before in
-    let e = fed-ends _ _ (s .pre .0) (s .pre .1) _ (s .pre .3) (s .pre .2) _ (now (s .args .v)) (omega (arith, c .before .before .before .before .before .before .before .before .before .before .if1 .left)) (c .before .before .before .before .before .before .before .before .before .state .ensures) (c .before .before .before .before .before .before .run .ensures .0) in
-    let f = fed-few _ (s .pre .1) _ (s .pre .3) (s .pre .2) (now (s .args .v)) in
-    c .counted2 .ensures ∙ read-refused _ _ (s .args .carried) _ f refl _ _ (c .before .before .before .before .direct-in .ensures) _ (c .before .before .before .answer .ensures) e (c .before .if2 .taken)
+    let s = c .before .before .before .before .before .before .before .before .before .before .before .before .before .before .before in
+    let e = fed-ends _ _ (s .pre .0) (s .pre .1) _ (s .pre .3) (s .pre .2) _ (now (s .args .v)) (omega (arith, c .before .before .before .before .before .before .before .before .before .before .before .before .if1 .left)) (c .before .before .before .before .before .before .before .before .before .before .before .state .ensures) (c .before .before .before .before .before .before .before .before .before .before .at-state .ensures) (c .before .before .before .before .before .before .before .run .ensures .0) in
+    c .counted2 .ensures ∙ read-refused _ (s .pre .1) _ (s .args .carried) _ _ refl _ (c .before .before .before .answer .ensures) e (c .before .if2 .taken)
 
 add-after : tie.Need-add-after
 add-after c = search needs
@@ -48,10 +48,9 @@ after-requires c κs = search needs
 
 returns-3 : tie.Need-returns-3
 returns-3 c =
-    let s = c .before .before .before .before .before .before .before .before .before .before .before .before .before .before in
-    let e = fed-ends _ _ (s .pre .0) (s .pre .1) _ (s .pre .3) (s .pre .2) _ (now (s .args .v)) (omega (arith, c .before .before .before .before .before .before .before .before .before .before .before .if1 .left)) (c .before .before .before .before .before .before .before .before .before .before .state .ensures) (c .before .before .before .before .before .before .before .run .ensures .0) in
-    let f = fed-few _ (s .pre .1) _ (s .pre .3) (s .pre .2) (now (s .args .v)) in
-    read-taken _ _ (s .args .carried) _ f refl _ _ (c .before .before .before .before .before .direct-in .ensures) _ (c .before .before .before .before .answer .ensures) e (c .before .before .if2 .left) _ (c .after .ensures)
+    let s = c .before .before .before .before .before .before .before .before .before .before .before .before .before .before .before .before in
+    let e = fed-ends _ _ (s .pre .0) (s .pre .1) _ (s .pre .3) (s .pre .2) _ (now (s .args .v)) (omega (arith, c .before .before .before .before .before .before .before .before .before .before .before .before .before .if1 .left)) (c .before .before .before .before .before .before .before .before .before .before .before .before .state .ensures) (c .before .before .before .before .before .before .before .before .before .before .before .at-state .ensures) (c .before .before .before .before .before .before .before .before .run .ensures .0) in
+    read-taken _ (s .pre .1) _ (s .args .carried) _ _ refl _ (c .before .before .before .before .answer .ensures) e (c .before .before .if2 .left) _ (c .after .ensures)
 
 pub read-from-spec : {M : Type 1} → statement M
 read-from-spec =
@@ -61,8 +60,8 @@ read-from-spec =
     counted-requires
     returns
     state-requires
+    at-state-requires
     run-requires
-    direct-in-requires
     answer-requires
     counted-requires-2
     returns-2
