@@ -13,3 +13,4 @@ pub mod DemandLaws
 pub mod Examples
 pub mod DemandExample
 pub mod FieldsExample
+pub mod Tried
