@@ -71,4 +71,5 @@ fn main() {
     answer_file(b"tally.txt");
     answer_file(b"held.txt");
     answer_file(b"held_machine.txt");
+    answer_file(b"tries.txt");
 }
