@@ -17,7 +17,7 @@ fn parts(image: &[u8]) -> Parts {
     let count = image[0] as usize;
     let symbols = image[1..1 + 3 * count].to_vec();
     // the last symbol is the last category's Other
-    let head = 2 + symbols[symbols.len() - 3] as usize;
+    let head = symbols.iter().rev().nth(2).map_or(2, |&category| 2 + category as usize);
     let rows = image[3 + 3 * count..].chunks(head + count).map(<[u8]>::to_vec).collect();
     Parts { symbols, head, rows }
 }
