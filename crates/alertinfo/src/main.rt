@@ -114,7 +114,7 @@ fn answer(r: resolver::Resolution) {
 }
 
 // The plain resolver's answer, with its tries.
-fn tried(r: resolver::Plain) {
+fn tried(r: resolver::PlainResolution) {
     if r.refusal != 0 {
         words::refused(r.refusal);
         return;

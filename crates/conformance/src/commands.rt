@@ -11,7 +11,7 @@ use crate::print;
 use alert_info::Cursor;
 use alert_info::Found;
 use alert_info::Span;
-use resolver::Plain;
+use resolver::PlainResolution;
 use resolver::Resolution;
 use signal_table::Match;
 
@@ -94,7 +94,7 @@ pub fn resolution(r: Resolution) {
     print::next(r.skipped as usize);
 }
 
-fn tried(r: Plain) {
+fn tried(r: PlainResolution) {
     print::number(r.refusal as usize);
     print::next(r.signal as usize);
     print::next(r.used as usize);
