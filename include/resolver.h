@@ -24,12 +24,22 @@ typedef struct alert_resolution {
     uint8_t skipped; /* all other entries */
 } alert_resolution;
 
+/* What the plain resolver answers: the same, and its tries: how many candidates the searches for a signal looked up, at
+ * most 9 for each used URN. */
+typedef struct alert_plain {
+    uint8_t refusal;
+    uint8_t signal;
+    uint8_t used;
+    uint8_t skipped;
+    uint16_t tries;
+} alert_plain;
+
 /* The signal for a value, from the table alone. Refused with 1 to 12. */
-alert_resolution resolve_plain(const uint8_t *table, size_t len, const uint8_t *value, size_t value_len);
+alert_plain resolve_plain(const uint8_t *table, size_t len, const uint8_t *value, size_t value_len);
 
 /* The signal for a value, by following the table's machine. Refused with 1 to 12 or 15. The image is followed as it
  * is: machine_check says whether it is the table's. For one that machine_check accepts, the answer is that of
- * resolve_plain. */
+ * resolve_plain, without the tries. */
 alert_resolution resolve_machine(const uint8_t *table, size_t len, const uint8_t *image, size_t image_len,
                                  const uint8_t *value, size_t value_len);
 

@@ -61,6 +61,10 @@ leb-suc a b = go (decLt b a)
     go (yes h) = lt-leb (suc a) (suc b) (omega arith) ∙ sym (lt-leb a b h)
     go (no h) = le-leb (suc a) (suc b) (omega arith) ∙ sym (le-leb a b (omega arith))
 
+-- the run begins at the start
+pub run-start : (t : List ℕ) (d : Decoded) (v : List ℕ) (n at : ℕ) {a b : Packed} → b ≡ a → runFrom t d v a n at ≡ runFrom t d v b n at
+run-start t d v n at e = ap (λ s. runFrom t d v s n at) (sym e)
+
 module _ (t : List ℕ) (d : Decoded) (v : List ℕ) (st : Packed) (n at : ℕ) (all : Reached) (inv : all ≡ runFrom t d v st n at) (ends : Bool) (is : ends ≡ settledIn d st) where
   abbrev over : Packed → ℕ → Front → Reached
   over s k f = runOver t d v s k (f .parts) (f .ended)

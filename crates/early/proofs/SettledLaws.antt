@@ -11,9 +11,10 @@ use borrow.Author.Tests.{le-leb, lt-leb, eq-eqb, ne-eqb}
 use Rattle.resolution.specs.Lists.{all}
 use Rattle.resolution.proofs.Lists.{all-stop}
 use Rattle.node_step.specs.Step.{digit, put, rowAt}
-use Rattle.node_step.specs.StatusByte.{stepPacked}
+use Rattle.node_step.specs.StatusByte.{samePacked, stepPacked}
 use Rattle.node_step.specs.Uses.{fewer}
 use Rattle.node_step.specs.declared.stored.Packed.{Packed}
+use Rattle.node_step.proofs.PackedStep.{packed-exact}
 use Rattle.early.specs.SettledBy.{keepsAt, beside, besideKeeps, signalKeeps, heldKeeps, categoryKeeps, settledBy}
 
 -- a row of tests
@@ -83,6 +84,15 @@ module _ (rows ps : List ℕ) (inner : List Bool) (n : ℕ) (st : Packed) (c : �
   pub rest-on : (b : ℕ) {a r : Bool} → a ≡ heldKeeps rows ps inner n st c b → a ≡ true → r ≡ all (fewer n 32) (signalKeeps rows ps inner n st c) → r ≡ rest b
   rest-on b e z i = i ∙ sym (ap (λ x. x && all (fewer n 32) (signalKeeps rows ps inner n st c)) (sym e ∙ z))
 
--- the same state is as settled
-pub settled-same : (f : Packed → Bool) {was : Bool} (a b : Packed) → was ≡ f a → a .signal ≡ b .signal → a .statuses ≡ b .statuses → was ≡ f b
-settled-same f a b e p q = e ∙ ap f (λ i. record { signal = p i; statuses = q i })
+-- two states are compared by their two numbers
+pub same-no : (a b : Packed) → (a .signal ≡ b .signal → ⊥) → false ≡ samePacked a b
+unfolding samePacked
+same-no a b n = sym (ap (λ z. z && eqb (a .statuses) (b .statuses)) (ne-eqb (a .signal) (b .signal) n))
+
+pub same-rest : (a b : Packed) → a .signal ≡ b .signal → eqb (a .statuses) (b .statuses) ≡ samePacked a b
+unfolding samePacked
+same-rest a b e = sym (ap (λ z. z && eqb (a .statuses) (b .statuses)) (eq-eqb (a .signal) (b .signal) e))
+
+-- the same state is as settled as it was
+pub same-settled : (f : Packed → Bool) (a b : Packed) {was s : Bool} → was ≡ f a → s ≡ samePacked a b → s ≡ true → was ≡ f b
+same-settled f a b w e z = w ∙ ap f (packed-exact .to a b (sym e ∙ z))

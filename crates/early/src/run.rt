@@ -10,7 +10,7 @@ use node_step::uses::uses;
 use stored_table::Decoded;
 ghost use mathlib.Core.Path.{_≡_};
 ghost use Prim.Native.Nat.{_≤_};
-ghost use Rattle.early.specs.SettledBy.{settledBy};
+ghost use Rattle.node_step.specs.StatusByte.{samePacked};
 ghost use Rattle.early.specs.Run.{afterUse, spanIn, reachedAt, runFrom};
 
 // The signal after so many entries, and whether they are enough.
@@ -43,6 +43,16 @@ fn span_in(found: Found) -> Span
     }
 }
 
+// Signal 0, and every category open.
+fn begin() -> Packed
+    ensures { λ r. ⌜ r ≡ record { signal = 0; statuses = 0 } ⌝ }
+{
+    Packed {
+        signal: 0,
+        statuses: 0,
+    }
+}
+
 // One URI more, by what it is to the table.
 fn taken<'a>(
     rows: &'a [u64; 32],
@@ -68,38 +78,23 @@ fn taken<'a>(
     }
 }
 
-// Whether the next state is settled; it is only asked if that is another one.
-fn settled_next<'a>(
-    rows: &'a [u64; 32],
-    parents: &'a [u8; 64],
-    inner: &'a [bool; 64],
-    signals: usize,
-    categories: usize,
-    was: bool,
-    st: Packed,
-    next: Packed,
-) -> bool
-    requires { ⌜ was ≡ settledBy (now rows) (now parents) (now inner) signals categories st ⌝ }
-    ensures { λ r. ⌜ r ≡ settledBy (now (rows .entry)) (now (parents .entry)) (now (inner .entry)) signals categories next ⌝ }
+// Two states are the same.
+fn same(a: Packed, b: Packed) -> bool
+    ensures { λ r. ⌜ r ≡ samePacked a b ⌝ }
 {
-    if st.signal == next.signal {
-        if st.statuses == next.statuses {
-            return was;
-        }
+    if a.signal != b.signal {
+        return false;
     }
-    settled(rows, parents, inner, signals, categories, next)
+    a.statuses == b.statuses
 }
 
-// From entry to entry through the value.
+// From entry to entry through the value. Whether the state is settled is asked again only where it is another one.
 pub(crate) fn run(t: &[u8], d: Decoded, v: &[u8]) -> Reached
     ensures { λ r. ⌜ r ≡ runFrom (now (t .entry)) d (now (v .entry)) (record { signal = 0; statuses = 0 }) 0 0 ⌝ }
 {
     let mut at = 0;
     let mut n: usize = 0;
-    let mut st = Packed {
-        signal: 0,
-        statuses: 0,
-    };
+    let mut st = begin();
     let mut ends = settled(&d.rows, &d.parent, &d.inner, d.signals, d.categories, st);
     loop {
         if ends {
@@ -129,16 +124,9 @@ pub(crate) fn run(t: &[u8], d: Decoded, v: &[u8]) -> Reached
         let next = taken(&d.rows, &d.parent, &d.inner, d.signals, st, u);
         match found {
             Found::More(_, after) => {
-                ends = settled_next(
-                    &d.rows,
-                    &d.parent,
-                    &d.inner,
-                    d.signals,
-                    d.categories,
-                    ends,
-                    st,
-                    next,
-                );
+                if !same(st, next) {
+                    ends = settled(&d.rows, &d.parent, &d.inner, d.signals, d.categories, next);
+                }
                 st = next;
                 n += 1;
                 at = after.at;

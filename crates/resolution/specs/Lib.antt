@@ -13,6 +13,7 @@ pub mod Discovery
 pub mod Build
 pub mod Claim
 pub mod Settled
+pub mod Tries
 pub mod Laws
 pub mod Meaning
 pub mod MachineMeaning

@@ -79,7 +79,7 @@ pub(crate) fn resolved(
     from: Current,
     v: &[u8],
 ) -> Resolution
-    requires { ⌜ length (now v) ≤ 4096 ⌝ }
+    requires { ⌜ (length (now v) ≤ 4096) × (from .tries ≡ 0) ⌝ }
     ensures { λ r. ⌜ r ≡ resolvedFrom (now (t .entry)) d (record { index = now (index .entry); symbols = now (symbols .entry); count = count; categories = d .categories; image = now (image .entry) }) from (now (v .entry)) ⌝ }
 {
     let start = Point {

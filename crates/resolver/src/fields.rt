@@ -52,7 +52,7 @@ pub(crate) fn read_from(t: &[u8], d: Decoded, carried: Carried, v: &[u8]) -> Fed
     }
     let start = carried_record::state(carried);
     let from = Point {
-        current: at_state(start),
+        current: at_state(start, 0),
         used: 0,
         skipped: 0,
     };

@@ -299,30 +299,37 @@ impl<'a> Decoded<'a> {
 
     /// One used URN: its category, the deepest node that is the URN or above it, and whether it is the URN.
     pub fn step(&self, state: State, category: usize, node: u8, whole: bool) -> State {
+        self.step_counted(state, category, node, whole).0
+    }
+
+    /// The same with the number of candidates tried.
+    pub fn step_counted(&self, state: State, category: usize, node: u8, whole: bool) -> (State, u16) {
         let shift = 8 * category;
         let status = (state.status >> shift) as u8;
         if status == SHUT {
-            return state;
+            return (state, 0);
         }
         let row = self.rows[state.signal as usize];
         let place = (row >> shift) as u8;
         let last = if status == OPEN { place } else { status - 1 };
         if last == node && whole || !self.is_above(last, node) {
-            return state;
+            return (state, 0);
         }
         let others = row & !(0xFF << shift);
         let kept = state.status & !(0xFF << shift);
         let held = whole && !self.nodes[node as usize].leaf;
         let missed = if held { node + 1 } else { SHUT };
         let mut p = node;
+        let mut tries = 1;
         while p != place {
             if let Some(signal) = self.signal_with(others | (p as u64) << shift) {
                 let status = if whole && p == node { OPEN } else { missed };
-                return State { signal: signal as u8, status: kept | (status as u64) << shift };
+                return (State { signal: signal as u8, status: kept | (status as u64) << shift }, tries);
             }
             p = self.nodes[p as usize].parent;
+            tries += 1;
         }
-        State { signal: state.signal, status: kept | (missed as u64) << shift }
+        (State { signal: state.signal, status: kept | (missed as u64) << shift }, tries)
     }
 
     /// Whether no URN leads from this state to another signal. Such a signal differs in one category only, where its

@@ -2,7 +2,7 @@
 use super::table::{is_proper_ancestor, Node, Table};
 use super::urn::Path;
 use super::value::uris;
-use crate::Resolution;
+use crate::Plain;
 
 /// What a category still takes: what lies under its place, what lies under the path last taken, or nothing.
 #[derive(Clone, PartialEq, Eq, Debug, Hash)]
@@ -91,16 +91,34 @@ pub fn read_status(table: &Table, signal: usize, c: usize, byte: u8) -> Option<S
     }
 }
 
+/// The candidates looked up for a used URN, longest first, up to and with the one found: those deeper than the deepest
+/// node that is the URN or above it are left out. None for a URN that is passed over.
+fn tries(table: &Table, state: &State, urn: &Node) -> usize {
+    let next = step(table, state, urn);
+    if next == *state {
+        return 0;
+    }
+    let deepest = (0..=urn.path.len()).rev().find(|&length| length == 0 || table.is_node(urn.category, &urn.path[..length]));
+    let found = table.signals[next.signal][urn.category].len();
+    deepest.expect("the root is above every URN") - found + 1
+}
+
 /// The plain resolver.
-pub fn resolve(table: &[u8], value: &[u8]) -> Result<Resolution, u8> {
+pub fn resolve(table: &[u8], value: &[u8]) -> Result<Plain, u8> {
     let uris = uris(value)?;
     let table = Table::read(table)?;
     let used: Vec<Node> = uris.iter().filter_map(|uri| table.used(uri)).collect();
-    let end = used.iter().fold(start(&table), |state, urn| step(&table, &state, urn));
-    Ok(Resolution {
+    let mut state = start(&table);
+    let mut count = 0;
+    for urn in &used {
+        count += tries(&table, &state, urn);
+        state = step(&table, &state, urn);
+    }
+    Ok(Plain {
         refusal: 0,
-        signal: end.signal as u8,
+        signal: state.signal as u8,
         used: used.len() as u8,
         skipped: (uris.len() - used.len()) as u8,
+        tries: count as u16,
     })
 }

@@ -168,6 +168,10 @@ impl Table {
         Match { refusal: 0, used: 1, category: urn.category as u8, node: node as u8, whole: whole as u8, compared }
     }
 
+    pub fn is_node(&self, category: usize, path: &[Name]) -> bool {
+        self.nodes.iter().any(|node| node.category == category && node.path == path)
+    }
+
     /// Whether some node lies under the path of this one, which need not be a node.
     pub fn nodes_under(&self, urn: &Node) -> bool {
         self.nodes.iter().any(|node| node.category == urn.category && is_proper_ancestor(&urn.path, &node.path))
