@@ -13,6 +13,8 @@ pub struct Inputs {
     pub tables: Vec<(String, Bytes, Bytes)>,
     /// For each table, a value that it uses.
     used: Vec<Bytes>,
+    /// For some tables, 64 entries of which the first settles the signal.
+    settled: Vec<(usize, Bytes)>,
     /// Three fields of one message.
     fields: [Bytes; 3],
     /// Tables that are refused late, after as much comparing as we could think of.
@@ -128,8 +130,13 @@ impl Inputs {
             .to_vec();
         let deep = deep();
         refused.push((format!("{} bytes, refused with 11, 64 nodes", deep.len()), deep));
+        let settled = vec![
+            (0, urns(&["source:internal"], 64)),
+            (2, urns(&["c:l31"], 64)),
+            (4, urns(&["b:x6-0:x6-1:x6-2:x6-3:x6-4:x6-5:x6-6:x6-7"], 64)),
+        ];
         let fields = ["source:internal", "source:unclassified", "priority:high"].map(|name| urns(&[name], 1));
-        Inputs { values, tables, used, fields, refused }
+        Inputs { values, tables, used, settled, fields, refused }
     }
 
     /// Each table with its machine and a value that it uses.
@@ -140,6 +147,14 @@ impl Inputs {
                 more => format!("{more} entries"),
             };
             (format!("{name}; {entries}"), table, image, value)
+        })
+    }
+
+    /// Tables with a value whose first entry settles the signal.
+    pub fn settled(&self) -> impl Iterator<Item = (String, &Bytes, &Bytes)> {
+        self.settled.iter().map(|(i, value)| {
+            let (name, table, _) = &self.tables[*i];
+            (format!("{name}; {} entries, the first settles", Reference::entries(value)), table, value)
         })
     }
 

@@ -95,6 +95,16 @@ fn resolver_rows<'a>(inputs: &'a Inputs, rows: &mut Vec<Row<'a>>) {
     }
 }
 
+/// The early question, and beside it the plain resolver on the same values.
+fn early_rows<'a>(inputs: &'a Inputs, rows: &mut Vec<Row<'a>>) {
+    for (name, table, value) in inputs.settled() {
+        rows.push(row!("resolver", "resolve_early", name, |I, _| I::early(black_box(table), black_box(value))));
+    }
+    for (name, table, value) in inputs.settled() {
+        rows.push(row!("resolver", "resolve_plain", name, |I, _| I::plain(black_box(table), black_box(value))));
+    }
+}
+
 fn feed_rows<'a>(inputs: &'a Inputs, rows: &mut Vec<Row<'a>>) {
     for (name, table, message) in inputs.messages() {
         rows.push(row!("resolver", "resolve_feed", name, |I, _| {
@@ -151,6 +161,7 @@ fn main() {
     reader_rows(&inputs, &mut rows);
     table_rows(&inputs, &mut rows);
     resolver_rows(&inputs, &mut rows);
+    early_rows(&inputs, &mut rows);
     feed_rows(&inputs, &mut rows);
     tally_rows(&inputs, &mut rows);
     time::warm_up(&*rows[0].baseline);
