@@ -15,6 +15,8 @@ pub struct Inputs {
     used: Vec<Bytes>,
     /// Three fields of one message.
     fields: [Bytes; 3],
+    /// Tables, each with a value of 64 entries of which the first settles the signal.
+    pub settled: Vec<(String, Bytes, Bytes)>,
     /// Tables that are refused late, after as much comparing as we could think of.
     pub refused: Vec<(String, Bytes)>,
 }
@@ -46,6 +48,13 @@ fn deep() -> Bytes {
     let signal: Vec<Bytes> = (b'a'..=b'h').map(urn).collect();
     let signals = std::iter::once(Vec::new()).chain(vec![signal; 31]).collect();
     Draft { categories: (b'a'..=b'h').map(name).collect(), signals }.bytes()
+}
+
+/// 31 signals with one URN each, in 8 categories: no URN adds to the first one, but nothing is shut.
+fn one_each() -> Bytes {
+    let categories: Vec<Bytes> = (0..8).map(|c| format!("c{c}").into_bytes()).collect();
+    let signals = (0..31).map(|s| vec![format!("c{}:p{s}", s % 8).into_bytes()]);
+    Draft { categories, signals: std::iter::once(Vec::new()).chain(signals).collect() }.bytes()
 }
 
 /// The path of a long URN: four parts of 55 bytes, then one of 27 that ends in the letter, then one more.
@@ -129,7 +138,13 @@ impl Inputs {
         let deep = deep();
         refused.push((format!("{} bytes, refused with 11, 64 nodes", deep.len()), deep));
         let fields = ["source:internal", "source:unclassified", "priority:high"].map(|name| urns(&[name], 1));
-        Inputs { values, tables, used, fields, refused }
+        let settled = |name: &str, table: Bytes, urn: &str| (name.to_string(), table, urns(&[urn], 64));
+        let settled = vec![
+            settled("T1", example("T1.table"), "source:internal"),
+            settled("32 signals", limit("32 signals"), "c:l31"),
+            settled("8 categories, 31 signals with one URN each", one_each(), "c6:p30"),
+        ];
+        Inputs { values, tables, used, fields, settled, refused }
     }
 
     /// Each table with its machine and a value that it uses.
