@@ -24,12 +24,22 @@ typedef struct alert_resolution {
     uint8_t skipped; /* all other entries */
 } alert_resolution;
 
+/* What the plain resolver answers: the same, and its tries: how many candidates the searches for a signal looked up, at
+ * most 9 for each used URN. */
+typedef struct alert_plain {
+    uint8_t refusal;
+    uint8_t signal;
+    uint8_t used;
+    uint8_t skipped;
+    uint16_t tries;
+} alert_plain;
+
 /* The signal for a value, from the table alone. Refused with 1 to 12. */
-alert_resolution resolve_plain(const uint8_t *table, size_t len, const uint8_t *value, size_t value_len);
+alert_plain resolve_plain(const uint8_t *table, size_t len, const uint8_t *value, size_t value_len);
 
 /* The signal for a value, by following the table's machine. Refused with 1 to 12 or 15. The image is followed as it
  * is: machine_check says whether it is the table's. For one that machine_check accepts, the answer is that of
- * resolve_plain. */
+ * resolve_plain, without the tries. */
 alert_resolution resolve_machine(const uint8_t *table, size_t len, const uint8_t *image, size_t image_len,
                                  const uint8_t *value, size_t value_len);
 
@@ -44,7 +54,7 @@ typedef struct alert_record {
 /* The signal after one more value of a message that has several Alert-Info fields: resolution goes on from the record,
  * and the record is changed for the next value. Used and skipped are this value's own. Refused, in this order, with 4
  * to 12; 28: the record is none of this table, its signal, a status or its number of values is out of range; 19: 16
- * values were fed before; 1 to 3. A refusal leaves the record as it is, except that a value refused with 1 to 3 is
+ * values were fed before; 1 to 3. A refusal leaves the record as it is, except that after 1 to 3 the value is
  * counted in `values`. The record must overlap neither table nor value. */
 alert_resolution resolve_feed(const uint8_t *table, size_t len, alert_record *record, const uint8_t *value,
                               size_t value_len);

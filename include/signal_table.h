@@ -30,14 +30,14 @@ enum {
     MACHINE_TOO_MANY_STATES = 13,     /* the machine would have more than 256 states */
     MACHINE_NO_ROOM = 14,             /* the image does not fit the buffer */
     MACHINE_BAD_FORM = 15,            /* the image is not of the form that the table asks for: docs/RULES.md, section 6 */
-    MACHINE_WRONG_START = 16,         /* state 0 is not signal 0 with every category open */
+    MACHINE_WRONG_START = 16,         /* state 0 is another than the start */
     MACHINE_WRONG_ROW = 17            /* a row leads to a state with a wrong signal or status */
 };
 
 /* No image is longer than this: a buffer of so many bytes has room for every machine. */
 #define MACHINE_LONGEST 35459
 
-/* What a build answers: its refusal number, and the image's length (0 if refused). */
+/* What a build answers: its refusal number, and how long the image is, which is 0 after a refusal. */
 typedef struct machine_built {
     uint8_t refusal;
     size_t len;

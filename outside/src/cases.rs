@@ -6,7 +6,7 @@
 //! | `value V` | refusal, number of entries, then `start:length` of each entry's URI in the value |
 //! | `entry V k` | refusal, the URI's bytes |
 //! | `table T` | refusal |
-//! | `plain T V` | refusal, signal, used, skipped |
+//! | `plain T V` | refusal, signal, used, skipped, tries |
 //! | `build T ROOM` | refusal, length, image (the rest of the buffer of ROOM bytes is 0) |
 //! | `check T M` | refusal |
 //! | `walk T M V` | refusal, signal, used, skipped of the machine resolver |
@@ -20,7 +20,7 @@ use std::path::{Path, PathBuf};
 
 /// One file for each command, the draft's worked examples, values with folded lines, messages of
 /// several fields, and URNs that a category holds.
-pub const FILES: [&str; 15] = [
+pub const FILES: [&str; 16] = [
     "value.txt",
     "entry.txt",
     "table.txt",
@@ -36,6 +36,7 @@ pub const FILES: [&str; 15] = [
     "held.txt",
     "held_machine.txt",
     "early.txt",
+    "tries.txt",
 ];
 
 /// Where the cases are.
@@ -193,7 +194,10 @@ fn show(answer: Resolution) -> String {
 pub fn ask_resolvers<I: Resolvers>(case: &Case) -> String {
     let table = case.bytes(1);
     match case.words[0].as_str() {
-        "plain" => show(I::plain(&table, &case.bytes(2))),
+        "plain" => {
+            let answer = I::plain(&table, &case.bytes(2));
+            format!("{} {}", show(answer.resolution()), answer.tries)
+        }
         "walk" => show(I::machine(&table, &case.bytes(2), &case.bytes(3))),
         "feed" => {
             let mut record = case.record(2);

@@ -12,7 +12,7 @@ pub mod ours;
 pub mod random;
 pub mod reference;
 
-/// What a build answers: its refusal number, and the image's length (0 if refused).
+/// What a build answers: its refusal number, and how long the image is, which is 0 after a refusal.
 #[repr(C)]
 #[derive(Clone, Copy, Debug, PartialEq, Eq)]
 pub struct Built {
@@ -70,7 +70,29 @@ impl Early {
     }
 }
 
-/// What one signal was heard: how many values chose it, and the sums of their used and skipped counts.
+/// What the plain resolver answers: the same, and how many candidates were tried (0 if refused).
+#[repr(C)]
+#[derive(Clone, Copy, Debug, PartialEq, Eq)]
+pub struct Plain {
+    pub refusal: u8,
+    pub signal: u8,
+    pub used: u8,
+    pub skipped: u8,
+    pub tries: u16,
+}
+
+impl Plain {
+    pub fn refused(refusal: u8) -> Plain {
+        Plain { refusal, signal: 0, used: 0, skipped: 0, tries: 0 }
+    }
+
+    /// The answer without its tries.
+    pub fn resolution(self) -> Resolution {
+        Resolution { refusal: self.refusal, signal: self.signal, used: self.used, skipped: self.skipped }
+    }
+}
+
+/// What one signal was heard: how many values chose it, and what these used and skipped in all.
 #[repr(C)]
 #[derive(Clone, Copy, Debug, Default, PartialEq, Eq)]
 pub struct Tally {
@@ -111,7 +133,7 @@ pub const VALUES: u8 = 16;
 
 /// The resolvers: what the library resolver answers.
 pub trait Resolvers {
-    fn plain(table: &[u8], value: &[u8]) -> Resolution;
+    fn plain(table: &[u8], value: &[u8]) -> Plain;
     fn machine(table: &[u8], image: &[u8], value: &[u8]) -> Resolution;
     /// One value of a message that has several.
     fn feed(table: &[u8], record: &mut Record, value: &[u8]) -> Resolution;

@@ -4,7 +4,7 @@ use crate::Reader;
 #[cfg(any(feature = "resolver", feature = "tally"))]
 use crate::Resolution;
 #[cfg(feature = "resolver")]
-use crate::Resolvers;
+use crate::{Plain, Resolvers};
 #[cfg(feature = "signal_table")]
 use crate::{Built, Match, Tables};
 #[cfg(feature = "resolver")]
@@ -41,7 +41,7 @@ extern "C" {
 
 #[cfg(feature = "resolver")]
 extern "C" {
-    fn resolve_plain(table: *const u8, len: usize, value: *const u8, value_len: usize) -> Resolution;
+    fn resolve_plain(table: *const u8, len: usize, value: *const u8, value_len: usize) -> Plain;
     fn resolve_machine(
         table: *const u8,
         len: usize,
@@ -118,7 +118,7 @@ impl Tables for Ours {
 
 #[cfg(feature = "resolver")]
 impl Resolvers for Ours {
-    fn plain(table: &[u8], value: &[u8]) -> Resolution {
+    fn plain(table: &[u8], value: &[u8]) -> Plain {
         unsafe { resolve_plain(table.as_ptr(), table.len(), value.as_ptr(), value.len()) }
     }
 

@@ -1,4 +1,4 @@
--- Each entry's refusal number is given exactly where it is due, a refused entry is an empty part, and entries lie where the
+-- Each entry's refusal number is given exactly where it is due, what is refused has an empty part, and entries lie where the
 -- grammar has them.
 -- Assumes nothing.
 use mathlib.Core.Path.{_≡_, refl, sym, ap, _∙_, subst}

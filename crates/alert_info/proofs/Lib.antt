@@ -3,6 +3,7 @@ pub mod ByteLaws
 mod ClassTable
 pub mod Complete
 pub mod EntryLaws
+pub mod Examples
 pub mod Lands
 mod PartLaws
 mod PassLaws

@@ -1,67 +1,47 @@
 -- A value without CR reads as it did before lines were folded.
 -- Assumes nothing.
-use mathlib.Core.Path.{_≡_, refl, sym, subst}
-use mathlib.Core.Bool.{Bool, true, not}
+use mathlib.Core.Path.{subst}
 use mathlib.Core.List.{List, [], _∷_, _++_}
 use Prim.Native.Nat.{ℕ, zero, suc}
-use lib.Dec.{T, eqb}
-use borrow.Author.Tests.{ne-eqb}
-use Rattle.alert_info.specs.Grammar.{Any, White, Blanks, Param, Params, Entry, Value, Before}
+use Rattle.alert_info.specs.Grammar.{White, Blanks, Param, Params, Entry, Value, Before}
 use Rattle.alert_info.specs.Grammar as G
 use Rattle.alert_info.specs.Claims.{Unfolded, SameUnfolded, Given, EntryGiven, there, refused, missing, Lies}
 use Rattle.alert_info.specs.Claims.{AsBefore}
 use Rattle.alert_info.proofs.Agree.{refused-exactly, accepted-list}
 use Rattle.alert_info.proofs.EntryLaws.{entry-refused-exactly, places}
 
-abbrev notCr : ℕ → Bool
-notCr b = not (eqb b 13)
-
--- the same, byte by byte
-abbrev NoCr : List ℕ → Type 0
-NoCr s = Any notCr s
-
-each : (s : List ℕ) → Unfolded s → NoCr s
-each [] f = G.none
-each (b ∷ l) f = G.more (other b (f 0)) (each l (λ at. f (suc at)))
-  where
-    other : (b : ℕ) → (b ≡ 13 → ⊥) → T (notCr b)
-    other b n = subst T (sym e) tt
-      where
-        e : notCr b ≡ true
-        e = simp (ne-eqb b 13 n)
-
 -- both parts
-cr-left : (a b : List ℕ) → NoCr (a ++ b) → NoCr a
+cr-left : (a b : List ℕ) → Unfolded (a ++ b) → Unfolded a
 cr-left [] b k = G.none
 cr-left (x ∷ a) b (G.more t k) = G.more t (cr-left a b k)
 
-cr-right : (a b : List ℕ) → NoCr (a ++ b) → NoCr b
+cr-right : (a b : List ℕ) → Unfolded (a ++ b) → Unfolded b
 cr-right [] b k = k
 cr-right (x ∷ a) b (G.more t k) = cr-right a b k
 
-cr-rest : (x : ℕ) (l : List ℕ) → NoCr (x ∷ l) → NoCr l
+cr-rest : (x : ℕ) (l : List ℕ) → Unfolded (x ∷ l) → Unfolded l
 cr-rest x l (G.more t k) = k
 
 -- where one white space without CR is the other's, so is the whole grammar
-module _ (W X : List ℕ → Type 0) (to : (x : List ℕ) → NoCr x → W x → X x) where
-  param-other : {p : List ℕ} → NoCr p → Param W p → Param X p
+module _ (W X : List ℕ → Type 0) (to : (x : List ℕ) → Unfolded x → W x → X x) where
+  param-other : {p : List ℕ} → Unfolded p → Param W p → Param X p
   param-other k (G.bare {x = x} {t = t} w n) = G.bare (to x (cr-left x t k) w) n
   param-other k (G.set {x = x} {t = t} {y = y} {z = z} {v = v} w n w2 w3 g) =
       let l = cr-right t _ (cr-right x _ k) in
       let m = cr-rest 61 _ (cr-right y _ l) in
       G.set (to x (cr-left x _ k) w) n (to y (cr-left y _ l) w2) (to z (cr-left z v m) w3) g
 
-  params-other : {p : List ℕ} → NoCr p → Params W p → Params X p
+  params-other : {p : List ℕ} → Unfolded p → Params W p → Params X p
   params-other k G.done = G.done
   params-other k (G.param {w = w} {p = p} {q = q} a b c) =
       let l = cr-rest 59 _ (cr-right w _ k) in
       G.param (to w (cr-left w _ k) a) (param-other (cr-left p q l) b) (params-other (cr-right p q l) c)
 
-  entry-other : {e u : List ℕ} → NoCr e → Entry W e u → Entry X e u
+  entry-other : {e u : List ℕ} → Unfolded e → Entry W e u → Entry X e u
   entry-other k (G.entry {u = u} {p = p} a b) =
       G.entry a (params-other (cr-rest 62 p (cr-right u _ (cr-rest 60 _ k))) b)
 
-  value-other : {s : List ℕ} {us : List (List ℕ)} → NoCr s → Value W s us → Value X s us
+  value-other : {s : List ℕ} {us : List (List ℕ)} → Unfolded s → Value W s us → Value X s us
   value-other k (G.last {w = w} {e = e} {x = x} a b c) =
       let l = cr-right w _ k in
       G.last (to w (cr-left w _ k) a) (entry-other (cr-left e x l) b) (to x (cr-right e x l) c)
@@ -71,7 +51,7 @@ module _ (W X : List ℕ → Type 0) (to : (x : List ℕ) → NoCr x → W x →
       G.comma (to w (cr-left w _ k) a) (entry-other (cr-left e _ l) b) (to x (cr-left x _ m) c)
       (value-other (cr-rest 44 v (cr-right x _ m)) d)
 
-  before-other : {a : List ℕ} {k : ℕ} → NoCr a → Before W k a → Before X k a
+  before-other : {a : List ℕ} {k : ℕ} → Unfolded a → Before W k a → Before X k a
   before-other k (G.bracket {w = w} a) = G.bracket (to w (cr-left w _ k) a)
   before-other k (G.entries {w = w} {e = e} {x = x} {b = v} a b c d) =
       let l = cr-right w _ k in
@@ -80,19 +60,18 @@ module _ (W X : List ℕ → Type 0) (to : (x : List ℕ) → NoCr x → W x →
       (before-other (cr-rest 44 v (cr-right x _ m)) d)
 
 -- blanks are white space, and white space without CR is blanks
-blanks-white : {x : List ℕ} → NoCr x → Blanks x → White x
+blanks-white : {x : List ℕ} → Unfolded x → Blanks x → White x
 blanks-white k G.none = G.nothing
 blanks-white (G.more n k) (G.more t a) = G.blank t (blanks-white k a)
 
-white-blanks : {x : List ℕ} → NoCr x → White x → Blanks x
+white-blanks : {x : List ℕ} → Unfolded x → White x → Blanks x
 white-blanks k G.nothing = G.none
 white-blanks (G.more n k) (G.blank t a) = G.more t (white-blanks k a)
 white-blanks (G.more n k) (G.fold t a) = absurd n
 
 pub same-unfolded : SameUnfolded
 same-unfolded s us f =
-    let k = each s f in
-    (value-other White Blanks (λ x. white-blanks) k, value-other Blanks White (λ x. blanks-white) k)
+    (value-other White Blanks (λ x. white-blanks) f, value-other Blanks White (λ x. blanks-white) f)
 
 -- what a refusal number says is the same by both
 given-other : (W X : List ℕ → Type 0) (s : List ℕ)
@@ -129,4 +108,4 @@ as-before s l =
   where
     lies-other : (k : ℕ) → Lies White s k → Lies Blanks s k
     lies-other k (a, b, f, e, p) =
-        (a, b, before-other White Blanks (λ x. white-blanks) (cr-left a _ (subst NoCr e (each s l))) f, e, p)
+        (a, b, before-other White Blanks (λ x. white-blanks) (cr-left a _ (subst Unfolded e l)) f, e, p)

@@ -37,11 +37,11 @@ isUri b = within 0x21 0x7E b && not (oneOf (bytes "<>\"") b)
 unfoldable pub isToken : ℕ → Bool
 isToken b = within 65 90 b || (within 97 122 b || (within 48 57 b || oneOf (bytes "-.!%*_+`'~") b))
 
--- in a quoted string, as itself: 9, 32 to 126 except " and \, 128 to 255
+-- in a quoted string, as itself: a tab, 32 to 126 but for " and \, and 128 to 255
 unfoldable pub isText : ℕ → Bool
 isText b = eqb b 9 || (within 32 126 b && not (oneOf (bytes "\"\\") b) || within 128 255 b)
 
--- in a quoted string, after \: up to 127 except 10 and 13
+-- in a quoted string, after \: all below 128 but LF and CR
 unfoldable pub isEscapable : ℕ → Bool
 isEscapable b = leb b 127 && not (oneOf (10 ∷ 13 ∷ []) b)
 

@@ -4,13 +4,14 @@
 -- Assumes nothing.
 use mathlib.Core.Path.{_≡_}
 use mathlib.Core.Logic.{_↔_, _⊎_}
-use mathlib.Core.Bool.{true}
+use mathlib.Core.Bool.{Bool, true, not}
 use mathlib.Core.List.{List, [], _++_, map}
 use Prim.Native.Nat.{ℕ, zero, suc, _≤_, _<_}
 use Prim.Native.Char.{code}
-use lib.ListN.{length, getD}
+use lib.Dec.{eqb}
+use lib.ListN.{length}
 use Rattle.alert_info.specs.Bytes.{inClass}
-use Rattle.alert_info.specs.Grammar.{White, Blanks, Value, Before}
+use Rattle.alert_info.specs.Grammar.{Any, White, Blanks, Value, Before}
 use Rattle.alert_info.specs.Value.{unfit, spans, readingOf, partOf, refusalOf, urisOf}
 use Rattle.alert_info.specs.Value.{entriesOf, entryOf, nowhere, spanOf, entryRefusalOf}
 use Rattle.alert_info.specs.declared.alert_param.Span.{Span}
@@ -45,9 +46,15 @@ Given W s (suc (suc (suc (suc n)))) = ⊥
 abbrev pub RefusedExactly : Type 0
 RefusedExactly = (s : List ℕ) (n : ℕ) → refusalOf s ≡ n ↔ Given White s n
 
--- no other numbers are given
+-- no other numbers are given, and each of these is
+abbrev pub RefusalNumber : ℕ → Type 0
+RefusalNumber n = n ≤ 3
+
 abbrev pub RefusalNumbers : Type 0
-RefusalNumbers = (s : List ℕ) → refusalOf s ≤ 3
+RefusalNumbers = (s : List ℕ) → RefusalNumber (refusalOf s)
+
+abbrev pub EachNumber : Type 0
+EachNumber = (n : ℕ) → RefusalNumber n → (s : List ℕ) × (refusalOf s ≡ n)
 
 -- the list of an accepted value is its URIs by the grammar
 abbrev pub AcceptedList : Type 0
@@ -69,9 +76,15 @@ pub data EntryGiven (W : List ℕ → Type 0) (s : List ℕ) (k : ℕ) : ℕ →
 abbrev pub EntryRefusedExactly : Type 0
 EntryRefusedExactly = (s : List ℕ) (k n : ℕ) → entryRefusalOf s k ≡ n ↔ EntryGiven White s k n
 
--- no other numbers are given
+-- no other numbers are given, and each of these is
+abbrev pub EntryRefusalNumber : ℕ → Type 0
+EntryRefusalNumber n = (n ≤ 3) ⊎ (n ≡ 18)
+
 abbrev pub EntryRefusalNumbers : Type 0
-EntryRefusalNumbers = (s : List ℕ) (k : ℕ) → (entryRefusalOf s k ≤ 3) ⊎ (entryRefusalOf s k ≡ 18)
+EntryRefusalNumbers = (s : List ℕ) (k : ℕ) → EntryRefusalNumber (entryRefusalOf s k)
+
+abbrev pub EachEntryNumber : Type 0
+EachEntryNumber = (n : ℕ) → EntryRefusalNumber n → (s : List ℕ) × (k : ℕ) × (entryRefusalOf s k ≡ n)
 
 -- an entry is refused exactly if its part is empty, and then its place is 0 and 0
 abbrev pub RefusedEntry : Type 0
@@ -94,9 +107,12 @@ Places = (s : List ℕ) (k : ℕ) → k < entriesOf s → Lies White s k
 abbrev pub OnePlace : Type 0
 OnePlace = (s : List ℕ) (k : ℕ) (a b : List ℕ) → k < entriesOf s → Before White k a → s ≡ a ++ b → spanOf s k .start ≡ length a
 
--- without CR; so also a value without CR and LF
+-- no byte is CR: so whatever has neither CR nor LF
+abbrev pub notCr : ℕ → Bool
+notCr b = not (eqb b (code "\r"))
+
 abbrev pub Unfolded : List ℕ → Type 0
-Unfolded s = (at : ℕ) → getD s at 0 ≡ code "\r" → ⊥
+Unfolded s = Any notCr s
 
 -- such a value is one by the white space with folds exactly if it is one, with the same URIs, by that without
 abbrev pub SameUnfolded : Type 0

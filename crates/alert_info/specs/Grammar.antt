@@ -3,8 +3,8 @@
 --   alert-param    =  LAQUOT absoluteURI RAQUOT *( SEMI generic-param )
 --   generic-param  =  token [ EQUAL gen-value ]
 --   gen-value      =  token / host / quoted-string
--- An entry is an alert-param. White space stands where HCOLON, COMMA, LAQUOT, RAQUOT, SEMI and EQUAL have it, and at
--- the end of the value. The URI is wider than absoluteURI; a host in square brackets is left out, any other is a token.
+-- An entry is an alert-param. White space stands where HCOLON, COMMA, LAQUOT, RAQUOT, SEMI and EQUAL have it, and behind
+-- the last entry. The URI is wider than absoluteURI; a host in square brackets is left out, any other is a token.
 -- Assumes nothing.
 use Prim.Native.Nat.{ℕ, suc}
 use Prim.Native.Char.{code}
@@ -66,7 +66,7 @@ pub data Params (W : List ℕ → Type 0) : List ℕ → Type 0 where
 pub data Entry (W : List ℕ → Type 0) : List ℕ → List ℕ → Type 0 where
   entry : {u p : List ℕ} → Uri u → Params W p → Entry W (code "<" ∷ (u ++ (code ">" ∷ p))) u
 
--- a value and its URIs in order: one or more entries with commas between, white space round each
+-- a value and its URIs in order: an entry, or an entry, a comma and a value; white space round each
 pub data Value (W : List ℕ → Type 0) : List ℕ → List (List ℕ) → Type 0 where
   last : {w e x u : List ℕ} → W w → Entry W e u → W x → Value W (w ++ (e ++ x)) (u ∷ [])
   comma : {w e x u v : List ℕ} {us : List (List ℕ)} → W w → Entry W e u → W x → Value W v us

@@ -5,3 +5,4 @@ pub mod Parts
 pub mod Value
 pub mod Pass
 pub mod Claims
+pub mod Examples

@@ -1,4 +1,4 @@
-// Passing a parameter and an entry: `<`, a URI, `>`, then any number of parameters.
+// Passing a parameter and an entry, which is a URI in brackets with its parameters.
 use crate::classes::URI;
 use crate::classes::table;
 use crate::cursor::Cursor;
@@ -50,7 +50,7 @@ impl Cursor {
         self.token(classes, s)
     }
 
-    // Past a parameter, from after its semicolon: a token, and optionally an equals sign with a setting.
+    // Past a parameter, from after its semicolon: a token alone, or a token that is set to something.
     fn param(self, classes: &[u8; 256], s: &[u8]) -> Passed
         requires { ⌜ Classes (now classes) ⌝ }
         ensures { λ r. ⌜ r ≡ paramAt (now (s .entry)) (self .at) ⌝ }
@@ -98,7 +98,7 @@ impl Cursor {
         Following::Param(n)
     }
 
-    // Past the parameters of an entry, up to the end of the value or past a comma.
+    // Past the parameters of an entry: to where the value ends, or past a comma.
     fn ending(self, classes: &[u8; 256], s: &[u8]) -> Ending
         requires { ⌜ Classes (now classes) ⌝ }
         ensures { λ r. ⌜ r ≡ endingAt (now (s .entry)) (self .at) ⌝ }

@@ -25,7 +25,7 @@ unfoldable pub labelRun : List ℕ → ℕ
 labelRun [] = 0
 labelRun (x ∷ xs) = cond (labelByte x) (suc (labelRun xs)) 0
 
--- 1 to 27 letters, digits and hyphens, with no hyphen first or last
+-- at least 1 and at most 27 letters, digits and hyphens; a hyphen stands at neither end
 unfoldable pub labelOk : List ℕ → Bool
 labelOk s =
     within 1 27 (length s)

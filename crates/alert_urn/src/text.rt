@@ -66,7 +66,7 @@ fn run_label(s: &[u8], n: usize) -> bool
     true
 }
 
-// A label: 1 to 27 letters, digits and hyphens, no hyphen first or last.
+// A label: at most 27 letters, digits and hyphens, at least one, and a hyphen at neither end.
 fn label(s: &[u8]) -> bool
     ensures { λ r. ⌜ r ≡ labelOk (now (s .entry)) ⌝ }
 {
@@ -91,7 +91,7 @@ pub fn find(s: &[u8], c: u8) -> usize
     i
 }
 
-// A category or part: a label, or a label, `@` and a label.
+// A category or part: one label, or two with `@` between them.
 pub fn name(s: &[u8]) -> bool
     ensures { λ r. ⌜ r ≡ nameOk (now (s .entry)) ⌝ }
 {

@@ -115,6 +115,19 @@ fn answer(r: resolver::Resolution) {
     accepted(r.signal, r.used as usize, r.skipped as usize);
 }
 
+// The plain resolver's answer, with its tries.
+fn tried(r: resolver::PlainResolution) {
+    if r.refusal != 0 {
+        words::refused(r.refusal);
+        return;
+    }
+    io::write_all(STDOUT_FILENO, b"signal ");
+    words::count(r.signal as u64, b", ");
+    words::count(r.used as u64, b" used, ");
+    words::count(r.skipped as u64, b" skipped, ");
+    words::counted(r.tries as u64, b" try\n", b" tries\n");
+}
+
 fn follow(t: &[u8], v: &[u8]) {
     let mut image = io::large_buffer();
     let m = files::file(4, &mut image);
@@ -141,7 +154,7 @@ fn resolve(by_machine: bool) {
     if by_machine {
         follow(&table[..n], &value[..k]);
     } else {
-        answer(resolver::plain(&table[..n], &value[..k]));
+        tried(resolver::plain(&table[..n], &value[..k]));
     }
 }
 

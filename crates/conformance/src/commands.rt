@@ -2,7 +2,7 @@
 //   value V          refusal number, number of entries, then start:length of each entry's URI
 //   entry V k        refusal number, the URI's bytes
 //   table T          refusal number
-//   plain T V        refusal number, signal, used, skipped
+//   plain T V        refusal number, signal, used, skipped, tries
 //   build T ROOM     refusal number, length, image; the bytes after it are told only if one is not 0
 //   check T M        refusal number
 //   walk T M V       refusal number, signal, used, skipped of the machine resolver
@@ -12,6 +12,7 @@ use crate::print;
 use alert_info::Cursor;
 use alert_info::Found;
 use alert_info::Span;
+use resolver::PlainResolution;
 use resolver::Resolution;
 use signal_table::Match;
 
@@ -94,12 +95,20 @@ pub fn resolution(r: Resolution) {
     print::next(r.skipped as usize);
 }
 
+fn tried(r: PlainResolution) {
+    print::number(r.refusal as usize);
+    print::next(r.signal as usize);
+    print::next(r.used as usize);
+    print::next(r.skipped as usize);
+    print::next(r.tries as usize);
+}
+
 pub fn plain(line: &[u8]) {
     let mut t = [0u8; 16384];
     let n = cases::decode(cases::word(line, 1), &mut t);
     let mut v = [0u8; 8192];
     let k = cases::decode(cases::word(line, 2), &mut v);
-    resolution(resolver::plain(&t[..n], &v[..k]));
+    tried(resolver::plain(&t[..n], &v[..k]));
 }
 
 pub fn early(line: &[u8]) {

@@ -82,4 +82,5 @@ fn main() {
     answer_file(b"held.txt");
     answer_file(b"held_machine.txt");
     answer_file(b"early.txt");
+    answer_file(b"tries.txt");
 }

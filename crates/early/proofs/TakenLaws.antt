@@ -17,7 +17,7 @@ use Rattle.alert_urn.specs.Text.{fields}
 use Rattle.alert_urn.specs.Urn.{lowered, alertUrn, categoryOf, pathOf}
 use Rattle.alert_urn.proofs.Fields.{fields-first}
 use Rattle.node_step.specs.Uses.{usedUrn}
-use Rattle.stored_table.specs.Stored.{Read, fault, got, Stored, stored}
+use Rattle.table_sections.specs.Stored.{Read, fault, got, Stored, stored}
 use Rattle.stored_table.specs.Tables.{tableOf, tableRead, categoryNames, namesRead}
 use Rattle.early.specs.Early.{takenAs}
 

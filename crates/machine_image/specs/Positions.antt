@@ -58,7 +58,7 @@ ByteOf T c p b = (b ≤ 1) ⊎ HeldByte T c p b
 abbrev pub ByteLaw : Table → Type 0
 ByteLaw T = (c : ℕ) (p : Parts) (b : ℕ) → byteFits (nodes T) c p b ≡ true ↔ ByteOf T c p b
 
--- the walk of an image begins in state 0; a used URI leads to the target that the present state's row holds for its symbol, a
+-- the walk of an image begins in state 0; a used URI leads to what the row of the present state has at its symbol, a
 -- skipped one changes nothing, and the signal is the state's
 pub record ImageWalkLaw (T : Table) (im : List ℕ) : Type 0 where
   pub at-start : walkIn T im [] ≡ 0
@@ -71,7 +71,7 @@ pub record FormLaw (T : Table) (im : List ℕ) : Type 0 where
   pub of-machine : formOf T im ≡ true → ((x : ℕ) → List·Memᴰ x im → x < 256) → Storable T (machineIn T im) × (imageOf T (machineIn T im) ≡ im)
   pub every-machine : (m : Machine) → Storable T m → imageOf T m ≡ im → (formOf T im ≡ true) × (machineIn T im ≡ m)
 
--- what the check says: 15 for a wrong form; else 16 if state 0 is not the start; else 17 if some row leads to a wrong pair; else 0
+-- what the check says: 15 for a wrong form; else 16 if state 0 is not the start; else 17 if a target has another pair than is due; else 0
 pub record CheckLaw (T : Table) (im : List ℕ) : Type 0 where
   pub form-wrong : formOf T im ≡ false → checkOf T im ≡ 15
   pub start-wrong : formOf T im ≡ true → machineState (machineIn T im) 0 .pair ≢ start (T .cats) → checkOf T im ≡ 16

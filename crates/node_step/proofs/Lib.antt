@@ -5,6 +5,8 @@ pub mod ByteLaws
 pub mod PackedStep
 pub mod StepLaws
 pub mod StepRight
+pub mod TriesLaws
+pub mod TriesRight
 pub mod Leaves
 pub mod MarkLaws
 pub mod UseLaws

@@ -30,7 +30,7 @@ use Rattle.node_step.specs.declared.Status.{Status}
 use Rattle.node_step.specs.declared.Status.the-variants.{Open, Held, Shut}
 use Rattle.node_step.specs.declared.State.{State}
 use Rattle.node_step.specs.declared.Hit.{Hit}
-use Rattle.node_step.specs.Step.{codedStatus, progressFrom, coded, few, digit, put, rowAt, parentOf, innerAt, reaches, findRow, noHit, hitAt, seek, extends, statusIn, isShut, lastTaken, takesPast, takes, statusFrom, moved, stepNumbers}
+use Rattle.node_step.specs.Step.{codedStatus, progressFrom, coded, few, digit, put, rowAt, parentOf, innerAt, reaches, findRow, noHit, hitAt, seek, extends, statusIn, isShut, lastTaken, takesPast, takes, statusFrom, moved, hitNumbers, stepNumbers}
 use Rattle.node_step.specs.Arrays.{pack, numbersFrom, Numbers, InnerIn}
 use Rattle.node_step.proofs.PackedLaws.{pack-digit, pack-set, pack-same}
 use Rattle.node_step.proofs.ProgressLaws.{progress-at, progress-set}
@@ -49,10 +49,10 @@ module _ (rows ps : List ℕ) (n : ℕ) (t : Table) (wf : WellFormed t) (nu : Nu
         go (inl e) = absurd (omega (arith, length-append p (x ∷ []), ap length e))
         go (inr e) = e
 
-    up-anchor : RootOrNode (nodes t) c p
+    pub up-anchor : RootOrNode (nodes t) c p
     up-anchor = parent-node t c p x is-node
 
-    up-number : parentOf ps (num (p ++ x ∷ [])) ≡ num p
+    pub up-number : parentOf ps (num (p ++ x ∷ [])) ≡ num p
     up-number =
         let w = number-node (nodes t) c (p ++ x ∷ []) is-node in
         let f = nu .few-nodes in
@@ -60,7 +60,7 @@ module _ (rows ps : List ℕ) (n : ℕ) (t : Table) (wf : WellFormed t) (nu : Nu
         let g : getD ps (w .0) 0 ≡ number (nodes t) (nodeAt (nodes t) (w .0) .cat) p = nu .parent-at (w .0) (w .1) p x (ap (λ u. u .path) (w .3)) in
         rw (w .2, ne-eqb (suc (w .0)) 0 (λ z. omega arith), le-leb (suc (w .0)) 64 (omega (arith, w .1)), e) (g ∙ ap (λ u. number (nodes t) (u .cat) p) (w .3))
 
-    not-root : num (p ++ x ∷ []) ≢ 0
+    pub not-root : num (p ++ x ∷ []) ≢ 0
     not-root z = let w = number-node (nodes t) c (p ++ x ∷ []) is-node in omega (arith, w .2)
 
   -- the way up
@@ -110,7 +110,7 @@ module _ (rows ps : List ℕ) (n : ℕ) (t : Table) (wf : WellFormed t) (nu : Nu
     inside : s < length (t .signals)
     inside = rw (nu .all-signals) hs
 
-    wide : c < length row
+    pub wide : c < length row
     wide = rw (row-length (getD (t .signals) s []) 0 (t .cats)) known
 
     q-anchor : RootOrNode (nodes t) c q
@@ -156,7 +156,7 @@ module _ (rows ps : List ℕ) (n : ℕ) (t : Table) (wf : WellFormed t) (nu : Nu
               ∙ ap₂ eqb (sym (nu .packed k (rw (nu .all-signals) at h)) ∙ ap (λ z. getD rows z 0) (sym (zero-add k))) (sym key-is)
 
     -- the hit, by its number
-    abbrev hitOf : Option direct.Hit → Hit
+    abbrev pub hitOf : Option direct.Hit → Hit
     hitOf none = noHit
     hitOf (some h) = hitAt (num (h .at)) (h .signal)
 
@@ -210,7 +210,7 @@ some-under none whole e = absurd (false≢true e)
 some-under (some r) whole e = refl
 
 -- a path no node of the table is longer than
-few-parts-at : {rows ps : List ℕ} {n : ℕ} (t : Table) → Numbers rows ps n t → (c : ℕ) (d : Parts) → RootOrNode (nodes t) c d → length d ≤ 8
+pub few-parts-at : {rows ps : List ℕ} {n : ℕ} (t : Table) → Numbers rows ps n t → (c : ℕ) (d : Parts) → RootOrNode (nodes t) c d → length d ≤ 8
 few-parts-at t nu c d (inl e) = omega (arith, ap length e)
 few-parts-at t nu c d (inr e) =
     let w = number-node (nodes t) c d e in
@@ -277,10 +277,10 @@ module _ (rows ps : List ℕ) (inner : List Bool) (n : ℕ) (t : Table) (wf : We
   abbrev env : Env
   env = envOf t
 
-  abbrev here : Parts
+  abbrev pub here : Parts
   here = getD (rowOf t (st .signal)) c []
 
-  abbrev no : Parts → ℕ
+  abbrev pub no : Parts → ℕ
   no p = number (nodes t) c p
 
   abbrev packs : ℕ
@@ -290,10 +290,10 @@ module _ (rows ps : List ℕ) (inner : List Bool) (n : ℕ) (t : Table) (wf : We
   abbrev now : direct.Status
   now = getD (st .status) c direct.Open
 
-  low : st .signal < n
+  pub low : st .signal < n
   low = omega (arith, find-below (t .cats) 0 (t .signals) (rowOf t (st .signal)) (st .signal) (g .live), nu .all-signals)
 
-  here-anchor : RootOrNode (nodes t) c here
+  pub here-anchor : RootOrNode (nodes t) c here
   here-anchor = q-anchor rows ps n t wf nu c known (st .signal) low
 
   -- where the category is held: a node below the place
@@ -323,14 +323,19 @@ module _ (rows ps : List ℕ) (inner : List Bool) (n : ℕ) (t : Table) (wf : We
       by true false true = refl
       by true false false = refl
 
+  -- the search by numbers
+  seek-at : (r : Parts) → here ++ r ≡ d
+      → seek rows ps n packs c (no here) 9 (no d) ≡ hitOf rows ps n t wf nu c known (st .signal) low (firstHit env (rowOf t (st .signal)) c (candidates here r))
+  seek-at r j =
+      ap (λ z. seek rows ps n packs c (no here) 9 (no z)) (sym j)
+      ∙ seek-right rows ps n t wf nu c known (st .signal) low 9 r (omega (arith, few-parts-at t nu c d ad, length-append here r, ap length j)) (rw j ad)
+
   -- the move
   move-right : (r : Parts) → here ++ r ≡ d
       → moved inner (coded t st) c (no d) whole (seek rows ps n packs c (no here) 9 (no d)) ≡ coded t (nodeMove env st c d whole (firstHit env (rowOf t (st .signal)) c (candidates here r)))
   unfolding moved
   move-right r j =
-      ap (moved inner (coded t st) c (no d) whole)
-      (ap (λ z. seek rows ps n packs c (no here) 9 (no z)) (sym j)
-      ∙ seek-right rows ps n t wf nu c known (st .signal) low 9 r (omega (arith, few-parts-at t nu c d ad, length-append here r, ap length j)) (rw j ad))
+      ap (moved inner (coded t st) c (no d) whole) (seek-at r j)
       ∙ go (firstHit env (rowOf t (st .signal)) c (candidates here r)) refl
     where
       low-c : c < 8
@@ -349,7 +354,7 @@ module _ (rows ps : List ℕ) (inner : List Bool) (n : ℕ) (t : Table) (wf : We
           ∙ ap (λ z. record { signal = h .signal; categories = z }) (put-status (openOr (whole && sameParts (h .at) d) (heldIf (whole && isInner (nodes t) c d) d)))
 
   -- what is taken lies at or under the place
-  taken-above : (o : direct.Status) → statusFits (nodes t) c here o ≡ true → nodeTakes o here d whole ≡ true → someBelow (below here d) ≡ true
+  pub taken-above : (o : direct.Status) → statusFits (nodes t) c here o ≡ true → nodeTakes o here d whole ≡ true → someBelow (below here d) ≡ true
   taken-above direct.Open ok e = some-under (below here d) whole e
   taken-above (direct.Held w) ok e = above-some here d (above-trans (held-node w ok .1) (some-above w d (some-under (below w d) whole e)))
   taken-above direct.Shut ok e = absurd (false≢true e)
@@ -365,6 +370,32 @@ module _ (rows ps : List ℕ) (inner : List Bool) (n : ℕ) (t : Table) (wf : We
       go none f = absurd (false≢true (rw f at (taken-above now (g .fits c known) e)))
       go (some r) f = move-right r (below-to here d r f)
 
+  few-is : (n : ℕ) → n ≤ 32 → few n ≡ n
+  few-is n h = rw (le-leb n 32 h)
+
+  status-is : statusIn (progressFrom (nodes t) (st .status) 0 8) c ≡ codedStatus (nodes t) c now
+  status-is =
+      ap (λ p. p .status) (progress-at (nodes t) (st .status) 0 8 c (record { status = Open }) (let k = nu .few-cats in omega arith))
+      ∙ ap (λ z. codedStatus (nodes t) z (getD (st .status) z direct.Open)) (zero-add c)
+
+  -- the hit by numbers, by the theory's test
+  hit-test : hitNumbers rows ps n (coded t st) c (number (nodes t) c d) whole ≡ cond (nodeTakes now here d whole) (seek rows ps n packs c (no here) 9 (no d)) noHit
+  unfolding hitNumbers
+  hit-test =
+      ap₂ (λ r m. cond (takes ps (statusIn (progressFrom (nodes t) (st .status) 0 8) c) (digit r c) (no d) whole) (seek rows ps m r c (digit r c) 9 (no d)) noHit)
+      (row-is rows ps n t wf nu c known (st .signal) low)
+      (few-is n (nu .few-signals))
+      ∙ ap₂ (λ s z. cond (takes ps s z (no d) whole) (seek rows ps n packs c z 9 (no d)) noHit) status-is (digit-is rows ps n t wf nu c known (st .signal) low)
+      ∙ ap (λ b. cond b (seek rows ps n packs c (no here) 9 (no d)) noHit) (takes-right now (g .fits c known))
+
+  pub hit-untaken : nodeTakes now here d whole ≡ false → hitNumbers rows ps n (coded t st) c (number (nodes t) c d) whole ≡ noHit
+  hit-untaken e = hit-test ∙ rw e
+
+  pub hit-taken : nodeTakes now here d whole ≡ true → (r : Parts) → here ++ r ≡ d
+      → hitNumbers rows ps n (coded t st) c (number (nodes t) c d) whole
+      ≡ hitOf rows ps n t wf nu c known (st .signal) low (firstHit env (rowOf t (st .signal)) c (candidates here r))
+  hit-taken e r j = hit-test ∙ rw e (seek-at r j)
+
   -- the step by numbers is the step at the node
   pub step-right : stepNumbers rows ps inner n (coded t st) c (number (nodes t) c d) whole ≡ coded t (nodeStep (envOf t) st c d whole)
   unfolding stepNumbers nodeStep
@@ -379,14 +410,6 @@ module _ (rows ps : List ℕ) (inner : List Bool) (n : ℕ) (t : Table) (wf : We
       ∙ ap (λ b. cond b (moved inner (coded t st) c (no d) whole (seek rows ps n packs c (no here) 9 (no d))) (coded t st)) (takes-right now (g .fits c known))
       ∙ by-test (nodeTakes now here d whole) refl
     where
-      few-is : (n : ℕ) → n ≤ 32 → few n ≡ n
-      few-is n h = rw (le-leb n 32 h)
-
-      status-is : statusIn (progressFrom (nodes t) (st .status) 0 8) c ≡ codedStatus (nodes t) c now
-      status-is =
-          ap (λ p. p .status) (progress-at (nodes t) (st .status) 0 8 c (record { status = Open }) (let k = nu .few-cats in omega arith))
-          ∙ ap (λ z. codedStatus (nodes t) z (getD (st .status) z direct.Open)) (zero-add c)
-
       body : State
       body =
           cond (takes ps (statusIn (progressFrom (nodes t) (st .status) 0 8) c) (digit (rowAt rows (st .signal)) c) (no d) whole)

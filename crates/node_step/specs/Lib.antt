@@ -1,4 +1,5 @@
 pub mod Arrays
 pub mod Step
+pub mod Tries
 pub mod Uses
 pub mod StatusByte

@@ -1,12 +1,13 @@
 pub mod marks;
 pub mod stored;
+pub mod tries;
 pub mod uses;
 
 ghost use mathlib.Core.Path.{_≡_};
 ghost use mathlib.Core.Bool.{_&&_};
 ghost use Prim.Native.Nat.{_≤_, _<_};
 ghost use lib.Dec.{eqb};
-ghost use Rattle.node_step.specs.Step.{few, rowAt, digit, put, parentOf, innerAt, reaches, findRow, seek, extends, progressIn, isShut, lastTaken, takesPast, statusFrom, moved, stepNumbers};
+ghost use Rattle.node_step.specs.Step.{few, rowAt, digit, put, parentOf, innerAt, reaches, findRow, seek, extends, progressIn, isShut, lastTaken, takesPast, statusFrom, moved, hitNumbers, stepNumbers};
 
 // What a category remembers of the URN last taken there: it is open at its place, held at a node, or shut for good.
 pub enum Status {
@@ -281,6 +282,35 @@ fn moved_by(inner: &[bool; 64], st: State, c: usize, d: u8, whole: bool, h: Hit)
     st
 }
 
+// The signal found for what is said at the node or root with number d, in category c, if the category takes it.
+fn hit_for<'a>(
+    rows: &'a [u64; 32],
+    parents: &'a [u8; 64],
+    signals: usize,
+    st: State,
+    c: usize,
+    d: u8,
+    whole: bool,
+) -> Hit
+    requires { ⌜ c < 8 ⌝ }
+    ensures { λ r. ⌜ r ≡ hitNumbers (now (rows .entry)) (now (parents .entry)) signals st c d whole ⌝ }
+{
+    let row = row_at(rows, st.signal);
+    let q = digit_at(row, c);
+    let categories = st.categories;
+    let progress = progress_in(categories, c);
+    let last = last_taken(progress, q);
+    if takes_at(parents, progress, last, d, whole) {
+        let n = few_of(signals);
+        return seek_from(rows, parents, n, row, c, q, d);
+    }
+    Hit {
+        found: false,
+        node: 0,
+        signal: 0,
+    }
+}
+
 // One step at the node or root with number d, in category c.
 pub fn step<'a>(
     rows: &'a [u64; 32],
@@ -297,15 +327,6 @@ pub fn step<'a>(
     if 8 <= c {
         return st;
     }
-    let row = row_at(rows, st.signal);
-    let q = digit_at(row, c);
-    let categories = st.categories;
-    let progress = progress_in(categories, c);
-    let last = last_taken(progress, q);
-    if takes_at(parents, progress, last, d, whole) {
-        let n = few_of(signals);
-        let h = seek_from(rows, parents, n, row, c, q, d);
-        return moved_by(inner, st, c, d, whole, h);
-    }
-    st
+    let h = hit_for(rows, parents, signals, st, c, d, whole);
+    moved_by(inner, st, c, d, whole, h)
 }

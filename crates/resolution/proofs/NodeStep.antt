@@ -123,7 +123,7 @@ module _ (env : Env) (cats : ℕ) (ns : List Urn) (laws : EnvLaws env cats ns) w
       a : Above d (u .path)
       a = deep-above ns (u .cat) (u .path)
 
-  -- the step by a path with one more part that no node has there, whichever it is
+  -- the step by a path that is longer by a part which no node has there, whichever it is
   pub fresh-at-node : (st : State) → Valid env cats ns st → (c : ℕ) → c < cats → (d : Parts) (x : Name) → isNode ns c (d ++ x ∷ []) ≡ false
       → step env st (urn c (d ++ x ∷ [])) ≡ nodeStep env st c d false
   fresh-at-node st g c known d x fresh = step-at-node st g c known d (x ∷ []) quiet (λ p n b. lies p n (b .rest) (b .joined)) (λ y h e. fresh)

@@ -66,6 +66,9 @@ module _ (env : Env) (row : Row) (c : ℕ) where
           let e₁ : record { at = p; signal = s } ≡ h = cc in
           rw f (omega (arith, d .0, ap (λ x. length (x .at)) e₁))
 
+  pub tries-found : (q r : Parts) (h : Hit) → firstHit env row c (candidates q r) ≡ some h → triesOf env row c (candidates q r) + length (h .at) ≡ suc (length q + length r)
+  tries-found q r h e = tries-hit (suc (length q + length r)) (candidates q r) (down-candidates q r) h e
+
   tries-few : (ps : List Parts) → triesOf env row c ps ≤ length ps
   tries-few [] = omega arith
   tries-few (p ∷ ps) = go (env .finder (set row c p)) (tries-few ps)

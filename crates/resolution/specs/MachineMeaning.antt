@@ -49,7 +49,8 @@ pub record DeepestLaw (ns : List Urn) (c : ℕ) (u : Parts) : Type 0 where
   pub above : Above (deepest ns c u) u
   pub most : (p : Parts) → RootOrNode ns c p → Above p u → Above p (deepest ns c u)
 
--- the symbol of a URN u: its node if it is one; the deepest node above it if that is a leaf; otherwise Other under that node or root
+-- a URN that is a node has that node as its symbol; any other has the deepest node above it where this is a leaf, else Other under that
+-- node or under the root
 pub record SymbolOfLaw (ns : List Urn) (u : Urn) : Type 0 where
   pub own : isNode ns (u .cat) (u .path) ≡ true → symbolOf ns u ≡ node (u .cat) (u .path)
   pub under-leaf : leaf ns (u .cat) (deepest ns (u .cat) (u .path)) ≡ true → symbolOf ns u ≡ node (u .cat) (deepest ns (u .cat) (u .path))
@@ -60,7 +61,7 @@ abbrev pub one : Bool → ℕ
 one false = 0
 one true = 1
 
--- where a symbol stands among those of its category: nodes by number, each followed by its Other, the category's Other last
+-- where a symbol stands among those of its category: nodes by number, its Other right after each, and that of the category at the end
 abbrev pub rank : List Urn → Symbol → ℕ
 rank ns s = cond (isRoot (s .path)) (2 * suc (length ns)) (2 * number ns (s .cat) (s .path) + one (s .other))
 

@@ -67,10 +67,10 @@ pub record SaysLaw (t : Table) (s c : ℕ) (p : Parts) : Type 0 where
 pub record Taken (t : Table) (st : State) (u : Urn) : Type 0 where
   pub at : Parts
   pub signal : ℕ
-  -- the place is the URN or an ancestor of it, and no shorter than the present place
+  -- it lies from the present place down to the URN, both counted in
   pub no-shorter : Above (place t (st .signal) (u .cat)) at
   pub no-longer : Above at (u .path)
-  -- the signal is one of the table's, with that place, and with the current signal's places in every other category
+  -- the signal is one of the table's, with that place, and elsewhere with the places of the current one
   pub listed : signal < length (t .signals)
   pub fits : rowOf t signal ≡ set (rowOf t (st .signal)) (u .cat) at
   -- no longer place has such a signal
@@ -97,7 +97,7 @@ pub record StepLaw (t : Table) (st : State) (u : Urn) : Type 0 where
   pub taken : getD (st .status) (u .cat) Open ≡ Open → (x : Name) (r : Parts) → place t (st .signal) (u .cat) ++ x ∷ r ≡ u .path → Taken t st u
   pub taken-held : (w : Parts) → getD (st .status) (u .cat) Open ≡ Held w → (x : Name) (r : Parts) → w ++ x ∷ r ≡ u .path → Taken t st u
 
--- direct resolution starts with signal 0 and every category open, and takes the URNs of a list one after the other
+-- direct resolution begins with the silent signal and nothing shut; it takes the URNs of a list one after the other
 pub record RunLaw (t : Table) : Type 0 where
   pub signal-0 : start (t .cats) .signal ≡ 0
   pub each-status : length (start (t .cats) .status) ≡ t .cats

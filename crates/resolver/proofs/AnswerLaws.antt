@@ -60,7 +60,7 @@ module _ (o : Outcome) (s : ℕ) where
     unfolding answerOf
     answer-given h = simp (fits, le-ltb 64 (o .point .used + o .point .skipped) h)
 
-pos-of-ne : {n : ℕ} → (n ≡ 0 → ⊥) → 0 < n
+pub pos-of-ne : {n : ℕ} → (n ≡ 0 → ⊥) → 0 < n
 pos-of-ne {n} h = omega arith
 
 -- a refused table's answer: the value's number comes first

@@ -11,7 +11,7 @@ use Rattle.resolution.specs.Nodes.{leaf, nodes}
 use Rattle.resolution.proofs.Theorems.{build-law}
 use Rattle.alert_urn.specs.Text.{all, fields, labelByte, labelOk, nameOk, onFirst, past, upTo}
 use Rattle.alert_urn.specs.Urn.{bytes, bytesFrom, noCapital, storedName, urnOk}
-use Rattle.stored_table.specs.Stored.{andThen, byteIn, counted, stored, storedFrom, text, times}
+use Rattle.table_sections.specs.Stored.{andThen, byteIn, counted, stored, storedFrom, text, times}
 use Rattle.stored_table.specs.Tables.{any, distinct, fewNodes, formed, isListed, judged, judgedRead, listed, noTwo, plain, single, tableOf, tableRead, tableRefusal, uses, verdict}
 use Rattle.resolver.specs.Examples.{T1}
 use Rattle.resolver.specs.DemandExample.{DemandExample}

@@ -10,7 +10,7 @@ use Rattle.node_step.specs.Uses.{usedUrn}
 use Rattle.resolution.specs.Direct.{step}
 use Rattle.resolution.specs.Nodes.{leaf, nodes}
 use Rattle.resolution.specs.Lists as lists
-use Rattle.stored_table.specs.Stored.{andThen, byteIn, counted, stored, storedFrom, text, times}
+use Rattle.table_sections.specs.Stored.{andThen, byteIn, counted, stored, storedFrom, text, times}
 use Rattle.stored_table.specs.Tables.{any, categoryNames, distinct, fewNodes, formed, isListed, judged, judgedRead, listed, namesRead, noTwo, plain, single, tableOf, tableRead, tableRefusal, uses, verdict}
 use Rattle.early.specs.FirstEntries.{frontFrom, frontStep}
 use Rattle.early.specs.Early.{earlyOf}

@@ -14,7 +14,7 @@ use Rattle.resolution.specs.Nodes.{deepest, leaf, nodes}
 use Rattle.machine_image.specs.Image.{imageOf, joined, statusBytes}
 use Rattle.machine_image.specs.Refusals.{buildLength, buildRefusal}
 use Rattle.machine_image.specs.Refusals as image
-use Rattle.stored_table.specs.Stored.{andThen, byteIn, counted, stored, storedFrom, text, times}
+use Rattle.table_sections.specs.Stored.{andThen, byteIn, counted, stored, storedFrom, text, times}
 use Rattle.stored_table.specs.Tables.{any, categoryNames, distinct, fewNodes, formed, isListed, judged, judgedRead, listed, namesRead, noTwo, plain, single, tableOf, tableRead, tableRefusal, uses, verdict}
 use Rattle.signal_table.specs.Built.{builtFrom, bufferFrom}
 use Rattle.resolver.specs.Resolve.{plainOf}

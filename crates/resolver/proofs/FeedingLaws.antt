@@ -146,17 +146,6 @@ module _ (t : List ℕ) (ok : tableRefusal t ≡ 0) where
   all-good [] r g = g
   all-good (v ∷ vs) r g = all-good vs (feedOf t r v .carried) (feed-good r g v)
 
-  -- a record of that form is not refused with 28
-  good-taken : (r : Carried) → Good r → (v : List ℕ) → feedOf t r v .answer .refusal ≡ 28 → ⊥
-  good-taken r g v e =
-      byTest (eqb (r .values) 16)
-      (λ q. let z : _≡_ {A = ℕ} 19 28 = ap (λ (x : Fed). x .answer .refusal) (sym (fed-full r (g .fit) v (eqb-true (r .values) 16 q))) ∙ e in absurd (omega arith))
-      (λ q. go (eqb (refusalOf v) 0) (ap (λ (x : Fed). x .answer .refusal) (sym (fed-read r (g .fit) v (eqb-false (r .values) 16 q))) ∙ e))
-    where
-      go : (b : Bool) → cond b (goesOn t r v) (onlyCounted (refusalOf v) r) .answer .refusal ≡ 28 → ⊥
-      go true z = let y : _≡_ {A = ℕ} 0 28 = z in absurd (omega arith)
-      go false z = refused-exactly v 28 .0 z
-
   -- values that are all accepted
   abbrev listed : List (List ℕ) → List (Option Urn)
   listed vs = takenAs t (allUris vs)
@@ -191,12 +180,12 @@ ends-direct t ok vs =
 pub never-refused : (t : List ℕ) → NeverRefused t
 never-refused t ok = (
   fits-of (tableOf t) fresh (fresh-fits t ok),
-  λ r w e vs v. good-taken t ok (fedAll t r vs) (all-good t ok vs r (record { wide = w; fit = fits-to (tableOf t) r e })) v,
+  λ r w e vs. fits-of (tableOf t) (fedAll t r vs) (all-good t ok vs r (record { wide = w; fit = fits-to (tableOf t) r e }) .fit),
 )
 
 pub joined-alike : (t : List ℕ) → JoinedAlike t
 unfolding plainOf
-joined-alike t ok v vs h a short few =
+joined-alike t ok v vs (h, a, short, few) =
     let s = joined v vs in
     let j = joined-read v vs a short few in
     let u = j .1 in

@@ -14,4 +14,5 @@ pub mod DemandLaws
 pub mod Examples
 pub mod DemandExample
 pub mod FieldsExample
+pub mod Tried
 pub mod EarlyExample

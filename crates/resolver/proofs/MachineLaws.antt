@@ -1,4 +1,4 @@
--- The walk of an image over a whole value.
+-- An image walked over a whole value.
 use Prim.Native.Nat.{ℕ, _≤_, _<_}
 use mathlib.Core.Path.{_≡_, sym, ap, ap₂, _∙_}
 use mathlib.Core.Bool.{Bool, true, false, cond}

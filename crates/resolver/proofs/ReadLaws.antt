@@ -1,22 +1,22 @@
 -- One value fed: the run from the carried state.
 use Prim.Native.Nat.{ℕ, _+_, _≤_, _<_}
-use mathlib.Core.Path.{_≡_, sym, ap, _∙_, subst}
-use mathlib.Core.Bool.{true, false, cond}
+use mathlib.Core.Path.{_≡_, refl, sym, ap, ap₂, _∙_}
+use mathlib.Core.Bool.{true, false, cond, _&&_}
 use mathlib.Core.List.{List, [], _∷_, foldl}
-use lib.ListN.{length}
+use lib.Dec.{leb, ltb}
+use lib.ListN.{length, take, length-map, length-take}
 use borrow.Author.Tests.{eq-eqb, ne-eqb}
 use native.Mathlib.Omega.{arith}
 use Rattle.alert_info.specs.Value.{refusalOf, urisOf}
-use Rattle.resolution.specs.Table.{Urn}
-use Rattle.resolution.specs.Direct.{envOf, step, StateOf}
+use Rattle.resolution.specs.Table.{Urn, Table}
+use Rattle.resolution.specs.Direct.{envOf, step, usedOf, StateOf}
 use Rattle.resolution.specs.Direct as direct
-use Rattle.resolution.specs.Nodes.{nodes}
-use Rattle.resolution.proofs.Step.{Valid}
-use Rattle.resolution.proofs.TableStep.{state-step, state-valid}
+use Rattle.resolution.specs.Tries.{triesOver}
+use Rattle.resolution.proofs.TableStep.{state-step}
 use Rattle.node_step.specs.Step.{coded}
 use Rattle.node_step.specs.declared.State.{State}
 use Rattle.carried_record.specs.declared.Carried.{Carried}
-use Rattle.carried_record.specs.Record.{stateIn, carriedFits, counted}
+use Rattle.carried_record.specs.Record.{stateIn, carriedAs, carriedFits, counted}
 use Rattle.carried_record.specs.Coded.{Fits, fitsBy, stateWith, carriedWith}
 use Rattle.carried_record.proofs.FitLaws.{record-right}
 use Rattle.carried_record.proofs.StateLaws.{state-coded, carried-state, carried-coded}
@@ -27,12 +27,12 @@ use Rattle.stored_table.proofs.Accepting.{accepted}
 use Rattle.resolver.specs.declared.Resolution.{Resolution}
 use Rattle.resolver.specs.declared.run.Current.{Current}
 use Rattle.resolver.specs.declared.run.Outcome.{Outcome}
-use Rattle.resolver.specs.Resolve.{refused, answered}
+use Rattle.resolver.specs.Resolve.{takenAs, refused, answered}
 use Rattle.resolver.specs.Run.{Direct, Machine, runFrom, answerOf, begin}
 use Rattle.resolver.specs.Feed.{unchanged, onlyCounted, stateAfter, goesOn, readFrom, feedOf}
-use Rattle.resolver.proofs.AnswerLaws.{Ended, run-ends}
+use Rattle.resolver.proofs.AnswerLaws.{Ended}
 use Rattle.resolver.proofs.AnswerLaws as answer
-use Rattle.resolver.proofs.PlainLaws.{shown, direct-steps}
+use Rattle.resolver.proofs.PlainLaws.{direct-ends}
 
 -- a run stays among the table's states
 pub state-run : (t : List ℕ) → tableRefusal t ≡ 0 → (us : List Urn) (st : direct.State) → StateOf (tableOf t) st → StateOf (tableOf t) (foldl (step (envOf (tableOf t))) st us)
@@ -49,14 +49,14 @@ module _ (t : List ℕ) (ok : tableRefusal t ≡ 0) (v : List ℕ) (r : Carried)
   abbrev end : direct.State
   end = stateAfter t (stateIn (tableOf t) r) (urisOf v)
 
-  module _ (o : Outcome) (x : State) (ex : x ≡ o .point .current .state) (a : Resolution) (ea : a ≡ answerOf o (x .signal)) where
-    pub read-refused : Ended t v (Direct (coded (tableOf t) end)) o → (a .refusal ≡ 0 → ⊥) → record { answer = a; carried = counted r } ≡ readFrom t r v
+  module _ {n : ℕ} (o : Outcome) (x : State) (ex : x ≡ o .point .current .state) (a : Resolution) (ea : a ≡ answerOf o (x .signal)) where
+    pub read-refused : Ended t v (Direct (coded (tableOf t) end) n) o → (a .refusal ≡ 0 → ⊥) → record { answer = a; carried = counted r } ≡ readFrom t r v
     read-refused (answer.not-taken n e) h =
         ap (λ (y : Resolution). record { answer = y; carried = counted r }) (ea ∙ e (x .signal))
         ∙ sym (ap (λ b. cond b (goesOn t r v) (onlyCounted (refusalOf v) r)) (ne-eqb (refusalOf v) 0 n))
     read-refused (answer.taken z c e) h = absurd (h (ap (λ (y : Resolution). y .refusal) (ea ∙ e (x .signal))))
 
-    pub read-taken : Ended t v (Direct (coded (tableOf t) end)) o → a .refusal ≡ 0 → (c : Carried) → c ≡ carriedWith x (r .values + 1)
+    pub read-taken : Ended t v (Direct (coded (tableOf t) end) n) o → a .refusal ≡ 0 → (c : Carried) → c ≡ carriedWith x (r .values + 1)
         → record { answer = a; carried = c } ≡ readFrom t r v
     read-taken (answer.not-taken n e) h c ec = absurd (n (sym (ap (λ (y : Resolution). y .refusal) (ea ∙ e (x .signal))) ∙ h))
     read-taken (answer.taken z y e) h c ec =
@@ -69,16 +69,12 @@ module _ (t : List ℕ) (ok : tableRefusal t ≡ 0) (v : List ℕ) (r : Carried)
 -- the run over a value from what a fitting record carries
 module _ (t : List ℕ) (d : Decoded) (means : Means t d) (ok : tableRefusal t ≡ 0) (r : Carried) (wide : length (r .status) ≡ 8) (fit : Fits (tableOf t) r)
     (m : Machine) (v : List ℕ) (short : length v ≤ 4096) where
-  pub fed-ends : {s : State} → s ≡ stateWith r → {x : Current} → x ≡ Direct s → {o : Outcome} → o ≡ runFrom t d m v (begin x) 0
-      → Ended t v (Direct (coded (tableOf t) (stateAfter t (stateIn (tableOf t) r) (urisOf v)))) o
+  pub fed-ends : {s : State} → s ≡ stateWith r → {x : Current} → x ≡ Direct s 0 → {o : Outcome} → o ≡ runFrom t d m v (begin x) 0
+      → Ended t v (Direct (coded (tableOf t) (stateAfter t (stateIn (tableOf t) r) (urisOf v))) (triesOver (tableOf t) (stateIn (tableOf t) r) (usedOf (takenAs t (urisOf v))))) o
   fed-ends e f q =
-      let T = tableOf t in
-      let st = stateIn T r in
-      let c = state-coded T (accepted t ok .few-categories) r wide fit in
-      let z = q ∙ ap (λ (x : Current). runFrom t d m v (begin x) 0) (f ∙ ap Direct (e ∙ c)) in
-      subst (Ended t v (Direct (coded T (stateAfter t st (urisOf v))))) (sym z)
-      (run-ends t T d (means .holds ok) m v short (Valid (envOf T) (T .cats) (nodes T)) (step (envOf T)) (shown T) (direct-steps t d (means .holds ok) m)
-      st (state-valid T st (state-carried t ok r wide fit)))
+      let c = state-coded (tableOf t) (accepted t ok .few-categories) r wide fit in
+      direct-ends t d (means .holds ok) m v short (stateIn (tableOf t) r) (state-carried t ok r wide fit)
+      (q ∙ ap (λ (x : Current). runFrom t d m v (begin x) 0) (f ∙ ap (λ (s : State). Direct s 0) (e ∙ c)))
 
 module _ (t : List ℕ) (r : Carried) (v : List ℕ) where
   -- a value that is refused before it is read

@@ -1,7 +1,7 @@
 -- One turn of a run.
-use Prim.Native.Nat.{ℕ, _+_, _-_, _≤_}
-use mathlib.Core.Path.{_≡_, refl, sym, ap, _∙_}
-use mathlib.Core.Bool.{Bool, true, false, true≢false}
+use Prim.Native.Nat.{ℕ, _+_, _-_, _*_, _≤_}
+use mathlib.Core.Path.{_≡_, refl, sym, ap, ap₂, _∙_, subst}
+use mathlib.Core.Bool.{Bool, true, false, cond, true≢false}
 use mathlib.Core.List.{List, [], _∷_}
 use lib.ListN.{take, drop}
 use native.Mathlib.Omega.{arith}
@@ -13,6 +13,8 @@ use Rattle.alert_info.specs.declared.alert_param.Found.{Found}
 use Rattle.alert_info.specs.declared.alert_param.Found.the-variants.{Last, More, None}
 use Rattle.alert_info.proofs.ReadingLaws.{reading-last, reading-more, reading-none}
 use Rattle.node_step.specs.Step.{stepNumbers}
+use Rattle.node_step.specs.Tries.{triesNumbers}
+use Rattle.node_step.proofs.TriesLaws.{tries-bound}
 use Rattle.node_step.specs.Uses.{fewer}
 use Rattle.node_step.specs.declared.State.{State}
 use Rattle.node_step.specs.declared.uses.Use.{Use}
@@ -22,7 +24,7 @@ use Rattle.resolver.specs.declared.run.Current.{Current}
 use Rattle.resolver.specs.declared.run.Point.{Point}
 use Rattle.machine_image.specs.Image.{signalIn, targetIn}
 use Rattle.machine_symbols.specs.Listed.{symbolNumber}
-use Rattle.resolver.specs.Run.{Direct, Walk, Machine, useIn, moved, signalNow, afterUse, after, Met, over, runOf}
+use Rattle.resolver.specs.Run.{Direct, Walk, Machine, useIn, targetNow, moved, signalNow, afterUse, after, Met, over, runOf}
 use Rattle.resolver.specs.declared.run.Outcome.{Outcome}
 
 module _ (rows parent : List ℕ) (inner : List Bool) (signals nodes : ℕ) (m : Machine) (x : Current) (c k : ℕ) (w : Bool) {y : Current} where
@@ -31,9 +33,10 @@ module _ (rows parent : List ℕ) (inner : List Bool) (signals nodes : ℕ) (m :
   unfolding moved
   moved-walk e f g h = simp e (h ∙ ap Walk (g ∙ ap (targetIn (fewer (m .categories) 8) (m .image) (x .number)) f))
 
-  pub moved-direct : {r : State} → x .walks ≡ false → r ≡ stepNumbers rows parent inner signals (x .state) c k w → y ≡ Direct r → y ≡ moved rows parent inner signals nodes m x c k w
+  pub moved-direct : {r : State} {n : ℕ} → x .walks ≡ false → r ≡ stepNumbers rows parent inner signals (x .state) c k w
+      → n ≡ triesNumbers rows parent signals (x .state) c k w → y ≡ Direct r (x .tries + n) → y ≡ moved rows parent inner signals nodes m x c k w
   unfolding moved
-  moved-direct e q h = simp e (h ∙ ap Direct q)
+  moved-direct e q f h = simp e (h ∙ ap₂ (λ (s : State) (n : ℕ). Direct s (x .tries + n)) q f)
 
 -- the signal where a resolver is
 module _ (cats : ℕ) (im : List ℕ) (x : Current) where
@@ -71,6 +74,28 @@ after-counted t d m p uri e = ap (λ (x : Point). x .used + x .skipped) e ∙ co
     counted : (u : Use) → by u .used + by u .skipped ≡ p .used + p .skipped + 1
     counted Skipped = omega arith
     counted (Used c k w n) = omega arith
+
+-- one URN more adds at most ten tries
+moved-few : (rows parent : List ℕ) (inner : List Bool) (signals nodes : ℕ) (m : Machine) (x : Current) (c k : ℕ) (w : Bool) {n : ℕ}
+    → x .tries ≤ n → moved rows parent inner signals nodes m x c k w .tries ≤ n + 10
+unfolding moved
+moved-few rows parent inner signals nodes m x c k w {n} h = go (x .walks)
+  where
+    go : (b : Bool) → cond b (Walk (targetNow parent nodes m (x .number) c k w)) (Direct (stepNumbers rows parent inner signals (x .state) c k w) (x .tries + triesNumbers rows parent signals (x .state) c k w)) .tries ≤ n + 10
+    go true = omega arith
+    go false = omega (arith, tries-bound rows parent signals (x .state) c k w)
+
+pub after-few : (t : List ℕ) (d : Decoded) (m : Machine) (p : Point) (uri : List ℕ) {r : Point} → r ≡ after t d m p uri
+    → p .current .tries ≤ 10 * p .used → r .current .tries ≤ 10 * r .used
+unfolding after
+after-few t d m p uri e h = subst (λ (x : Point). x .current .tries ≤ 10 * x .used) (sym e) (few (useIn t d uri))
+  where
+    by : Use → Point
+    by = afterUse (d .rows) (d .parent) (d .inner) (d .signals) (d .nodes) m p
+
+    few : (u : Use) → by u .current .tries ≤ 10 * by u .used
+    few Skipped = h
+    few (Used c k w n) = omega (arith, moved-few (d .rows) (d .parent) (d .inner) (d .signals) (d .nodes) m (p .current) c k w h)
 
 -- what the reader's cursor finds at a place, as the run takes it
 module _ (v : List ℕ) (at : ℕ) (f : Found) (is : f ≡ entryAt v at) where

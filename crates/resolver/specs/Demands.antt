@@ -99,7 +99,7 @@ pub record Demand2 (t : List ℕ) : Type 0 where
   -- the checker accepts exactly the right machines
   pub checked : (im : List ℕ) → checkFrom t im ≡ 0 ↔ RightImage t im
 
--- the walk of an image over a list of URIs as bytes, used and skipped, at the point between before and after
+-- an image walked over URIs as bytes, used and skipped, at the point between before and after
 pub record WalkClaim (t im : List ℕ) (before after : List (List ℕ)) : Type 0 where
   -- its signal is direct resolution's: at the start, where before is empty, and after each URI
   pub agrees : walkedSignal t im before ≡ directSignal t before

@@ -1,36 +1,23 @@
 -- The marked examples m1 to m12, from the stored bytes of the tables and the bytes of the values.
 use Prim.Native.Nat.{ℕ}
-use Prim.Native.String.{String, len}
+use Prim.Native.String.{String}
 use mathlib.Core.Path.{_≡_}
-use mathlib.Core.List.{List, [], _∷_, _++_, map}
-use lib.ListN.{length, take}
+use mathlib.Core.List.{List, [], _∷_, map}
+use lib.ListN.{take}
 use Rattle.alert_urn.specs.Urn.{bytes}
+use Rattle.stored_table.specs.Written.{written}
 use Rattle.signal_table.specs.Built.{builtFrom, bufferFrom}
 use Rattle.resolver.specs.declared.Resolution.{Resolution}
 use Rattle.resolver.specs.Resolve.{directSignal, plainOf}
 
--- texts, each after its length byte
-abbrev texts : List String → List ℕ
-texts [] = []
-texts (s ∷ l) = len s ∷ bytes s ++ texts l
-
--- signals, each a count of URNs and their texts
-abbrev signals : List (List String) → List ℕ
-signals [] = []
-signals (us ∷ l) = length us ∷ texts us ++ signals l
-
--- a table as it is stored: its categories' names, and the URNs of each signal
-abbrev pub stored : List String → List (List String) → List ℕ
-stored names l = length names ∷ texts names ++ length l ∷ signals l
-
 -- default, internal, external
 abbrev pub T1 : List ℕ
-T1 = stored ("source" ∷ []) ([] ∷ ("source:internal" ∷ []) ∷ ("source:external" ∷ []) ∷ [])
+T1 = written ("source" ∷ []) ([] ∷ ("source:internal" ∷ []) ∷ ("source:external" ∷ []) ∷ [])
 
 -- default, external, internal; low, low and external; high, high and external, high and internal
 abbrev pub T3 : List ℕ
 T3 =
-    stored ("source" ∷ "priority" ∷ [])
+    written ("source" ∷ "priority" ∷ [])
     ([]
     ∷ ("source:external" ∷ [])
     ∷ ("source:internal" ∷ [])
@@ -43,11 +30,11 @@ T3 =
 
 -- default, internal, internal:vip@example, external
 abbrev pub T4 : List ℕ
-T4 = stored ("source" ∷ []) ([] ∷ ("source:internal" ∷ []) ∷ ("source:internal:vip@example" ∷ []) ∷ ("source:external" ∷ []) ∷ [])
+T4 = written ("source" ∷ []) ([] ∷ ("source:internal" ∷ []) ∷ ("source:internal:vip@example" ∷ []) ∷ ("source:external" ∷ []) ∷ [])
 
 -- default, forward, recall:callback
 abbrev pub T5 : List ℕ
-T5 = stored ("service" ∷ []) ([] ∷ ("service:forward" ∷ []) ∷ ("service:recall:callback" ∷ []) ∷ [])
+T5 = written ("service" ∷ []) ([] ∷ ("service:forward" ∷ []) ∷ ("service:recall:callback" ∷ []) ∷ [])
 
 -- what is asked of a table: direct resolution's signal over a list of URIs; the plain resolver's answer to a value; the image
 -- that a build leaves in a buffer of so many bytes

@@ -35,7 +35,7 @@ goesOn t r v =
 abbrev pub readFrom : List ℕ → Carried → List ℕ → Fed
 readFrom t r v = cond (eqb (refusalOf v) 0) (goesOn t r v) (onlyCounted (refusalOf v) r)
 
--- one value more, in the order 4 to 12, 28, 19, 1 to 3
+-- one value more: the table's number comes first, then 28, then 19, and the value's last
 unfoldable pub feedOf : List ℕ → Carried → List ℕ → Fed
 feedOf t r v =
     cond (eqb (tableRefusal t) 0)

@@ -53,8 +53,7 @@ EndsDirect t = tableRefusal t ≡ 0 → (vs : List (List ℕ))
 abbrev pub NeverRefused : List ℕ → Type 0
 NeverRefused t = tableRefusal t ≡ 0
     → (carriedFits (tableOf t) fresh ≡ true) ×
-    ((r : Carried) → length (r .status) ≡ 8 → carriedFits (tableOf t) r ≡ true → (vs : List (List ℕ)) (v : List ℕ)
-    → feedOf t (fedAll t r vs) v .answer .refusal ≡ 28 → ⊥)
+    ((r : Carried) → length (r .status) ≡ 8 → carriedFits (tableOf t) r ≡ true → (vs : List (List ℕ)) → carriedFits (tableOf t) (fedAll t r vs) ≡ true)
 
 -- one or more values with commas between them
 abbrev pub joined : List ℕ → List (List ℕ) → List ℕ
@@ -74,11 +73,13 @@ abbrev pub allSkipped : List Resolution → ℕ
 allSkipped [] = 0
 allSkipped (a ∷ l) = a .skipped + allSkipped l
 
--- 1 to 16 values, all accepted, that joined by commas have at most 4,096 bytes and 64 entries: what they give joined is the
--- signal at their end, and their counts in all
+-- 1 to 16 values, all accepted, that joined by commas have at most 4,096 bytes and 64 entries
+abbrev pub Joinable : List ℕ → List (List ℕ) → Type 0
+Joinable v vs = (length (v ∷ vs) ≤ 16) × AllAccepted (v ∷ vs) × (length (joined v vs) ≤ 4096) × (length (allUris (v ∷ vs)) ≤ 64)
+
+-- what such values give joined is the signal at their end, and their counts in all
 abbrev pub JoinedAlike : List ℕ → Type 0
-JoinedAlike t = tableRefusal t ≡ 0 → (v : List ℕ) (vs : List (List ℕ)) → length (v ∷ vs) ≤ 16 → AllAccepted (v ∷ vs)
-    → length (joined v vs) ≤ 4096 → length (allUris (v ∷ vs)) ≤ 64
+JoinedAlike t = tableRefusal t ≡ 0 → (v : List ℕ) (vs : List (List ℕ)) → Joinable v vs
     → plainOf t (joined v vs)
     ≡ record {
       refusal = 0;

@@ -1,4 +1,5 @@
 pub mod Resolve
+pub mod Tried
 pub mod Run
 pub mod Feed
 pub mod Feeding

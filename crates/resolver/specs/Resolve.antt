@@ -4,12 +4,14 @@ use mathlib.Core.Bool.{cond}
 use mathlib.Core.List.{List}
 use lib.Dec.{eqb}
 use Rattle.alert_info.specs.Value.{refusalOf, urisOf}
-use Rattle.resolution.specs.Direct.{direct, usedOf, usedCount, skippedCount}
+use Rattle.resolution.specs.Direct.{start, direct, usedOf, usedCount, skippedCount}
+use Rattle.resolution.specs.Tries.{triesOver}
 use Rattle.machine_image.specs.Refusals.{formOf}
 use Rattle.machine_image.specs.Walk.{walkSignal}
 use Rattle.stored_table.specs.Tables.{tableRefusal, tableOf}
 pub use Rattle.early.specs.Early.{takenAs}
 use Rattle.resolver.specs.declared.Resolution.{Resolution}
+use Rattle.resolver.specs.declared.PlainResolution.{PlainResolution}
 
 -- direct resolution's signal over a list of URIs
 abbrev pub directSignal : List ℕ → List (List ℕ) → ℕ
@@ -19,7 +21,7 @@ directSignal t uris = direct (tableOf t) (usedOf (takenAs t uris)) .signal
 abbrev pub walkedSignal : List ℕ → List ℕ → List (List ℕ) → ℕ
 walkedSignal t im uris = walkSignal (tableOf t) im (takenAs t uris)
 
--- a refused resolution has signal 0 and counts 0
+-- refused: all zero but the number
 abbrev pub refused : ℕ → Resolution
 refused k = record { refusal = k; signal = 0; used = 0; skipped = 0 }
 
@@ -36,6 +38,18 @@ unlessRefused t v r =
 -- the plain resolver: direct resolution over the value's list
 unfoldable pub plainOf : List ℕ → List ℕ → Resolution
 plainOf t v = unlessRefused t v (answered t (urisOf v) (directSignal t (urisOf v)))
+
+-- the candidates that direct resolution tries over a list of URIs
+abbrev pub triesIn : List ℕ → List (List ℕ) → ℕ
+triesIn t uris = triesOver (tableOf t) (start (tableOf t .cats)) (usedOf (takenAs t uris))
+
+-- an answer with its tries, of which a refused one has none
+abbrev pub triedAs : Resolution → ℕ → PlainResolution
+triedAs r n = record { refusal = r .refusal; signal = r .signal; used = r .used; skipped = r .skipped; tries = cond (eqb (r .refusal) 0) n 0 }
+
+-- the plain resolver with the tries over the value's list
+unfoldable pub plainWith : List ℕ → List ℕ → PlainResolution
+plainWith t v = triedAs (plainOf t v) (triesIn t (urisOf v))
 
 -- the machine resolver: the image as it is stored, followed over the value's list; 15 if it is of wrong form
 unfoldable pub machineOf : List ℕ → List ℕ → List ℕ → Resolution

@@ -8,6 +8,7 @@ use lib.ListN.{length, replicate}
 use lib.Dec.{ltb}
 use Rattle.alert_info.specs.Value.{Reading, unfit, spans, add, partOf, readingFrom}
 use Rattle.node_step.specs.Step.{stepNumbers}
+use Rattle.node_step.specs.Tries.{triesNumbers}
 use Rattle.node_step.specs.Uses.{fewer}
 use Rattle.node_step.specs.declared.Status.the-variants.{Open}
 use Rattle.node_step.specs.declared.State.{State}
@@ -28,12 +29,12 @@ use Rattle.machine_symbols.specs.Listed.{symbolNumber}
 abbrev pub startNow : State
 startNow = record { signal = 0; categories = replicate 8 (record { status = Open }) }
 
--- at a state of direct resolution, and at a state of an image
-abbrev pub Direct : State → Current
-Direct st = record { walks = false; number = 0; state = st }
+-- at a state of direct resolution after n tries, and at a state of an image
+abbrev pub Direct : State → ℕ → Current
+Direct st n = record { walks = false; number = 0; state = st; tries = n }
 
 abbrev pub Walk : ℕ → Current
-Walk j = record { walks = true; number = j; state = startNow }
+Walk j = record { walks = true; number = j; state = startNow; tries = 0 }
 
 -- what a resolver goes by besides the decoded table: the stored symbols, their index and number, and an image over so many
 -- categories
@@ -48,10 +49,11 @@ pub record Machine : Type 0 where
 abbrev pub targetNow : List ℕ → ℕ → Machine → ℕ → ℕ → ℕ → Bool → ℕ
 targetNow parent nodes m j c k w = targetIn (fewer (m .categories) 8) (m .image) j (symbolNumber (m .index) (m .symbols) (m .count) parent nodes c k w)
 
--- a used URN takes direct resolution one step on, or the walk to the target for its symbol
+-- a used URN takes direct resolution one step on, with its tries added, or the walk to the target for its symbol
 unfoldable pub moved : List ℕ → List ℕ → List Bool → ℕ → ℕ → Machine → Current → ℕ → ℕ → Bool → Current
 moved rows parent inner signals nodes m x c k w =
-    cond (x .walks) (Walk (targetNow parent nodes m (x .number) c k w)) (Direct (stepNumbers rows parent inner signals (x .state) c k w))
+    cond (x .walks) (Walk (targetNow parent nodes m (x .number) c k w))
+    (Direct (stepNumbers rows parent inner signals (x .state) c k w) (x .tries + triesNumbers rows parent signals (x .state) c k w))
 
 -- one URI more
 abbrev pub afterUse : List ℕ → List ℕ → List Bool → ℕ → ℕ → Machine → Point → Use → Point

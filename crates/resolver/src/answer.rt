@@ -13,7 +13,7 @@ ghost use Rattle.alert_info.specs.Value.{refusalOf};
 ghost use Rattle.resolver.specs.Resolve.{refused as refusedWith};
 ghost use Rattle.resolver.specs.Run.{signalNow, answerOf, resolvedFrom};
 
-// A refused resolution has signal 0 and counts 0.
+// Refused: all zero but the number.
 pub(crate) fn refused(k: u8) -> Resolution
     ensures { λ r. ⌜ r ≡ refusedWith k ⌝ }
 {
@@ -79,7 +79,7 @@ pub(crate) fn resolved(
     from: Current,
     v: &[u8],
 ) -> Resolution
-    requires { ⌜ length (now v) ≤ 4096 ⌝ }
+    requires { ⌜ (length (now v) ≤ 4096) × (from .tries ≡ 0) ⌝ }
     ensures { λ r. ⌜ r ≡ resolvedFrom (now (t .entry)) d (record { index = now (index .entry); symbols = now (symbols .entry); count = count; categories = d .categories; image = now (image .entry) }) from (now (v .entry)) ⌝ }
 {
     let start = Point {

@@ -1,24 +1,73 @@
 // The plain resolver by a table that is decoded already: whoever needs the decoded table too, or resolves many values,
 // decodes it once.
+use crate::PlainResolution;
 use crate::Resolution;
 use crate::answer;
+use crate::run::Point;
 use crate::run::at_start;
 use stored_table::Decoded;
 ghost use mathlib.Core.Path.{_≡_};
 ghost use Rattle.stored_table.specs.Decoded.{Means};
-ghost use Rattle.resolver.specs.Resolve.{plainOf};
+ghost use Rattle.resolver.specs.Resolve.{refused as refusedWith, triedAs, plainOf, plainWith};
+
+// An answer with its tries, of which a refused one has none.
+fn with_tries(a: Resolution, tries: u16) -> PlainResolution
+    ensures { λ r. ⌜ r ≡ triedAs a tries ⌝ }
+{
+    let mut counted = 0;
+    if a.refusal == 0 {
+        counted = tries;
+    }
+    PlainResolution {
+        refusal: a.refusal,
+        signal: a.signal,
+        used: a.used,
+        skipped: a.skipped,
+        tries: counted,
+    }
+}
+
+// The answer to a value of over 4,096 bytes.
+pub(crate) fn too_long() -> PlainResolution
+    ensures { λ r. ⌜ r ≡ triedAs (refusedWith 1) 0 ⌝ }
+{
+    with_tries(answer::refused(1), 0)
+}
+
+// The value v with the table t, decoded as d, and the tries.
+pub fn tried(t: &[u8], d: Decoded, v: &[u8]) -> PlainResolution
+    ensures { λ r. ⌜ (Means (now (t .entry)) d → r ≡ plainWith (now (t .entry)) (now (v .entry))) ⌝ }
+{
+    if 4096 < v.len() {
+        return too_long();
+    }
+    if d.refusal != 0 {
+        return with_tries(answer::value_first(v, d.refusal), 0);
+    }
+    let from = Point {
+        current: at_start(),
+        used: 0,
+        skipped: 0,
+    };
+    let no_index = [0u8; 136];
+    let no_symbols = [0u8; 384];
+    let o = crate::run::run(t, d, &no_index, &no_symbols, 0, t, from, v);
+    let p = o.point;
+    let last = p.current;
+    let st = last.state;
+    let a = answer::answer(o, st.signal);
+    with_tries(a, last.tries)
+}
 
 // The value v with the table t, decoded as d.
 pub fn plain(t: &[u8], d: Decoded, v: &[u8]) -> Resolution
     ensures { λ r. ⌜ (Means (now (t .entry)) d → r ≡ plainOf (now (t .entry)) (now (v .entry))) ⌝ }
 {
-    if 4096 < v.len() {
-        return answer::refused(1);
+    let r = tried(t, d, v);
+    Resolution {
+        refusal: r.refusal,
+        signal: r.signal,
+        used: r.used,
+        skipped: r.skipped,
     }
-    if d.refusal != 0 {
-        return answer::value_first(v, d.refusal);
-    }
-    let no_index = [0u8; 136];
-    let no_symbols = [0u8; 384];
-    answer::resolved(t, d, &no_index, &no_symbols, 0, t, at_start(), v)
 }

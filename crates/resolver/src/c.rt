@@ -1,17 +1,19 @@
 // The resolvers for C: a table, an image and a value are each a pointer and a length, a carried record is 10 bytes.
+use crate::PlainResolution;
 use crate::Resolution;
 use early::Early;
 ghost use mathlib.Core.Path.{_≡_};
-ghost use Rattle.resolver.specs.Resolve.{plainOf, machineOf};
+ghost use Rattle.resolver.specs.Resolve.{plainWith, machineOf};
 ghost use Rattle.carried_record.specs.Record.{carriedIn, carriedBytes};
 ghost use Rattle.resolver.specs.Feed.{feedOf};
 ghost use Rattle.early.specs.Early.{earlyOf};
 
 // typedef struct { uint8_t refusal, signal, used, skipped; } alert_resolution;
-// alert_resolution resolve_plain(const uint8_t *table, size_t len, const uint8_t *value, size_t value_len);
+// typedef struct { uint8_t refusal, signal, used, skipped; uint16_t tries; } alert_plain;
+// alert_plain resolve_plain(const uint8_t *table, size_t len, const uint8_t *value, size_t value_len);
 #[no_mangle]
-pub extern "C" fn resolve_plain(t: &[u8], v: &[u8]) -> Resolution
-    ensures { λ r. ⌜ r ≡ plainOf (now (t .entry)) (now (v .entry)) ⌝ }
+pub extern "C" fn resolve_plain(t: &[u8], v: &[u8]) -> PlainResolution
+    ensures { λ r. ⌜ r ≡ plainWith (now (t .entry)) (now (v .entry)) ⌝ }
 {
     crate::plain(t, v)
 }

@@ -24,7 +24,7 @@ pub(crate) fn unchanged(k: u8, carried: Carried) -> Fed
     Fed { answer, carried }
 }
 
-// A value refused with 1 to 3 is counted.
+// A value that is refused for its own sake is counted.
 fn counted(answer: Resolution, carried: Carried) -> Fed
     requires { ⌜ carried .values < 16 ⌝ }
     ensures { λ r. ⌜ r ≡ record { answer = answer; carried = countedOf carried } ⌝ }
@@ -52,7 +52,7 @@ pub(crate) fn read_from(t: &[u8], d: Decoded, carried: Carried, v: &[u8]) -> Fed
     }
     let start = carried_record::state(carried);
     let from = Point {
-        current: at_state(start),
+        current: at_state(start, 0),
         used: 0,
         skipped: 0,
     };

@@ -18,7 +18,7 @@ use crate::answer::refused;
 use crate::run::at_number;
 use carried_record::Carried;
 ghost use mathlib.Core.Path.{_≡_};
-ghost use Rattle.resolver.specs.Resolve.{plainOf, machineOf};
+ghost use Rattle.resolver.specs.Resolve.{plainWith, machineOf};
 ghost use Rattle.resolver.specs.Feed.{feedOf};
 
 // A refusal number, 0 if neither value nor table is refused; the signal; and how many entries were used and skipped.
@@ -30,6 +30,16 @@ pub struct Resolution {
     pub skipped: u8,
 }
 
+// The plain resolver's answer: the same, and how many candidates its searches tried.
+#[repr(C)]
+pub struct PlainResolution {
+    pub refusal: u8,
+    pub signal: u8,
+    pub used: u8,
+    pub skipped: u8,
+    pub tries: u16,
+}
+
 // The answer to one value of several, and what is carried to the next.
 pub struct Fed {
     pub answer: Resolution,
@@ -37,14 +47,14 @@ pub struct Fed {
 }
 
 // The plain resolver: direct resolution of the value v with the table t.
-pub fn plain(t: &[u8], v: &[u8]) -> Resolution
-    ensures { λ r. ⌜ r ≡ plainOf (now (t .entry)) (now (v .entry)) ⌝ }
+pub fn plain(t: &[u8], v: &[u8]) -> PlainResolution
+    ensures { λ r. ⌜ r ≡ plainWith (now (t .entry)) (now (v .entry)) ⌝ }
 {
     if 4096 < v.len() {
-        return refused(1);
+        return by::too_long();
     }
     let d = stored_table::decode(t);
-    by::plain(t, d, v)
+    by::tried(t, d, v)
 }
 
 // The machine resolver: the walk of the image, as it is stored, over the value v with the table t.

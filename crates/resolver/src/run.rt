@@ -9,15 +9,17 @@ use node_step::uses::Use;
 use node_step::uses::uses;
 use stored_table::Decoded;
 ghost use mathlib.Core.Path.{_≡_};
-ghost use Prim.Native.Nat.{_+_, _≤_};
+ghost use Prim.Native.Nat.{_+_, _*_, _≤_};
 ghost use lib.ListN.{length};
 ghost use Rattle.resolver.specs.Run.{startNow, Direct, Walk, moved, afterUse, Met, runFrom};
 
-// Where a resolver is: a state of direct resolution or, if it walks, a state's number in an image.
+// Where a resolver is: a state of direct resolution, with the candidates tried so far, or, if it walks, a state's number in an
+// image.
 pub struct Current {
     pub walks: bool,
     pub number: u8,
     pub state: State,
+    pub tries: u16,
 }
 
 // Where a resolver is after some entries, with the numbers of used and skipped ones.
@@ -46,22 +48,23 @@ fn start() -> State
     }
 }
 
-// At a state of direct resolution.
-pub(crate) fn at_state(state: State) -> Current
-    ensures { λ r. ⌜ r ≡ Direct state ⌝ }
+// At a state of direct resolution, after so many tries.
+pub(crate) fn at_state(state: State, tries: u16) -> Current
+    ensures { λ r. ⌜ r ≡ Direct state tries ⌝ }
 {
     Current {
         walks: false,
         number: 0,
         state,
+        tries,
     }
 }
 
 // At the start of direct resolution.
 pub(crate) fn at_start() -> Current
-    ensures { λ r. ⌜ r ≡ Direct startNow ⌝ }
+    ensures { λ r. ⌜ r ≡ Direct startNow 0 ⌝ }
 {
-    at_state(start())
+    at_state(start(), 0)
 }
 
 // At a state of an image.
@@ -72,6 +75,7 @@ pub(crate) fn at_number(number: u8) -> Current
         walks: true,
         number,
         state: start(),
+        tries: 0,
     }
 }
 
@@ -98,6 +102,7 @@ fn moved_by<'a>(
     k: u8,
     w: bool,
 ) -> Current
+    requires { ⌜ current .tries ≤ 40960 ⌝ }
     ensures { λ r. ⌜
         r ≡ moved (now (rows .entry)) (now (parent .entry)) (now (inner .entry)) signals nodes
         (record { index = now (index .entry); symbols = now (symbols .entry); count = count; categories = categories; image = now (image .entry) }) current c k w
@@ -110,7 +115,9 @@ fn moved_by<'a>(
     }
     let category = c as usize;
     let st = current.state;
-    at_state(node_step::step(rows, parent, inner, signals, st, category, k, w))
+    let counted = node_step::tries::step(rows, parent, inner, signals, st, category, k, w);
+    let tries = current.tries + counted.tries as u16;
+    at_state(counted.state, tries)
 }
 
 // One URI more, by what it is to the table.
@@ -128,7 +135,7 @@ fn taken<'a>(
     p: Point,
     u: Use,
 ) -> Point
-    requires { ⌜ p .used + p .skipped ≤ 4096 ⌝ }
+    requires { ⌜ (p .used + p .skipped ≤ 4096) × (p .current .tries ≤ 10 * p .used) ⌝ }
     ensures { λ r. ⌜
         r ≡ afterUse (now (rows .entry)) (now (parent .entry)) (now (inner .entry)) signals nodes
         (record { index = now (index .entry); symbols = now (symbols .entry); count = count; categories = categories; image = now (image .entry) }) p u
@@ -219,7 +226,7 @@ pub(crate) fn run(
     from: Point,
     v: &[u8],
 ) -> Outcome
-    requires { ⌜ (length (now v) ≤ 4096) × (from .used + from .skipped ≡ 0) ⌝ }
+    requires { ⌜ (length (now v) ≤ 4096) × (from .used + from .skipped ≡ 0) × (from .current .tries ≡ 0) ⌝ }
     ensures ends { λ r. ⌜ r ≡ runFrom (now (t .entry)) d (record { index = now (index .entry); symbols = now (symbols .entry); count = count; categories = d .categories; image = now (image .entry) }) (now (v .entry)) from 0 ⌝ }
     ensures few { λ r. ⌜ r .point .used + r .point .skipped ≤ 4097 ⌝ }
 {

@@ -39,7 +39,7 @@ pub record RightForm (T : Table) (im : List ℕ) : Type 0 where
   pub status-right : (j c : ℕ) → j < stateCount im → c < T .cats → ByteOf T c (place T (signalIn (T .cats) im j) c) (byteIn (T .cats) im j c)
   pub leads : (j k : ℕ) → j < stateCount im → k < symbolCount im → targetIn (T .cats) im j k < stateCount im
 
--- the table is well-formed, and the image's form, its start and every row of every state are right for it
+-- the table is well-formed, and the image is right for it: its form, its start and all its rows
 pub record RightImage (t im : List ℕ) : Type 0 where
   pub well-formed : tableRefusal t ≡ 0
   pub form : RightForm (tableOf t) im

@@ -1,4 +1,4 @@
-// Signal tables and their machines: the builder and the checker, and the search for a URN's deepest node.
+// Signal tables and their machines: the builder and the checker, and what a URI is to a table.
 pub mod c;
 mod matching;
 

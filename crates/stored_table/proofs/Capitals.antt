@@ -1,4 +1,4 @@
--- A capital letter in a table is refused with 7, and nothing else is refused anew for letter case.
+-- Tables with a capital letter get 7, and nothing else is refused anew for letter case.
 use Prim.Native.Nat.{ℕ}
 use mathlib.Core.Path.{_≡_, refl, ap, ap₂, _∙_}
 use mathlib.Core.Bool.{Bool, true, false, cond, _&&_}

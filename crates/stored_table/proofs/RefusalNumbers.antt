@@ -1,21 +1,18 @@
 -- A table is refused with one of 4 to 12, or with none.
 use Prim.Native.Nat.{ℕ, _≤_}
 use mathlib.Core.Path.{_≡_, refl}
-use mathlib.Core.Logic.{_⊎_, inl, inr}
+use mathlib.Core.Logic.{inl, inr}
 use mathlib.Core.Bool.{Bool, true, false, cond}
 use native.Mathlib.Omega.{arith}
 use Rattle.table_sections.specs.Stored.{Read, fault, got, Stored, sections}
 use Rattle.table_sections.proofs.FaultLaws.{fault-sections}
-use Rattle.stored_table.specs.Tables.{formed, listed, tableIn, single, plain, distinct, fewNodes, verdict, judged, judgedRead, tableRefusal, RefusalNumbers}
+use Rattle.stored_table.specs.Tables.{formed, listed, tableIn, single, plain, distinct, fewNodes, verdict, judged, judgedRead, tableRefusal, RefusalNumber, RefusalNumbers}
 
-abbrev Number : ℕ → Type 0
-Number n = (n ≡ 0) ⊎ ((4 ≤ n) × (n ≤ 12))
-
-unless : (b : Bool) (x y : ℕ) → Number x → Number y → Number (cond b x y)
+unless : (b : Bool) (x y : ℕ) → RefusalNumber x → RefusalNumber y → RefusalNumber (cond b x y)
 unless true x y p q = p
 unless false x y p q = q
 
-judged-number : (s : Stored) → Number (judged s)
+judged-number : (s : Stored) → RefusalNumber (judged s)
 unfolding judged verdict
 judged-number s =
     unless (formed s) _ 7
@@ -34,6 +31,6 @@ pub refusal-numbers : RefusalNumbers
 unfolding tableRefusal judgedRead
 refusal-numbers t = of (sections t) (fault-sections t)
   where
-    of : (r : Read Stored) → ((k : ℕ) → r ≡ fault k → (4 ≤ k) × (k ≤ 6)) → Number (judgedRead r)
+    of : (r : Read Stored) → ((k : ℕ) → r ≡ fault k → (4 ≤ k) × (k ≤ 6)) → RefusalNumber (judgedRead r)
     of (fault k) f = inr (omega (arith, f k refl .0), omega (arith, f k refl .1))
     of (got s at) f = judged-number s

@@ -1,7 +1,9 @@
-pub mod Stored
 pub mod Tables
 pub mod Held
 pub mod Accepted
 pub mod Stages
 pub mod Decoded
 pub mod Capitals
+pub mod Limits
+pub mod Written
+pub mod Examples

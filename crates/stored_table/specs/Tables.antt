@@ -52,9 +52,15 @@ judgedRead (got s at) = judged s
 unfoldable pub tableRefusal : List ℕ → ℕ
 tableRefusal t = judgedRead (sections t)
 
--- no other numbers are given
+-- no other numbers are given, and each of these is
+abbrev pub RefusalNumber : ℕ → Type 0
+RefusalNumber n = (n ≡ 0) ⊎ ((4 ≤ n) × (n ≤ 12))
+
 abbrev pub RefusalNumbers : Type 0
-RefusalNumbers = (t : List ℕ) → (tableRefusal t ≡ 0) ⊎ ((4 ≤ tableRefusal t) × (tableRefusal t ≤ 12))
+RefusalNumbers = (t : List ℕ) → RefusalNumber (tableRefusal t)
+
+abbrev pub EachNumber : Type 0
+EachNumber = (n : ℕ) → RefusalNumber n → (t : List ℕ) × (tableRefusal t ≡ n)
 
 -- the names of the categories, in their order; none where the bytes cannot be read
 unfoldable pub namesRead : Read Stored → List Name

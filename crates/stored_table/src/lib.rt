@@ -201,7 +201,8 @@ fn formed(
     refused(7)
 }
 
-// A stored table, decoded.
+// A stored table, decoded. Open are: which of several equal texts of the table `name_at` and `at` name, and what `shared` has past
+// the nodes.
 pub fn decode(t: &[u8]) -> Decoded
     ensures { λ r. ⌜ Means (now (t .entry)) r ⌝ }
 {

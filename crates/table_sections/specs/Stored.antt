@@ -1,4 +1,4 @@
--- A stored table: two sections, each after its one-byte count, read from the left. Refusals 4, 5 and 6.
+-- A stored table: categories and signals, each section with its count in front, read from the left. Refusals 4, 5 and 6.
 -- A reading is asked at a position of the bytes t; it answers with a fault's number, or with a value and the position after it.
 use Prim.Native.Nat.{ℕ, suc, zero, _+_, _-_}
 use mathlib.Core.Bool.{cond}

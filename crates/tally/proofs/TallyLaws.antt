@@ -187,17 +187,15 @@ module _ (t : List ℕ) (xs : List Tally) (n : ℕ) (c v : List ℕ) (r : Resolu
 module _ (t : List ℕ) (l : List Tally) (c v : List ℕ) where
   abbrev Keeps : Resolution → List Tally → List ℕ → Type 0
   Keeps a l′ c′ =
-      (a .refusal ≡ 20 → l′ ≡ l) × (a .refusal ≡ 20 → c′ ≡ c) × ((i : ℕ) → (i ≡ a .signal → ⊥) → getD l′ i none ≡ getD l i none) × ((a .refusal ≡ 0 → ⊥) → l′ ≡ l)
+      ((i : ℕ) → (i ≡ a .signal → ⊥) → getD l′ i none ≡ getD l i none) × ((a .refusal ≡ 0 → ⊥) → l′ ≡ l)
       × ((i : ℕ) → (i + 1 ≡ a .refusal → ⊥) → getD c′ i 0 ≡ getD c i 0) × (length l′ ≡ length l) × (length c′ ≡ length c) × ((i : ℕ) → length (tableOf t .signals) ≤ i → getD l′ i none ≡ getD l i none)
       × ((i : ℕ) → 12 ≤ i → getD c′ i 0 ≡ getD c i 0)
 
   keeps-all : (a : Resolution) → Keeps a l c
-  keeps-all a = (λ e. refl, λ e. refl, λ i h. refl, λ h. refl, λ i h. refl, refl, refl, λ i h. refl, λ i h. refl)
+  keeps-all a = (λ i h. refl, λ h. refl, λ i h. refl, refl, refl, λ i h. refl, λ i h. refl)
 
   keeps-accepted : plainOf t v .refusal ≡ 0 → Keeps (plainOf t v) (set l (plainOf t v .signal) (plus (getD l (plainOf t v .signal) none) (plainOf t v))) c
   keeps-accepted e = (
-    λ f. absurd (omega (arith, e, f)),
-    λ f. refl,
     λ i h. getD-set-other l (plainOf t v .signal) i _ none h,
     λ h. absurd (h e),
     λ i h. refl,
@@ -209,8 +207,6 @@ module _ (t : List ℕ) (l : List Tally) (c v : List ℕ) where
 
   keeps-refused : (plainOf t v .refusal ≡ 0 → ⊥) → Keeps (plainOf t v) l (set c (plainOf t v .refusal - 1) (getD c (plainOf t v .refusal - 1) 0 + 1))
   keeps-refused h = (
-    λ f. refl,
-    λ f. absurd (omega (arith, f, plain-few t v)),
     λ i z. refl,
     λ z. refl,
     λ i z. getD-set-other c (plainOf t v .refusal - 1) i _ 0 (other (plainOf t v .refusal) i h z),
@@ -238,16 +234,23 @@ module _ (t : List ℕ) (l : List Tally) (c v : List ℕ) where
       carry : {a a′ : Resolution} {m m′ : List Tally} {d d′ : List ℕ} → a ≡ a′ → m ≡ m′ → d ≡ d′ → Keeps a m d → Keeps a′ m′ d′
       carry {a} {a′} {m} {m′} {d} {d′} e f g k = subst (λ (z : Resolution). Keeps z m′ d′) e (subst (λ (z : List Tally). Keeps a z d′) f (subst (λ (z : List ℕ). Keeps a m z) g k))
 
+  -- the plain resolver never gives 20
+  twenty-only : answerOf t l c v .refusal ≡ 20 → gives20 t l c v ≡ true
+  twenty-only e =
+      byTest (gives20 t l c v) (λ q. q)
+      (λ q. absurd (omega (arith, e, ap (λ (a : Resolution). a .refusal) (plainly t l c v q .0), plain-few t v)))
+
   pub stays : Stays t l c v
   stays =
       record {
-        refused-records = keeps .0;
-        refused-counts = keeps .1;
-        other-records = keeps .2;
-        surplus-records = keeps .7;
-        refused-keeps = keeps .3;
-        other-counts = keeps .4;
-        surplus-counts = keeps .8;
-        as-many-records = keeps .5;
-        as-many-counts = keeps .6;
+        twenty = (twenty-only, λ q. sym (ap (λ (a : Resolution). a .refusal) (twenty t l c v q .0)));
+        twenty-records = λ q. sym (twenty t l c v q .1);
+        twenty-counts = λ q. sym (twenty t l c v q .2);
+        other-records = keeps .0;
+        surplus-records = keeps .5;
+        refused-keeps = keeps .1;
+        other-counts = keeps .2;
+        surplus-counts = keeps .6;
+        as-many-records = keeps .3;
+        as-many-counts = keeps .4;
       }

@@ -1,4 +1,4 @@
--- A run of values on a cleared tally, and what each record and count holds after it, told from the values and the plain resolver alone.
+-- Values counted from a tally of zeros on, and what each record and count holds after them, told from the values and the plain resolver alone.
 use Prim.Native.Nat.{ℕ, zero, suc, _+_, _-_, _≤_, _<_}
 use mathlib.Core.Path.{_≡_}
 use mathlib.Core.Bool.{Bool, true, false, not, cond, _&&_}
@@ -44,7 +44,7 @@ usedFor s r = ifChosen s r (r .used)
 abbrev pub skippedFor : ℕ → Resolution → ℕ
 skippedFor s r = ifChosen s r (r .skipped)
 
--- how many accepted ones chose signal s, and the sums of their used and skipped counts
+-- how many accepted ones chose signal s, and what these used and skipped in all
 abbrev pub recordIn : ℕ → List Resolution → Tally
 recordIn s rs = record { chosen = sumOf (choice s) rs; used = sumOf (usedFor s) rs; skipped = sumOf (skippedFor s) rs }
 
@@ -55,7 +55,7 @@ refusal k r = cond (eqb (r .refusal) k) 1 0
 abbrev pub refusedIn : ℕ → List Resolution → ℕ
 refusedIn k rs = sumOf (refusal k) rs
 
--- the plain resolver takes each value alone
+-- the plain resolver's answers, each value by itself
 abbrev pub alone : List ℕ → List (List ℕ) → List Resolution
 alone t vs = map (plainOf t) vs
 

@@ -1,6 +1,7 @@
 -- One value on a tally: the answer, and the records and refusal counts after it.
 use Prim.Native.Nat.{ℕ, _+_, _-_, _≤_}
 use mathlib.Core.Path.{_≡_}
+use mathlib.Core.Logic.{_↔_}
 use mathlib.Core.Bool.{Bool, true, false, not, cond, _&&_}
 use mathlib.Core.List.{List}
 use lib.Dec.{ltb, leb, eqb}
@@ -42,7 +43,7 @@ countTo c r = cond (accepted r) c (set c (r .refusal - 1) (getD c (r .refusal - 
 unfoldable pub needed : List ℕ → ℕ
 needed t = cond (eqb (tableRefusal t) 0) (length (tableOf t .signals)) 0
 
--- 20, whatever the value: fewer than 12 refusal counts, or fewer records than the table needs
+-- 20, whatever the value: not all 12 refusal counts, or not all the records that the table needs
 unfoldable pub tooFew : List ℕ → ℕ → ℕ → Bool
 tooFew t n m = cond (ltb m 12) true (ltb n (needed t))
 
@@ -72,9 +73,10 @@ Tallied t l c v answer l′ c′ = (answer ≡ answerOf t l c v) × (l′ ≡ re
 
 -- what stays as it is, on any tally
 pub record Stays (t : List ℕ) (l : List Tally) (c v : List ℕ) : Type 0 where
-  -- everything, if the answer is 20; and no answer is 20 for another reason
-  pub refused-records : answerOf t l c v .refusal ≡ 20 → recordsOf t l c v ≡ l
-  pub refused-counts : answerOf t l c v .refusal ≡ 20 → countsOf t l c v ≡ c
+  -- the answer is 20 exactly for these reasons, and then everything stays
+  pub twenty : (answerOf t l c v .refusal ≡ 20) ↔ (gives20 t l c v ≡ true)
+  pub twenty-records : gives20 t l c v ≡ true → recordsOf t l c v ≡ l
+  pub twenty-counts : gives20 t l c v ≡ true → countsOf t l c v ≡ c
   -- all records but that of the signal chosen, so all past the table's signals too
   pub other-records : (i : ℕ) → (i ≡ answerOf t l c v .signal → ⊥) → getD (recordsOf t l c v) i none ≡ getD l i none
   pub surplus-records : (i : ℕ) → length (tableOf t .signals) ≤ i → getD (recordsOf t l c v) i none ≡ getD l i none

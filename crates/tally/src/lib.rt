@@ -1,7 +1,7 @@
 // The monthly count: how often each signal was chosen, with its used and skipped URNs, and how often each refusal was given.
 //
-// In: a table, a value, and the tally that the caller lends: a record for each signal and a count for each refusal
-// number. Out: the plain resolver's answer, counted; or 20, and nothing is.
+// In: a table, a value, and the tally that the caller lends: records by signal and counts by refusal number. Out: the
+// plain resolver's answer, counted; or 20, and nothing is.
 //
 //   judge.rt     a value's resolution, with a refusal counted
 //   records.rt   an accepted resolution is added to its signal's record
@@ -17,7 +17,7 @@ use resolver::Resolution;
 ghost use mathlib.Core.Path.{_≡_};
 ghost use Rattle.tally.specs.Tally.{Tallied};
 
-// One signal: how many values chose it, and the sums of their used and skipped counts.
+// One signal: how many values chose it, and what these used and skipped in all.
 #[repr(C)]
 pub struct Tally {
     pub chosen: u32,

@@ -7,7 +7,7 @@ mod tally;
 mod urn;
 mod value;
 
-use crate::{Built, Early, Match, Reader, Record, Resolution, Resolvers, Tables, Tallies, Tally};
+use crate::{Built, Early, Match, Plain, Reader, Record, Resolution, Resolvers, Tables, Tallies, Tally};
 
 pub struct Baseline;
 
@@ -60,8 +60,8 @@ impl Tables for Baseline {
 }
 
 impl Resolvers for Baseline {
-    fn plain(table: &[u8], value: &[u8]) -> Resolution {
-        resolve::plain(table, value).unwrap_or_else(Resolution::refused)
+    fn plain(table: &[u8], value: &[u8]) -> Plain {
+        resolve::plain(table, value).unwrap_or_else(Plain::refused)
     }
 
     fn machine(table: &[u8], image: &[u8], value: &[u8]) -> Resolution {

@@ -2,25 +2,28 @@
 use super::machine::{rows, Symbols};
 use super::table::{Decoded, State, START};
 use super::value::Uris;
-use crate::{Record, Resolution, VALUES};
+use crate::{Plain, Record, Resolution, VALUES};
 
-pub fn plain(table: &[u8], value: &[u8]) -> Result<Resolution, u8> {
+pub fn plain(table: &[u8], value: &[u8]) -> Result<Plain, u8> {
     let uris = Uris::read(value)?;
     let table = Decoded::read(table)?;
     Ok(plain_by(&table, value, &uris))
 }
 
 /// The plain resolution of a value that was read, by a table that was.
-pub fn plain_by(table: &Decoded, value: &[u8], uris: &Uris) -> Resolution {
+pub fn plain_by(table: &Decoded, value: &[u8], uris: &Uris) -> Plain {
     let mut state = START;
     let mut used = 0;
+    let mut tries = 0;
     for uri in uris.iter(value) {
         if let Some((category, node, whole)) = table.find(uri) {
-            state = table.step(state, category, node, whole);
+            let (next, more) = table.step_counted(state, category, node, whole);
+            state = next;
             used += 1;
+            tries += more;
         }
     }
-    Resolution { refusal: 0, signal: state.signal, used, skipped: uris.count as u8 - used }
+    Plain { refusal: 0, signal: state.signal, used, skipped: uris.count as u8 - used, tries }
 }
 
 pub fn machine(table: &[u8], image: &[u8], value: &[u8]) -> Result<Resolution, u8> {

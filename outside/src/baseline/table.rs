@@ -2,7 +2,7 @@
 use super::urn;
 use crate::Match;
 
-/// A node: its category, its parent (0 for the root), and where its path and its last name stand in the table.
+/// A node: its category, its parent, where its path stands in the table, and its last name. The root is 0.
 #[derive(Clone, Copy)]
 pub struct Node {
     pub category: u8,
@@ -245,7 +245,7 @@ impl<'a> Decoded<'a> {
         (1..self.signal_count).any(|i| (0..i).any(|j| equal(i, j)))
     }
 
-    /// The deepest node that is the URN or its ancestor, with whether it is the URN whole; nothing for a skipped URI.
+    /// The deepest node that is the URN or above it, with whether it is the URN whole; nothing for a skipped URI.
     pub fn find(&self, uri: &[u8]) -> Option<(usize, u8, bool)> {
         let urn = urn::after_prefix(uri)?;
         let (length, _) = urn::form(urn)?;
@@ -267,7 +267,7 @@ impl<'a> Decoded<'a> {
         &self.bytes[node.path_start as usize..node.name_start as usize + node.name_length as usize]
     }
 
-    /// The search that counts: the category's nodes by number, up to a leaf that is the URN or above it.
+    /// The search that counts: the category's nodes by number, up to the URN's leaf.
     pub fn matched(&self, uri: &[u8]) -> Match {
         let urn = urn::after_prefix(uri).and_then(|urn| urn::form(urn).map(|(length, _)| urn.split_at(length)));
         let found = urn.and_then(|(name, path)| self.category(name).map(|category| (category, &path[1..])));
@@ -297,32 +297,39 @@ impl<'a> Decoded<'a> {
         self.rows[..self.signal_count].iter().position(|&r| r == row)
     }
 
-    /// One used URN: its category, the deepest node that is the URN or its ancestor, and whether it is the URN.
+    /// One used URN: its category, the deepest node that is the URN or above it, and whether it is the URN.
     pub fn step(&self, state: State, category: usize, node: u8, whole: bool) -> State {
+        self.step_counted(state, category, node, whole).0
+    }
+
+    /// The same with the number of candidates tried.
+    pub fn step_counted(&self, state: State, category: usize, node: u8, whole: bool) -> (State, u16) {
         let shift = 8 * category;
         let status = (state.status >> shift) as u8;
         if status == SHUT {
-            return state;
+            return (state, 0);
         }
         let row = self.rows[state.signal as usize];
         let place = (row >> shift) as u8;
         let last = if status == OPEN { place } else { status - 1 };
         if last == node && whole || !self.is_above(last, node) {
-            return state;
+            return (state, 0);
         }
         let others = row & !(0xFF << shift);
         let kept = state.status & !(0xFF << shift);
         let held = whole && !self.nodes[node as usize].leaf;
         let missed = if held { node + 1 } else { SHUT };
         let mut p = node;
+        let mut tries = 1;
         while p != place {
             if let Some(signal) = self.signal_with(others | (p as u64) << shift) {
                 let status = if whole && p == node { OPEN } else { missed };
-                return State { signal: signal as u8, status: kept | (status as u64) << shift };
+                return (State { signal: signal as u8, status: kept | (status as u64) << shift }, tries);
             }
             p = self.nodes[p as usize].parent;
+            tries += 1;
         }
-        State { signal: state.signal, status: kept | (missed as u64) << shift }
+        (State { signal: state.signal, status: kept | (missed as u64) << shift }, tries)
     }
 
     /// Whether no URN leads from this state to another signal. Such a signal differs in one category only, where its
@@ -375,7 +382,7 @@ const OPEN: u8 = 0;
 /// A category that takes nothing.
 const SHUT: u8 = 1;
 
-/// A current signal with the categories' statuses, one byte each, the first one lowest.
+/// The current signal, and the categories' statuses, one byte each, the first one lowest.
 #[derive(Clone, Copy, PartialEq, Eq)]
 pub struct State {
     pub signal: u8,

@@ -20,7 +20,7 @@ pub fn value(table: &[u8], records: &mut [Tally], refusals: &mut [u32], value: &
                 used: record.used.checked_add(answer.used.into())?,
                 skipped: record.skipped.checked_add(answer.skipped.into())?,
             };
-            Some(answer)
+            Some(answer.resolution())
         }
         Err(number) => {
             let count = &mut refusals[number as usize - 1];

@@ -1,7 +1,7 @@
 //! Names and URNs as bytes.
 
-/// A label is 1 to 27 letters, digits and hyphens, with no hyphen first or last. The length of a name at the start of
-/// `text`: a label, or a label, `@` and a label, up to a colon or the end.
+/// The length of a name at the start of `text`, up to a colon or the end: one label, or two with `@` between. A label has at
+/// most 27 letters, digits and hyphens, at least one, and a hyphen at neither end.
 fn name_length(text: &[u8]) -> Option<usize> {
     let mut start = 0;
     let mut at = 0;
@@ -44,7 +44,7 @@ pub fn form(text: &[u8]) -> Option<(usize, usize)> {
     (parts > 0).then_some((category, parts))
 }
 
-/// What stands after `urn:alert:`, in any letter case.
+/// What stands after `urn:alert:`, whose letters may be capitals.
 pub fn after_prefix(uri: &[u8]) -> Option<&[u8]> {
     let (prefix, rest) = uri.split_at_checked(10)?;
     prefix.eq_ignore_ascii_case(b"urn:alert:").then_some(rest)

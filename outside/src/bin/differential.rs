@@ -8,7 +8,7 @@ use outside::cases::{show_counts, show_record, show_records, to_hex};
 use outside::random::tables::{self, Limit};
 use outside::random::{images, records, values, Random};
 use outside::reference::Reference;
-use outside::{Built, Early, Match, Reader, Record, Resolution, Resolvers, Tables, Tallies, Tally as Counts};
+use outside::{Built, Early, Match, Plain, Reader, Record, Resolution, Resolvers, Tables, Tallies, Tally as Counts};
 use std::collections::BTreeMap;
 use std::fmt::Debug;
 use std::process::exit;
@@ -144,7 +144,7 @@ fn check<I: Tables>(table: &[u8], image: &[u8]) -> u8 {
     I::check(table, image)
 }
 
-fn plain<I: Resolvers>(table: &[u8], value: &[u8]) -> Resolution {
+fn plain<I: Resolvers>(table: &[u8], value: &[u8]) -> Plain {
     I::plain(table, value)
 }
 
@@ -308,7 +308,7 @@ fn hold_message(tally: &mut Tally, table: &[u8], message: &[Vec<u8>]) {
         record = after;
     }
     let joined = message.join(&b',');
-    let end = Reference::plain(table, &joined);
+    let end = Reference::plain(table, &joined).resolution();
     if answers.iter().all(|answer| answer.refusal == 0) && ![1, 3].contains(&end.refusal) {
         let used = answers.iter().map(|answer| answer.used).sum();
         let skipped = answers.iter().map(|answer| answer.skipped).sum();
@@ -329,7 +329,7 @@ fn built(table: &[u8]) -> Option<Vec<u8>> {
 /// An accepted image walks as direct resolution does.
 fn hold_agreement(tally: &mut Tally, table: &[u8], image: &[u8], value: &[u8]) {
     if Reference::check(table, image) == 0 {
-        let both = [Reference::plain(table, value), Reference::machine(table, image, value)];
+        let both = [Reference::plain(table, value).resolution(), Reference::machine(table, image, value)];
         if both[0] != both[1] {
             println!("the resolvers differ: walk {} {} {}", to_hex(table), to_hex(image), to_hex(value));
             tally.wrong += 1;

@@ -57,7 +57,7 @@ const LABELS: [&str; 24] = [
     "n7",
 ];
 
-/// A name of good form: a label, or a label, `@` and a label.
+/// A name of good form: one label, or two with `@` between.
 pub fn name(random: &mut Random) -> Text {
     let mut text = random.pick(&LABELS).to_string();
     if random.percent(15) {

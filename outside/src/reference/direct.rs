@@ -2,7 +2,7 @@
 use super::table::{is_proper_ancestor, Node, Table};
 use super::urn::Path;
 use super::value::uris;
-use crate::Resolution;
+use crate::Plain;
 
 /// What a category still takes: what lies under its place, what lies under the path last taken, or nothing.
 #[derive(Clone, PartialEq, Eq, Debug, Hash)]
@@ -13,19 +13,19 @@ pub enum Status {
     Shut,
 }
 
-/// A current signal with the status of each category.
+/// The current signal, and the status of each category.
 #[derive(Clone, PartialEq, Eq, Debug, Hash)]
 pub struct State {
     pub signal: usize,
     pub status: Vec<Status>,
 }
 
-/// Signal 0 and every category open.
+/// Before the first URN: signal 0, every category open.
 pub fn start(table: &Table) -> State {
     State { signal: 0, status: vec![Status::Open; table.categories.len()] }
 }
 
-/// The table's signal with place p in c and with the current signal's places in every other category.
+/// The signal of the table that is placed as the current one is, but at p in category c.
 fn signal_with(table: &Table, current: usize, c: usize, p: &[Vec<u8>]) -> Option<usize> {
     let fits = |places: &Vec<Vec<Vec<u8>>>| {
         (0..table.categories.len())
@@ -34,7 +34,7 @@ fn signal_with(table: &Table, current: usize, c: usize, p: &[Vec<u8>]) -> Option
     table.signals.iter().position(fits)
 }
 
-/// One used URN u, of category c.
+/// A step by a used URN.
 pub fn step(table: &Table, state: &State, urn: &Node) -> State {
     let (c, u) = (urn.category, &urn.path);
     let place = &table.signals[state.signal][c];
@@ -46,7 +46,7 @@ pub fn step(table: &Table, state: &State, urn: &Node) -> State {
     if !taken {
         return state.clone();
     }
-    // The longest p that is u or an ancestor of u, no shorter than the present place.
+    // Candidates from the URN itself up to the present place: the first with a signal.
     for length in (place.len()..=u.len()).rev() {
         if let Some(signal) = signal_with(table, state.signal, c, &u[..length]) {
             let mut status = state.status.clone();
@@ -60,7 +60,7 @@ pub fn step(table: &Table, state: &State, urn: &Node) -> State {
             return State { signal, status };
         }
     }
-    unreachable!("the current signal itself is the last candidate")
+    unreachable!("the present place has the current signal")
 }
 
 /// A status as stored: 0 open, 1 shut, 1 + n held at node n.
@@ -91,16 +91,34 @@ pub fn read_status(table: &Table, signal: usize, c: usize, byte: u8) -> Option<S
     }
 }
 
+/// The candidates looked up for a used URN, longest first, up to and with the one found: those deeper than the deepest
+/// node that is the URN or above it are left out. None for a URN that is passed over.
+fn tries(table: &Table, state: &State, urn: &Node) -> usize {
+    let next = step(table, state, urn);
+    if next == *state {
+        return 0;
+    }
+    let deepest = (0..=urn.path.len()).rev().find(|&length| length == 0 || table.is_node(urn.category, &urn.path[..length]));
+    let found = table.signals[next.signal][urn.category].len();
+    deepest.expect("the root is above every URN") - found + 1
+}
+
 /// The plain resolver.
-pub fn resolve(table: &[u8], value: &[u8]) -> Result<Resolution, u8> {
+pub fn resolve(table: &[u8], value: &[u8]) -> Result<Plain, u8> {
     let uris = uris(value)?;
     let table = Table::read(table)?;
     let used: Vec<Node> = uris.iter().filter_map(|uri| table.used(uri)).collect();
-    let end = used.iter().fold(start(&table), |state, urn| step(&table, &state, urn));
-    Ok(Resolution {
+    let mut state = start(&table);
+    let mut count = 0;
+    for urn in &used {
+        count += tries(&table, &state, urn);
+        state = step(&table, &state, urn);
+    }
+    Ok(Plain {
         refusal: 0,
-        signal: end.signal as u8,
+        signal: state.signal as u8,
         used: used.len() as u8,
         skipped: (uris.len() - used.len()) as u8,
+        tries: count as u16,
     })
 }

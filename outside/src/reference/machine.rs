@@ -8,7 +8,7 @@ use std::collections::HashMap;
 /// States, and for each its row: the number of the state that each symbol leads to.
 pub type Machine = (Vec<State>, Vec<Vec<usize>>);
 
-/// The states that some symbol sequence reaches, by breadth-first discovery, symbols in order, with their rows.
+/// All states that symbols lead to, found breadth first with the symbols in their order, and their rows.
 /// Nothing if there are more than `limit`.
 pub fn discover(table: &Table, limit: usize) -> Option<Machine> {
     discover_from(table, vec![start(table)], limit)
@@ -82,9 +82,9 @@ struct Image {
     rows: Vec<Vec<usize>>,
 }
 
-/// Number 15: too short to hold its two counts, or of another length than they give, symbols other than the table's,
-/// a state count outside 1 to 256, a signal not in the table, a status that its signal's place does not allow, or a
-/// target at or above the state count.
+/// Number 15: the image ends before its counts or is not as long as they say; its symbols are not those of the table; it
+/// has no state or over 256; a state's signal or one of its targets is not there, or the signal's place does not allow one
+/// of its statuses.
 fn read(table: &Table, image: &[u8]) -> Result<Image, u8> {
     let symbol_count = *image.first().ok_or(15)? as usize;
     let low = *image.get(1 + 3 * symbol_count).ok_or(15)?;

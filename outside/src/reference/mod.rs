@@ -9,7 +9,7 @@ pub mod tally;
 pub mod urn;
 pub mod value;
 
-use crate::{Built, Early, Match, Reader, Record, Resolution, Resolvers, Tables, Tallies, Tally};
+use crate::{Built, Early, Match, Plain, Reader, Record, Resolution, Resolvers, Tables, Tallies, Tally};
 use table::Table;
 
 pub struct Reference;
@@ -44,7 +44,7 @@ impl Tables for Reference {
         }
     }
 
-    /// A refused build leaves the buffer all zero; after a successful one, the bytes past the image are 0.
+    /// The buffer has the image and then zeros, or zeros alone after a refusal.
     fn build(table: &[u8], buffer: &mut [u8]) -> Built {
         buffer.fill(0);
         match machine::build(table, buffer.len()) {
@@ -62,8 +62,8 @@ impl Tables for Reference {
 }
 
 impl Resolvers for Reference {
-    fn plain(table: &[u8], value: &[u8]) -> Resolution {
-        direct::resolve(table, value).unwrap_or_else(Resolution::refused)
+    fn plain(table: &[u8], value: &[u8]) -> Plain {
+        direct::resolve(table, value).unwrap_or_else(Plain::refused)
     }
 
     fn machine(table: &[u8], image: &[u8], value: &[u8]) -> Resolution {

@@ -3,7 +3,7 @@ use super::urn::{alert_urn, category_and_path, is_name, Name, Path};
 use crate::Match;
 use std::collections::HashSet;
 
-/// A path with at least one part that is an ancestor of, or equal to, some signal's place.
+/// A path, but for the root, that is some signal's place or above it.
 #[derive(Clone, PartialEq, Eq, Hash)]
 pub struct Node {
     pub category: usize,
@@ -34,7 +34,7 @@ struct Stored {
     signals: Vec<Vec<Vec<u8>>>,
 }
 
-/// Takes bytes from the left. Too few give 5, a count or length outside its range gives 6.
+/// Takes bytes from the left. Too few give 5, a count or length that is out of range gives 6.
 struct Left<'a>(&'a [u8]);
 
 impl<'a> Left<'a> {
@@ -117,8 +117,8 @@ impl Table {
         Some(Node { category, path })
     }
 
-    /// The URN's node if it is one; the deepest node above it if that is a leaf; otherwise Other under the deepest
-    /// node or root above it.
+    /// A URN that is a node has that node as its symbol. Any other has the deepest node above it where this is a leaf,
+    /// else Other under that node or under the root.
     pub fn symbol(&self, urn: &Node) -> usize {
         let (deepest, whole) = self.deepest(urn);
         let to_node = whole || (deepest > 0 && is_leaf(&self.nodes, deepest));
@@ -140,9 +140,9 @@ impl Table {
         (deepest, whole)
     }
 
-    /// The bytes compared in the search for the URN's deepest node, which goes through its category's nodes by number,
-    /// up to and with the first leaf that is the URN or above it: of each path's text those that the URN's has at the
-    /// same places, and the first that it lacks there.
+    /// The bytes compared in the search for the URN's deepest node, which goes through its category's nodes by number and
+    /// ends with the URN's leaf: of each path's text those that the URN's has at the same places, and the first that it
+    /// lacks there.
     fn compared(&self, urn: &Node) -> usize {
         let text = urn.path.join(&b':');
         let mut compared = 0;
@@ -168,12 +168,16 @@ impl Table {
         Match { refusal: 0, used: 1, category: urn.category as u8, node: node as u8, whole: whole as u8, compared }
     }
 
+    pub fn is_node(&self, category: usize, path: &[Name]) -> bool {
+        self.nodes.iter().any(|node| node.category == category && node.path == path)
+    }
+
     /// Whether some node lies under the path of this one, which need not be a node.
     pub fn nodes_under(&self, urn: &Node) -> bool {
         self.nodes.iter().any(|node| node.category == urn.category && is_proper_ancestor(&urn.path, &node.path))
     }
 
-    /// The URN as which a symbol steps: an Other symbol as its path with one more part that no node has.
+    /// The URN as which a symbol steps: for Other its path and a further part, which is no node's.
     pub fn steps_as(&self, symbol: Symbol) -> Node {
         let mut path = if symbol.node == 0 { Vec::new() } else { self.nodes[symbol.node - 1].path.clone() };
         if symbol.other {
@@ -195,8 +199,8 @@ fn urns_of(stored: &Stored) -> Option<Vec<Vec<(Name, Path)>>> {
     stored.signals.iter().map(|urns| urns.iter().map(read).collect()).collect()
 }
 
-/// The URNs with category numbers, or nothing if a category is listed twice, used by no signal, or named by a URN and
-/// not listed.
+/// The URNs with category numbers. Nothing if a category stands twice in the list, no signal has a URN of it, or a URN's
+/// category is not in the list.
 fn number_categories(categories: &[Name], signals: &[Vec<(Name, Path)>]) -> Option<Vec<Vec<Node>>> {
     let is_used = |name: &Name| signals.iter().flatten().any(|(category, _)| category == name);
     if has_repeats(categories.iter()) || !categories.iter().all(is_used) {
@@ -214,7 +218,7 @@ fn has_repeats<T: Eq + std::hash::Hash>(mut items: impl Iterator<Item = T>) -> b
     items.any(|item| !seen.insert(item))
 }
 
-/// A signal's place in a category is the path it names there, or the root.
+/// Where a signal is placed in a category: at the path that it names, or at the root.
 fn places(categories: usize, urns: &[Node]) -> Vec<Path> {
     let mut places = vec![Path::new(); categories];
     for urn in urns {
@@ -223,7 +227,7 @@ fn places(categories: usize, urns: &[Node]) -> Vec<Path> {
     places
 }
 
-/// The nodes by first appearance in the stored order, ancestors first.
+/// The nodes as the URNs bring them, ancestors first.
 fn nodes_of(signals: &[Vec<Node>]) -> Vec<Node> {
     let mut nodes: Vec<Node> = Vec::new();
     let mut seen = HashSet::new();
@@ -238,14 +242,14 @@ fn nodes_of(signals: &[Vec<Node>]) -> Vec<Node> {
     nodes
 }
 
-/// A node is a leaf if no other node lies under it. Numbers run from 1.
+/// Whether no node lies under this one. Numbers run from 1.
 fn is_leaf(nodes: &[Node], number: usize) -> bool {
     let node = &nodes[number - 1];
     !nodes.iter().any(|other| other.category == node.category && is_proper_ancestor(&node.path, &other.path))
 }
 
-/// Symbols run by category; within one, nodes by number, each non-leaf followed by its Other, the category's Other
-/// last.
+/// The symbols, category by category: the nodes by number, with its Other right after each that is no leaf, and the
+/// Other of the category at the end.
 fn symbols_of(categories: usize, nodes: &[Node]) -> Vec<Symbol> {
     let mut symbols = Vec::new();
     for category in 0..categories {

@@ -11,7 +11,7 @@ pub fn value(table: &[u8], records: &mut [Tally], refusals: &mut [u32], value: &
     if refusals.len() < 12 || records.len() < signals {
         return None;
     }
-    let answer = Reference::plain(table, value);
+    let answer = Reference::plain(table, value).resolution();
     if answer.refusal != 0 {
         let count = &mut refusals[answer.refusal as usize - 1];
         *count = sum(*count, 1)?;

@@ -1,4 +1,4 @@
-//! Alert URNs: `urn:alert:`, then a category, then one or more parts, each after a colon. Letter case does not matter.
+//! Alert URNs: after `urn:alert:` a category and its parts, with colons between. Letter case does not matter.
 
 /// A category or part. Those of a table have no capital letter, and those of a URI are taken in lower case.
 pub type Name = Vec<u8>;
@@ -6,7 +6,7 @@ pub type Name = Vec<u8>;
 /// The parts of a URN after its category. The empty path is the root.
 pub type Path = Vec<Name>;
 
-/// A label is 1 to 27 letters, digits and hyphens, with no hyphen first or last.
+/// A label has at most 27 letters, digits and hyphens, at least one, and a hyphen at neither end.
 fn is_label(text: &[u8]) -> bool {
     (1..=27).contains(&text.len())
         && text.iter().all(|&b| b.is_ascii_alphanumeric() || b == b'-')
@@ -14,7 +14,7 @@ fn is_label(text: &[u8]) -> bool {
         && text[text.len() - 1] != b'-'
 }
 
-/// A category or part is a label, or a label, `@` and a label.
+/// A category or part: one label, or two with `@` between.
 pub fn is_name(text: &[u8]) -> bool {
     let labels: Vec<&[u8]> = text.split(|&b| b == b'@').collect();
     labels.len() <= 2 && labels.iter().all(|label| is_label(label))

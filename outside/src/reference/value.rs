@@ -1,9 +1,8 @@
 //! The field value, read byte by byte by a state machine.
 //!
-//! White space is any run of spaces, tabs and folds, also empty: at both ends of the value, before `<`, after `>`, and
-//! round each comma, semicolon and equals sign. A fold is CR, LF and a space or a tab. A value is one or more entries
-//! with commas between. An entry is `<`, a URI, `>`, then any number of parameters, each a semicolon, a token, and
-//! optionally an equals sign with a token or quoted string.
+//! Entries stand with commas between them. Each has a URI in brackets and its parameters behind it: after a semicolon a
+//! token, alone or with `=` and a token or quoted string. Spaces, tabs and folds may stand outside brackets, tokens and
+//! quotes. A fold is CR, LF and a space or a tab.
 
 /// Where in the rule the byte before stands.
 #[derive(Clone, Copy, PartialEq)]
@@ -34,7 +33,7 @@ fn is_white(b: u8) -> bool {
     b == b' ' || b == b'\t'
 }
 
-/// Bytes 0x21 to 0x7E without `<`, `>` and `"`.
+/// Any visible ASCII byte, 0x21 to 0x7E, but for `<`, `>` and `"`.
 fn is_uri(b: u8) -> bool {
     (0x21..=0x7E).contains(&b) && b != b'<' && b != b'>' && b != b'"'
 }
@@ -44,12 +43,12 @@ fn is_token(b: u8) -> bool {
     b.is_ascii_alphanumeric() || b"-.!%*_+`'~".contains(&b)
 }
 
-/// What may stand in a quoted string as it is: 9, 32 to 126 except `"` and `\`, 128 to 255.
+/// What may stand in a quoted string as it is: a tab, 32 to 126 but for `"` and `\`, and 128 to 255.
 fn is_text(b: u8) -> bool {
     b == 9 || ((32..=126).contains(&b) && b != b'"' && b != b'\\') || b >= 128
 }
 
-/// What may stand after `\`: any byte up to 127 except 10 and 13.
+/// What may stand after `\`: all below 128 but LF and CR.
 fn is_escapable(b: u8) -> bool {
     b <= 127 && b != 10 && b != 13
 }

@@ -1,7 +1,8 @@
-use mathlib.Core.Path.{refl, sym, _∙_}
+use mathlib.Core.Path.{refl, sym, ap, _∙_}
 use borrow.Author.Tests.{not-true, not-false}
 use native.Mathlib.Omega.{arith}
 use Rattle.alert_info.proofs.ReadingLaws.{refusal-long}
+use Rattle.resolver.specs.declared.run.Current.{Current}
 use Rattle.resolver.proofs.MachineLaws.{machine-right, machine-long, machine-table, machine-form, symbols-listed, form-listed}
 use borrow.Author.Needs.{needs}
 use Rattle.resolver.proofs.machine.Statement.{statement}
@@ -45,7 +46,7 @@ at-number-requires : tie.Need-at-number-requires
 at-number-requires c κs = search needs
 
 resolved-requires : tie.Need-resolved-requires
-resolved-requires c κs = omega (arith, c .before .before .before .before .before .before .before .before .before .before .before .before .before .before .before .before .before .before .before .before .before .before .if1 .left)
+resolved-requires c κs = (omega (arith, c .before .before .before .before .before .before .before .before .before .before .before .before .before .before .before .before .before .before .before .before .before .before .if1 .left), ap (λ (x : Current). x .tries) (c .at-number .ensures))
 
 returns-4 : tie.Need-returns-4
 returns-4 c =

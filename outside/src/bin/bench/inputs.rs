@@ -13,10 +13,10 @@ pub struct Inputs {
     pub tables: Vec<(String, Bytes, Bytes)>,
     /// For each table, a value that it uses.
     used: Vec<Bytes>,
+    /// For some tables, 64 entries of which the first settles the signal.
+    settled: Vec<(usize, Bytes)>,
     /// Three fields of one message.
     fields: [Bytes; 3],
-    /// Tables, each with a value of 64 entries of which the first settles the signal.
-    pub settled: Vec<(String, Bytes, Bytes)>,
     /// Tables that are refused late, after as much comparing as we could think of.
     pub refused: Vec<(String, Bytes)>,
 }
@@ -48,13 +48,6 @@ fn deep() -> Bytes {
     let signal: Vec<Bytes> = (b'a'..=b'h').map(urn).collect();
     let signals = std::iter::once(Vec::new()).chain(vec![signal; 31]).collect();
     Draft { categories: (b'a'..=b'h').map(name).collect(), signals }.bytes()
-}
-
-/// 31 signals with one URN each, in 8 categories: no URN adds to the first one, but nothing is shut.
-fn one_each() -> Bytes {
-    let categories: Vec<Bytes> = (0..8).map(|c| format!("c{c}").into_bytes()).collect();
-    let signals = (0..31).map(|s| vec![format!("c{}:p{s}", s % 8).into_bytes()]);
-    Draft { categories, signals: std::iter::once(Vec::new()).chain(signals).collect() }.bytes()
 }
 
 /// The path of a long URN: four parts of 55 bytes, then one of 27 that ends in the letter, then one more.
@@ -137,14 +130,13 @@ impl Inputs {
             .to_vec();
         let deep = deep();
         refused.push((format!("{} bytes, refused with 11, 64 nodes", deep.len()), deep));
-        let fields = ["source:internal", "source:unclassified", "priority:high"].map(|name| urns(&[name], 1));
-        let settled = |name: &str, table: Bytes, urn: &str| (name.to_string(), table, urns(&[urn], 64));
         let settled = vec![
-            settled("T1", example("T1.table"), "source:internal"),
-            settled("32 signals", limit("32 signals"), "c:l31"),
-            settled("8 categories, 31 signals with one URN each", one_each(), "c6:p30"),
+            (0, urns(&["source:internal"], 64)),
+            (2, urns(&["c:l31"], 64)),
+            (4, urns(&["b:x6-0:x6-1:x6-2:x6-3:x6-4:x6-5:x6-6:x6-7"], 64)),
         ];
-        Inputs { values, tables, used, fields, settled, refused }
+        let fields = ["source:internal", "source:unclassified", "priority:high"].map(|name| urns(&[name], 1));
+        Inputs { values, tables, used, settled, fields, refused }
     }
 
     /// Each table with its machine and a value that it uses.
@@ -155,6 +147,14 @@ impl Inputs {
                 more => format!("{more} entries"),
             };
             (format!("{name}; {entries}"), table, image, value)
+        })
+    }
+
+    /// Tables with a value whose first entry settles the signal.
+    pub fn settled(&self) -> impl Iterator<Item = (String, &Bytes, &Bytes)> {
+        self.settled.iter().map(|(i, value)| {
+            let (name, table, _) = &self.tables[*i];
+            (format!("{name}; {} entries, the first settles", Reference::entries(value)), table, value)
         })
     }
 

@@ -95,6 +95,16 @@ fn resolver_rows<'a>(inputs: &'a Inputs, rows: &mut Vec<Row<'a>>) {
     }
 }
 
+/// The early question, and beside it the plain resolver on the same values.
+fn early_rows<'a>(inputs: &'a Inputs, rows: &mut Vec<Row<'a>>) {
+    for (name, table, value) in inputs.settled() {
+        rows.push(row!("resolver", "resolve_early", name, |I, _| I::early(black_box(table), black_box(value))));
+    }
+    for (name, table, value) in inputs.settled() {
+        rows.push(row!("resolver", "resolve_plain", name, |I, _| I::plain(black_box(table), black_box(value))));
+    }
+}
+
 fn feed_rows<'a>(inputs: &'a Inputs, rows: &mut Vec<Row<'a>>) {
     for (name, table, message) in inputs.messages() {
         rows.push(row!("resolver", "resolve_feed", name, |I, _| {
@@ -104,36 +114,6 @@ fn feed_rows<'a>(inputs: &'a Inputs, rows: &mut Vec<Row<'a>>) {
             }
             record
         }));
-    }
-}
-
-fn early_rows<'a>(inputs: &'a Inputs, rows: &mut Vec<Row<'a>>) {
-    for (name, table, value) in &inputs.settled {
-        let name = format!("{name}; 64 entries, the first settles");
-        rows.push(row!("resolver", "resolve_early", name, |I, _| I::early(black_box(table), black_box(value))));
-    }
-}
-
-/// What the early answer takes beside the plain one, both without judging and decoding the table.
-#[cfg(all(feature = "signal_table", feature = "resolver"))]
-fn print_early(inputs: &Inputs, runs: usize) {
-    println!("| table | early | plain | decoding | early / plain, without decoding |");
-    println!("|---|---:|---:|---:|---:|");
-    for (name, table, value) in &inputs.settled {
-        let early = |_: &mut [u8]| {
-            black_box(Ours::early(black_box(table), black_box(value)));
-        };
-        let plain = |_: &mut [u8]| {
-            black_box(Ours::plain(black_box(table), black_box(value)));
-        };
-        let decoding = |_: &mut [u8]| {
-            black_box(Ours::table_refusal(black_box(table)));
-        };
-        let (first, second) = time::best(Some(&early), &plain, runs);
-        let (_, third) = time::best(None, &decoding, runs);
-        let first = first.expect("it was timed");
-        let ratio = (first - third) / (second - third);
-        println!("| {name} | {} | {} | {} | {ratio:.2} |", time::show(first), time::show(second), time::show(third));
     }
 }
 
@@ -181,17 +161,12 @@ fn main() {
     reader_rows(&inputs, &mut rows);
     table_rows(&inputs, &mut rows);
     resolver_rows(&inputs, &mut rows);
-    feed_rows(&inputs, &mut rows);
     early_rows(&inputs, &mut rows);
+    feed_rows(&inputs, &mut rows);
     tally_rows(&inputs, &mut rows);
     time::warm_up(&*rows[0].baseline);
     println!("## Time of one call, best of {runs} runs\n");
     print_times(&rows, runs);
-    #[cfg(all(feature = "signal_table", feature = "resolver"))]
-    {
-        println!("\n## Ring before the end: 64 entries, the first settles\n");
-        print_early(&inputs, runs);
-    }
     println!("\n## Stack that one call takes at most, bytes\n");
     print_stacks(&rows);
     println!("\n## Code and constants of the libraries, bytes\n");

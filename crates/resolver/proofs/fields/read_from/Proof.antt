@@ -3,6 +3,7 @@ use native.Mathlib.Omega.{arith}
 use denote.Ref.{now}
 use Rattle.alert_info.proofs.ReadingLaws.{refusal-long}
 use Rattle.resolver.specs.declared.Resolution.{Resolution}
+use Rattle.resolver.specs.declared.run.Current.{Current}
 use Rattle.carried_record.specs.Record.{counted}
 use Rattle.resolver.proofs.ReadLaws.{read-unread, read-refused, read-taken, fed-ends}
 use borrow.Author.Needs.{needs}
@@ -25,7 +26,7 @@ at-state-requires : tie.Need-at-state-requires
 at-state-requires c κs = search needs
 
 run-requires : tie.Need-run-requires
-run-requires c κs = search needs
+run-requires c κs = (omega arith, omega arith, ap (λ (x : Current). x .tries) (c .before .before .at-state .ensures))
 
 answer-requires : tie.Need-answer-requires
 answer-requires c κs = search needs

@@ -9,7 +9,7 @@ start-requires : tie.Need-start-requires
 start-requires c κs = search needs
 
 returns : tie.Need-returns
-returns c = ap (λ (st : State). record { walks = true; number = c .before .args .number; state = st }) (c .start .ensures)
+returns c = ap (λ (st : State). record { walks = true; number = c .before .args .number; state = st; tries = 0 }) (c .start .ensures)
 
 pub at-number-spec : {M : Type 1} → statement M
 at-number-spec = tie.close (tie.spec start-requires returns)

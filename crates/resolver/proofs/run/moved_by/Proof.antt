@@ -1,3 +1,4 @@
+use native.Mathlib.Omega.{arith}
 use Rattle.resolver.proofs.RunLaws.{moved-direct, moved-walk}
 use borrow.Author.Needs.{needs}
 use Rattle.resolver.proofs.run.moved_by.Statement.{statement}
@@ -18,11 +19,17 @@ returns c = moved-walk _ _ _ _ _ _ (c .before .before .before .before .before .a
 step-requires : tie.Need-step-requires
 step-requires c κs = search needs
 
+cast-tries : tie.Need-cast-tries
+cast-tries c = search needs
+
+add-tries : tie.Need-add-tries
+add-tries c = omega (arith, c .before .before .step .ensures .1 .1)
+
 at-state-requires : tie.Need-at-state-requires
 at-state-requires c κs = search needs
 
 returns-2 : tie.Need-returns-2
-returns-2 c = moved-direct _ _ _ _ _ _ (c .before .before .before .before .before .args .current) _ _ _ (c .before .before .before .if1 .left) (c .before .step .ensures) (c .at-state .ensures)
+returns-2 c = moved-direct _ _ _ _ _ _ (c .before .before .before .before .before .before .before .args .current) _ _ _ (c .before .before .before .before .before .if1 .left) (c .before .before .before .step .ensures .0) (c .before .before .before .step .ensures .1 .0) (c .at-state .ensures)
 
 pub moved-by-spec : {M : Type 1} → statement M
 moved-by-spec =
@@ -33,5 +40,7 @@ moved-by-spec =
     at-number-requires
     returns
     step-requires
+    cast-tries
+    add-tries
     at-state-requires
     returns-2)

@@ -1,24 +1,24 @@
 use mathlib.Core.Path.{_≡_, refl, _∙_}
-use Prim.Native.Nat.{_+_, _-_, _≤_}
+use Prim.Native.Nat.{_+_, _-_, _*_, _≤_}
 use lib.ListN.{length}
 use native.Mathlib.Omega.{arith}
 use borrow.Author.Tests.{not-true, not-false}
 use Rattle.alert_info.specs.Value.{readingFrom}
 use Rattle.resolver.specs.Run.{after, over, runOf, runFrom}
-use Rattle.resolver.proofs.RunLaws.{after-uri, after-counted, ended-few, run-more, run-last, run-none}
+use Rattle.resolver.proofs.RunLaws.{after-uri, after-counted, after-few, ended-few, run-more, run-last, run-none}
 use borrow.Author.Needs.{needs}
 use Rattle.resolver.proofs.run.run.Statement.{statement}
 use Rattle.resolver.proofs.run.run.Tie as tie
 
 abbrev Inv-loop : tie.InvT-loop
-Inv-loop t index symbols count image from v d at₀ p₀ at p = (runFrom t d (record { index = index; symbols = symbols; count = count; categories = d .categories; image = image }) v from 0 ≡ runOf from (over v (after t d (record { index = index; symbols = symbols; count = count; categories = d .categories; image = image })) p (readingFrom v at))) × (p .used + p .skipped ≤ at) × (at ≤ length v)
+Inv-loop t index symbols count image from v d at₀ p₀ at p = (runFrom t d (record { index = index; symbols = symbols; count = count; categories = d .categories; image = image }) v from 0 ≡ runOf from (over v (after t d (record { index = index; symbols = symbols; count = count; categories = d .categories; image = image })) p (readingFrom v at))) × (p .used + p .skipped ≤ at) × (at ≤ length v) × (p .current .tries ≤ 10 * p .used)
 
 abbrev μ-loop : tie.MeasureT-loop
 μ-loop t index symbols count image from v d at₀ p₀ at p = length v - at
 
 loop-holds : tie.Need-loop-holds Inv-loop μ-loop
 unfolding runFrom
-loop-holds c = (refl, omega arith, omega arith)
+loop-holds c = (refl, omega arith, omega arith, omega arith)
 
 entry-at-requires : tie.Need-entry-at-requires Inv-loop μ-loop
 entry-at-requires c κs = search needs
@@ -60,7 +60,7 @@ loop-less c = omega (arith, c .before .before .before .before .before .before .b
 loop-again : tie.Need-loop-again Inv-loop μ-loop
 loop-again c = let a = after-uri _ _ _ _ _ (c .before .before .before .before .before .before .uses .ensures) (c .before .taken .ensures) in
     let m = c .before .before .before .before .before .before .before .before .before .before .before .before .before .before .before .before .before .before .before .entry-at .ensures .more (not-false _ (c .before .before .before .before .before .before .before .before .before .before .before .before .before .before .before .before .before .if1 .left)) (c .if2 .left) in
-    (run-more _ _ _ _ _ _ (c .before .before .before .before .before .before .before .before .before .before .before .before .before .before .before .before .before .before .before .before .loop .inv .0) _ _ (m .0) a, omega (arith, m .1, after-counted _ _ _ _ _ a, c .before .before .before .before .before .before .before .before .before .before .before .before .before .before .before .before .before .before .before .before .loop .inv), m .2)
+    (run-more _ _ _ _ _ _ (c .before .before .before .before .before .before .before .before .before .before .before .before .before .before .before .before .before .before .before .before .loop .inv .0) _ _ (m .0) a, omega (arith, m .1, after-counted _ _ _ _ _ a, c .before .before .before .before .before .before .before .before .before .before .before .before .before .before .before .before .before .before .before .before .loop .inv), m .2, after-few _ _ _ _ _ a (c .before .before .before .before .before .before .before .before .before .before .before .before .before .before .before .before .before .before .before .before .loop .inv .3))
 
 pub run-spec : {M : Type 1} → statement M
 run-spec =

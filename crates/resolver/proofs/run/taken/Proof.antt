@@ -1,4 +1,5 @@
 use Rattle.resolver.proofs.RunLaws.{after-skipped, after-used}
+use native.Mathlib.Omega.{arith}
 use borrow.Author.Needs.{needs}
 use Rattle.resolver.proofs.run.taken.Statement.{statement}
 use Rattle.resolver.proofs.run.taken.Tie as tie
@@ -13,7 +14,7 @@ enum-known-u : tie.Need-enum-known-u
 enum-known-u c = search needs
 
 moved-by-requires : tie.Need-moved-by-requires
-moved-by-requires c κs = search needs
+moved-by-requires c κs = omega arith
 
 add-t20 : tie.Need-add-t20
 add-t20 c = search needs

@@ -1,0 +1,2 @@
+pub mod NumberExamples
+pub mod Numbers

@@ -1,0 +1,78 @@
+-- The examples for the numbers of demand 1, by computation.
+use Prim.Native.Nat.{ℕ, _+_, _<_}
+use mathlib.Core.Path.{_≡_, refl}
+use mathlib.Core.Bool.{true, false}
+use mathlib.Core.List.{List, [], _∷_, map}
+use lib.ListN.{length, replicate}
+use native.Mathlib.Omega.{arith}
+use Rattle.resolution.specs.Build.{discovered, ReachableOver}
+use Rattle.resolution.specs.Direct.{start, sameState, step}
+use Rattle.resolution.specs.Discovery.{discover, expand}
+use Rattle.resolution.specs.Lists.{all as each, tabulate}
+use Rattle.resolution.specs.Nodes.{deepest, leaf, nodes}
+use Rattle.resolution.specs.Symbols.{symbols, stepAt}
+use Rattle.resolution.proofs.Direct.{state-exact}
+use Rattle.resolution.proofs.Discovery.{discover-distinct, discover-reached}
+use Rattle.alert_urn.specs.Text.{all, fields, labelByte, labelOk, nameOk, onFirst, past, upTo}
+use Rattle.alert_urn.specs.Urn.{noCapital, storedName, urnOk, bytesFrom, bytes}
+use Rattle.machine_image.specs.Image.{statusBytes, machineIn, imageOf, joined}
+use Rattle.machine_image.specs.Refusals.{buildRefusal, formOf, stateFormed, checkOf}
+use Rattle.table_sections.specs.Stored.{andThen, byteIn, counted, stored, storedFrom, text, times}
+use Rattle.stored_table.specs.Tables.{any, distinct, fewNodes, formed, isListed, judged, judgedRead, listed, noTwo, plain, single, tableOf, tableRead, tableRefusal, uses, verdict}
+use Rattle.stored_table.specs.Examples.{least}
+use Rattle.carried_record.specs.Record.{carriedFits}
+use Rattle.signal_table.specs.Built.{builtFrom, checkFrom}
+use Rattle.refusal_numbers.specs.Numbers.{image, wrongImages, manyStates, afterValues}
+
+pub many-formed : tableRefusal manyStates ≡ 0
+unfolding all fields labelByte labelOk nameOk onFirst past upTo noCapital storedName urnOk bytes bytesFrom andThen byteIn counted stored storedFrom text times any distinct fewNodes formed isListed judged judgedRead listed noTwo plain single tableRefusal uses verdict nodes
+many-formed = refl
+
+-- after 13 turns over 256 states are found
+found-many : length (discovered (tableOf manyStates) 13) ≡ 259
+unfolding fields onFirst past upTo bytes bytesFrom andThen byteIn counted stored storedFrom text times tableOf tableRead step discover expand tabulate leaf nodes
+found-many = refl
+
+pub over-many : ReachableOver (tableOf manyStates) 256
+over-many =
+    let T = tableOf manyStates in
+    record {
+      states = discovered T 13;
+      distinct = discover-distinct sameState state-exact (stepAt T) (length (symbols T)) (start (T .cats)) 13;
+      reached = discover-reached sameState state-exact (stepAt T) (length (symbols T)) (start (T .cats)) 13;
+      over = omega (arith, found-many);
+    }
+
+-- the least table's machine fits 21 bytes
+pub fits-room : builtFrom least 21 .refusal ≡ 0
+unfolding builtFrom buildRefusal imageOf joined statusBytes discover expand tabulate nodes leaf step fields onFirst past upTo bytesFrom bytes andThen byteIn counted stored storedFrom text times tableOf tableRead tableRefusal judged judgedRead formed listed isListed uses any noTwo single plain distinct fewNodes verdict all labelByte labelOk nameOk noCapital storedName urnOk
+fits-room = refl
+
+pub no-room : builtFrom least 20 .refusal ≡ 14
+unfolding builtFrom buildRefusal imageOf joined statusBytes discover expand tabulate nodes leaf step fields onFirst past upTo bytesFrom bytes andThen byteIn counted stored storedFrom text times tableOf tableRead tableRefusal judged judgedRead formed listed isListed uses any noTwo single plain distinct fewNodes verdict all labelByte labelOk nameOk noCapital storedName urnOk
+no-room = refl
+
+pub right-image : checkFrom least (image 0 1) ≡ 0
+unfolding checkFrom checkOf formOf stateFormed machineIn each tabulate joined nodes leaf deepest step fields onFirst past upTo bytesFrom bytes andThen byteIn counted stored storedFrom text times tableOf tableRead tableRefusal judged judgedRead formed listed isListed uses any noTwo single plain distinct fewNodes verdict all labelByte labelOk nameOk noCapital storedName urnOk
+right-image = refl
+
+pub wrong-images : map (checkFrom least) wrongImages ≡ tabulate (λ i. 15 + i) 3
+unfolding checkFrom checkOf formOf stateFormed machineIn each tabulate joined nodes leaf deepest step fields onFirst past upTo bytesFrom bytes andThen byteIn counted stored storedFrom text times tableOf tableRead tableRefusal judged judgedRead formed listed isListed uses any noTwo single plain distinct fewNodes verdict all labelByte labelOk nameOk noCapital storedName urnOk
+wrong-images = refl
+
+pub right-form : formOf (tableOf least) (image 0 1) ≡ true
+unfolding formOf stateFormed each joined nodes leaf fields onFirst past upTo bytesFrom bytes andThen byteIn counted stored storedFrom text times tableOf tableRead
+right-form = refl
+
+pub no-form : formOf (tableOf least) [] ≡ false
+unfolding formOf stateFormed each joined nodes leaf fields onFirst past upTo bytesFrom bytes andThen byteIn counted stored storedFrom text times tableOf tableRead
+no-form = refl
+
+-- a record of 16 values is taken, one of 17 is not
+pub sixteen-fit : carriedFits (tableOf least) (afterValues 16) ≡ true
+unfolding carriedFits each fields onFirst past upTo bytesFrom bytes andThen byteIn counted stored storedFrom text times tableOf tableRead
+sixteen-fit = refl
+
+pub seventeen-unfit : carriedFits (tableOf least) (afterValues 17) ≡ false
+unfolding carriedFits each fields onFirst past upTo bytesFrom bytes andThen byteIn counted stored storedFrom text times tableOf tableRead
+seventeen-unfit = refl

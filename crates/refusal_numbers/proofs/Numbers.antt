@@ -1,0 +1,153 @@
+-- Every number that demand 1 allows is given: the values' and the tables' as the crates beneath show, the others by example.
+use Prim.Native.Nat.{ℕ, _≤_, _<_}
+use mathlib.Core.Path.{_≡_, refl, sym, ap, _∙_}
+use mathlib.Core.Logic.{_⊎_, inl, inr}
+use mathlib.Core.Bool.{Bool, true, false, cond}
+use mathlib.Core.List.{List, []}
+use lib.Dec.{eqb, ltb, leb}
+use lib.ListN.{length}
+use borrow.Author.Tests.{leb-true, leb-false, eqb-true, eqb-false, eq-eqb, ne-eqb, lt-ltb}
+use native.Mathlib.Omega.{arith}
+use Rattle.alert_info.specs.Value.{refusalOf, urisOf, entryRefusalOf}
+use Rattle.alert_info.proofs.Examples.{each-number as each-value, each-entry-number as each-entry}
+use Rattle.resolution.specs.Build.{discovered}
+use Rattle.resolution.proofs.Theorems.{build-law}
+use Rattle.alert_urn.proofs.Fields.{byTest}
+use Rattle.machine_image.specs.Image.{machineImage}
+use Rattle.machine_image.specs.Refusals.{buildRefusal, formOf, checkOf}
+use Rattle.stored_table.specs.Tables.{tableOf, tableRefusal}
+use Rattle.stored_table.specs.Examples.{least}
+use Rattle.stored_table.proofs.Examples.{from-list, least-formed, each-number as each-table}
+use Rattle.carried_record.specs.Record.{fresh}
+use Rattle.carried_record.specs.declared.Carried.{Carried}
+use Rattle.machine_builder.specs.Built.{refused as without, builtOf}
+use Rattle.signal_table.specs.Built.{builtFrom, checkFrom}
+use Rattle.resolver.specs.declared.Resolution.{Resolution}
+use Rattle.resolver.specs.Resolve.{unlessRefused, refused, answered, directSignal, walkedSignal, plainOf, machineOf}
+use Rattle.resolver.specs.Feed.{feedOf}
+use Rattle.resolver.specs.Demands.{ValueNumber, EntryNumber, PlainNumber, MachineNumber, FeedNumber, BuildNumber, CheckNumber}
+use Rattle.refusal_numbers.specs.Numbers.{EachNumber, image, wrongImages, manyStates, afterValues}
+use Rattle.resolver.proofs.AnswerLaws.{value-refused, table-refused, none-refused}
+use Rattle.resolver.proofs.OneValueLaws.{one-value}
+use Rattle.resolver.proofs.FeedingLaws.{never-refused}
+use Rattle.refusal_numbers.proofs.NumberExamples.{many-formed, over-many, fits-room, no-room, right-image, wrong-images, right-form, no-form, sixteen-fit, seventeen-unfit}
+
+-- an accepted value
+value : (v : List ℕ) × (refusalOf v ≡ 0)
+value = each-value 0 (omega arith)
+
+-- a number up to 12 is a value's or a table's
+whose : (n : ℕ) → 1 ≤ n → n ≤ 12 → (n ≤ 3) ⊎ ((4 ≤ n) × (n ≤ 12))
+whose n h k = byTest (leb n 3) (λ e. inl (leb-true n 3 e)) (λ e. inr (omega (arith, leb-false n 3 e), k))
+
+-- the numbers that come before a resolver's own answer
+first-numbers : (r : (t v : List ℕ) → Resolution) (n : ℕ) → 1 ≤ n → n ≤ 12 → (t v : List ℕ) × (unlessRefused t v (r t v) .refusal ≡ n)
+first-numbers r n h k = go (whose n h k)
+  where
+    go : (n ≤ 3) ⊎ ((4 ≤ n) × (n ≤ 12)) → (t v : List ℕ) × (unlessRefused t v (r t v) .refusal ≡ n)
+    go (inl few) =
+        let v = each-value n few in
+        (least, v .0, sym (ap (λ (x : Resolution). x .refusal) (value-refused least (v .0) (r least (v .0)) (v .1) (omega arith))))
+    go (inr due) =
+        let t = each-table n (inr due) in
+        let e = table-refused (t .0) (value .0) (r (t .0) (value .0)) (value .1) (λ z. omega (arith, t .1, z)) in
+        (t .0, value .0, sym (ap (λ (x : Resolution). x .refusal) e) ∙ t .1)
+
+-- its own answer, where neither value nor table is refused
+own-number : (r : Resolution) → unlessRefused least (value .0) r .refusal ≡ r .refusal
+own-number r = sym (ap (λ (x : Resolution). x .refusal) (none-refused least (value .0) r (value .1) least-formed))
+
+plain-each : (n : ℕ) → PlainNumber n → (t v : List ℕ) × (plainOf t v .refusal ≡ n)
+unfolding plainOf
+plain-each n (inl e) = (least, value .0, own-number (answered least (urisOf (value .0)) (directSignal least (urisOf (value .0)))) ∙ sym e)
+plain-each n (inr h) = first-numbers (λ t v. answered t (urisOf v) (directSignal t (urisOf v))) n (h .0) (h .1)
+
+-- the machine resolver's own answer
+abbrev walked : List ℕ → List ℕ → List ℕ → Resolution
+walked im t v = cond (formOf (tableOf t) im) (answered t (urisOf v) (walkedSignal t im (urisOf v))) (refused 15)
+
+form-number : (im : List ℕ) (b : Bool) → formOf (tableOf least) im ≡ b
+    → walked im least (value .0) .refusal ≡ cond b (answered least (urisOf (value .0)) (walkedSignal least im (urisOf (value .0)))) (refused 15) .refusal
+form-number im b f = ap (λ (x : Bool). cond x (answered least (urisOf (value .0)) (walkedSignal least im (urisOf (value .0)))) (refused 15) .refusal) f
+
+machine-each : (n : ℕ) → MachineNumber n → (t im v : List ℕ) × (machineOf t im v .refusal ≡ n)
+unfolding machineOf
+machine-each n (inl e) = (least, image 0 1, value .0, own-number (walked (image 0 1) least (value .0)) ∙ form-number (image 0 1) true right-form ∙ sym e)
+machine-each n (inr (inl h)) = let r = first-numbers (walked []) n (h .0) (h .1) in (r .0, [], r .1, r .2)
+machine-each n (inr (inr e)) = (least, [], value .0, own-number (walked [] least (value .0)) ∙ form-number [] false no-form ∙ sym e)
+
+feed-each : (n : ℕ) → FeedNumber n → (t : List ℕ) × (r : Carried) × (v : List ℕ) × (feedOf t r v .answer .refusal ≡ n)
+feed-each n h = go h
+  where
+    of-value : (v : List ℕ) → feedOf least fresh v .answer .refusal ≡ refusalOf v
+    of-value v = one-value least fresh v .of-value least-formed (never-refused least least-formed .0) (λ z. omega arith)
+
+    both : (n ≤ 3) ⊎ ((4 ≤ n) × (n ≤ 12)) → (t : List ℕ) × (r : Carried) × (v : List ℕ) × (feedOf t r v .answer .refusal ≡ n)
+    both (inl few) = let v = each-value n few in (least, fresh, v .0, of-value (v .0) ∙ v .1)
+    both (inr due) =
+        let t = each-table n (inr due) in
+        (t .0, fresh, [], one-value (t .0) fresh [] .of-table (λ z. omega (arith, t .1, z)) ∙ t .1)
+
+    go : FeedNumber n → (t : List ℕ) × (r : Carried) × (v : List ℕ) × (feedOf t r v .answer .refusal ≡ n)
+    go (inl e) = (least, fresh, value .0, of-value (value .0) ∙ value .1 ∙ sym e)
+    go (inr (inl d)) = both (whose n (d .0) (d .1))
+    go (inr (inr (inl e))) = (least, afterValues 16, [], one-value least (afterValues 16) [] .seventeenth least-formed sixteen-fit refl ∙ sym e)
+    go (inr (inr (inr e))) = (least, afterValues 17, [], one-value least (afterValues 17) [] .of-record least-formed seventeen-unfit ∙ sym e)
+
+-- 13 is given to a table with many states
+over : builtFrom manyStates 0 .refusal ≡ 13
+unfolding builtFrom buildRefusal
+over =
+    ap (λ (b : Bool). cond b (builtOf (tableOf manyStates) 0) (without (tableRefusal manyStates)) .refusal) (eq-eqb (tableRefusal manyStates) 0 many-formed)
+    ∙ ap (λ (b : Bool). cond b 13 (cond (ltb 0 (length (machineImage (tableOf manyStates)))) 14 0))
+    (lt-ltb 256 (length (discovered (tableOf manyStates) 256)) (build-law (tableOf manyStates) 256 .found-over over-many))
+
+-- a refused table has its own number
+table-built : (t : List ℕ) (room : ℕ) → (tableRefusal t ≡ 0 → ⊥) → builtFrom t room .refusal ≡ tableRefusal t
+unfolding builtFrom
+table-built t room n = ap (λ (b : Bool). cond b (builtOf (tableOf t) room) (without (tableRefusal t)) .refusal) (ne-eqb (tableRefusal t) 0 n)
+
+table-checked : (t im : List ℕ) → (tableRefusal t ≡ 0 → ⊥) → checkFrom t im ≡ tableRefusal t
+unfolding checkFrom
+table-checked t im n = ap (λ (b : Bool). cond b (checkOf (tableOf t) im) (tableRefusal t)) (ne-eqb (tableRefusal t) 0 n)
+
+build-each : (n : ℕ) → BuildNumber n → (t : List ℕ) × (room : ℕ) × (builtFrom t room .refusal ≡ n)
+build-each n (inl e) = (least, 21, fits-room ∙ sym e)
+build-each n (inr h) = byTest (leb n 12) (λ q. of-table (leb-true n 12 q)) (λ q. of-states (leb-false n 12 q))
+  where
+    of-table : n ≤ 12 → (t : List ℕ) × (room : ℕ) × (builtFrom t room .refusal ≡ n)
+    of-table k = let t = each-table n (inr (h .0, k)) in (t .0, 0, table-built (t .0) 0 (λ z. omega (arith, t .1, z, h .0)) ∙ t .1)
+
+    of-states : 12 < n → (t : List ℕ) × (room : ℕ) × (builtFrom t room .refusal ≡ n)
+    of-states k =
+        byTest (eqb n 13)
+        (λ r. (manyStates, 0, over ∙ sym (eqb-true n 13 r)))
+        (λ r. let e : n ≡ 14 = omega (arith, h .1, k, eqb-false n 13 r) in (least, 20, no-room ∙ sym e))
+
+check-each : (n : ℕ) → CheckNumber n → (t im : List ℕ) × (checkFrom t im ≡ n)
+check-each n (inl e) = (least, image 0 1, right-image ∙ sym e)
+check-each n (inr (inl h)) = let t = each-table n (inr h) in (t .0, [], table-checked (t .0) [] (λ z. omega (arith, t .1, z, h .0)) ∙ t .1)
+check-each n (inr (inr h)) =
+    let im = from-list (checkFrom least) 15 3 wrongImages [] wrong-images n (h .0) (omega (arith, h .1)) in (least, im .0, im .1)
+
+pub each-number : EachNumber
+each-number =
+    record {
+      by-value = value-each;
+      by-entry = entry-each;
+      by-table = each-table;
+      by-plain = plain-each;
+      by-machine = machine-each;
+      by-feed = feed-each;
+      by-build = build-each;
+      by-check = check-each;
+    }
+  where
+    value-each : (n : ℕ) → ValueNumber n → (v : List ℕ) × (refusalOf v ≡ n)
+    value-each n (inl e) = each-value n (omega (arith, e))
+    value-each n (inr h) = each-value n (h .1)
+
+    entry-each : (n : ℕ) → EntryNumber n → (v : List ℕ) × (k : ℕ) × (entryRefusalOf v k ≡ n)
+    entry-each n (inl e) = each-entry n (inl (omega (arith, e)))
+    entry-each n (inr (inl h)) = each-entry n (inl (h .1))
+    entry-each n (inr (inr e)) = each-entry n (inr e)
