@@ -4,16 +4,15 @@ use mathlib.Core.Path.{_≡_, refl, sym, ap, ap₂, _∙_, subst}
 use mathlib.Core.Logic.{_⊎_, inl, inr}
 use mathlib.Core.Bool.{Bool, true, false, cond, _&&_, _||_, true≢false, and-eq-true-iff}
 use mathlib.Core.Option.{Option}
-use mathlib.Core.List.{List, _++_, map}
+use mathlib.Core.List.{List, _++_}
 use lib.Dec.{eqb, leb}
 use lib.ListN.{length, take, drop, length-map, length-take, take-append-drop}
 use lib.Seq.{take-all, take-at, take-take, length-take-le}
 use native.Mathlib.Omega.{arith}
 use native.Mathlib.Decide.{decLt}
-use borrow.Author.Tests.{eqb-true, eqb-false, leb-true, leb-false, eq-eqb, ne-eqb, le-leb, lt-leb}
+use borrow.Author.Tests.{eqb-true, eqb-false, leb-true, leb-false, le-leb}
 use Rattle.alert_info.specs.Value.{refusalOf, urisOf, partOf}
-use Rattle.alert_info.specs.Grammar.{White, Value}
-use Rattle.alert_info.proofs.ReadingLaws.{refusal-long}
+use Rattle.alert_info.specs.Grammar.{White}
 use Rattle.alert_info.proofs.Agree.{refused-exactly, accepted-list}
 use Rattle.resolution.specs.Table.{Urn, Table, WellFormed}
 use Rattle.resolution.specs.Direct.{direct, usedOf}
@@ -26,7 +25,7 @@ use Rattle.stored_table.specs.Tables.{tableRefusal, tableOf, categoryNames}
 use Rattle.stored_table.proofs.Accepting.{accepted}
 use Rattle.early.specs.FirstEntries.{frontFrom, urisIn, Begins}
 use Rattle.early.specs.Early.{takenAs, numberOf, refused, reached, enough, answerFor, readOf, earlyOf}
-use Rattle.early.specs.Claims.{stateAfter, ReadEnough, settled, ended, Needed, EarlyClaims, EarlyClaim}
+use Rattle.early.specs.Claims.{stateAfter, ReadEnough, settled, ended, Needed, EarlyClaim}
 use Rattle.early.specs.declared.Early.{Early}
 use Rattle.early.proofs.FrontLaws.{front-claims}
 use Rattle.early.proofs.TakenLaws.{taken-used, map-take, map-append}

@@ -8,7 +8,7 @@ use native.Mathlib.Omega.{arith}
 use lib.ListN.{length, take, drop}
 use Rattle.alert_info.specs.Walk.{halt, move}
 use Rattle.alert_info.specs.Parts.{entryAt}
-use Rattle.alert_info.specs.Value.{Reading, unfit, spans, add, readingFrom, readingOf, partOf}
+use Rattle.alert_info.specs.Value.{Reading, unfit, spans, add, readingFrom, partOf}
 use Rattle.alert_info.specs.Grammar.{White, Value}
 use Rattle.alert_info.specs.declared.cursor.Cursor.{Cursor}
 use Rattle.alert_info.specs.declared.alert_param.Span.{Span}

@@ -1,7 +1,7 @@
 -- Which URNs lead to another signal: only such as lead to a signal that differs from the current one in one category.
 use Prim.Native.Nat.{ℕ, _<_}
 use mathlib.Core.Path.{_≡_, refl, sym, ap, ap₂, _∙_}
-use mathlib.Core.Logic.{_⊎_, inl, inr, _≢_}
+use mathlib.Core.Logic.{_⊎_, inl, inr}
 use mathlib.Core.Bool.{Bool, true, false}
 use mathlib.Core.Option.{Option, none, some}
 use mathlib.Core.List.{List, [], _∷_, _++_, append-assoc, List·Memᴰ, List·Memᴰ·head, List·Memᴰ·tail, List·Memᴰ·not-nil, List·Memᴰ·cases-cons, List·Memᴰ·eq-of-singleton, Memᴰ·append-right}
@@ -12,7 +12,7 @@ use Rattle.resolution.specs.Names.{Name, Parts, sameParts, properAncestor, long
 use Rattle.resolution.specs.Table.{Urn, urn, Table, Row, rowOf, find, WellFormed}
 use Rattle.resolution.specs.Direct.{Status, Open, Held, Shut, State, Env, Hit, envOf, firstHit, takesUrn, move, step, StateOf, Used}
 use Rattle.resolution.specs.Settled.{isSettled}
-use Rattle.resolution.proofs.Names.{name-exact, parts-exact, longer-append, longer-first, Strict, in-longer, above-root, proper-to, proper-of, proper-above, proper-rest}
+use Rattle.resolution.proofs.Names.{name-exact, parts-exact, longer-append, longer-first, in-longer, above-root, proper-to, proper-of, proper-above, proper-rest}
 use Rattle.resolution.proofs.Table.{find-sound, find-below, row-length}
 use Rattle.resolution.proofs.Direct.{search-hit, Moved, step-view}
 use Rattle.resolution.proofs.Step.{step-still, step-shut, step-takes}

@@ -1,5 +1,5 @@
 -- Laws of the test of a state on node numbers, each from the tests that lead to it.
-use Prim.Native.Nat.{ℕ, suc, _+_, _-_, _≤_, _<_}
+use Prim.Native.Nat.{ℕ, _+_, _-_, _≤_, _<_}
 use mathlib.Core.Path.{_≡_, refl, sym, ap, ap₂, _∙_}
 use mathlib.Core.Bool.{Bool, true, false, cond, _&&_}
 use mathlib.Core.List.{List}
@@ -15,7 +15,7 @@ use Rattle.node_step.specs.StatusByte.{samePacked, stepPacked}
 use Rattle.node_step.specs.Uses.{fewer}
 use Rattle.node_step.specs.declared.stored.Packed.{Packed}
 use Rattle.node_step.proofs.PackedStep.{packed-exact}
-use Rattle.early.specs.SettledBy.{keepsAt, beside, besideKeeps, signalKeeps, heldKeeps, categoryKeeps, settledBy}
+use Rattle.early.specs.SettledBy.{keepsAt, beside, besideKeeps, signalKeeps, heldKeeps, categoryKeeps}
 
 -- a row of tests
 module _ (f : ℕ → Bool) (n k : ℕ) {m : ℕ} (is : m ≡ n) where

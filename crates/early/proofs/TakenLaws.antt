@@ -9,7 +9,7 @@ use lib.ListN.{length, take, drop}
 use native.Mathlib.Omega.{arith}
 use Rattle.resolution.specs.Lists.{memberBy, indexBy}
 use Rattle.resolution.specs.Names.{Name, Parts, sameName}
-use Rattle.resolution.specs.Table.{Urn, Table}
+use Rattle.resolution.specs.Table.{Urn}
 use Rattle.resolution.specs.Direct.{usedOf, Used, AllUsed}
 use Rattle.resolution.proofs.Lists.{index-member}
 use Rattle.resolution.proofs.Names.{name-exact}

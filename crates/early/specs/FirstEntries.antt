@@ -21,6 +21,7 @@ pub record Front : Type 0 where
   pub parts : List Span
   pub ended : Bool
 
+-- no entry; the last entry; an entry before others
 abbrev pub nothing : Front
 nothing = record { parts = []; ended = false }
 
@@ -30,6 +31,7 @@ only p = record { parts = p ∷ []; ended = true }
 abbrev pub before : Span → Front → Front
 before p f = record { parts = p ∷ f .parts; ended = f .ended }
 
+-- what is read at a position, by what the reader finds there
 abbrev pub frontMove : Found → Move Front
 frontMove (Last p) = halt (only p)
 frontMove (More p c) = move (before p) (c .at)

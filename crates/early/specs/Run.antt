@@ -25,9 +25,11 @@ abbrev pub afterUse : List ℕ → List ℕ → List Bool → ℕ → Packed →
 afterUse rows ps inner n st Skipped = st
 afterUse rows ps inner n st (Used c k w m) = stepPacked rows ps inner n st c k w
 
+-- the same by the URI
 unfoldable pub afterUri : List ℕ → Decoded → Packed → List ℕ → Packed
 afterUri t d st uri = afterUse (d .rows) (d .parent) (d .inner) (d .signals) st (useIn t d uri)
 
+-- the state is settled, by the decoded table
 abbrev pub settledIn : Decoded → Packed → Bool
 settledIn d st = settledBy (d .rows) (d .parent) (d .inner) (d .signals) (d .categories) st
 

@@ -1,5 +1,4 @@
 use mathlib.Core.Path.{_∙_}
-use borrow.Author.Tests.{not-true, not-false}
 use Rattle.early.proofs.AnswerLaws.{early-long, early-table, early-enough, early-else}
 use borrow.Author.Needs.{needs}
 use Rattle.early.proofs.by.Statement.{statement}

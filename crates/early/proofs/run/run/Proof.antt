@@ -2,8 +2,8 @@ use mathlib.Core.Logic.{⊎-elim}
 use borrow.Author.Tests.{not-false}
 use Rattle.early.proofs.RunLaws.{run-start}
 use Rattle.early.proofs.SettledLaws.{same-settled}
-use mathlib.Core.Path.{_≡_, sym, ap, _∙_}
-use Prim.Native.Nat.{ℕ, _≤_, _-_}
+use mathlib.Core.Path.{_≡_, _∙_}
+use Prim.Native.Nat.{_≤_, _-_}
 use lib.ListN.{length}
 use native.Mathlib.Omega.{arith}
 use Rattle.early.specs.Run.{settledIn, runFrom}

@@ -1,5 +1,4 @@
 use Rattle.early.proofs.SettledLaws.{same-no, same-rest}
-use borrow.Author.Needs.{needs}
 use Rattle.early.proofs.run.same.Statement.{statement}
 use Rattle.early.proofs.run.same.Tie as tie
 use Rattle.early.proofs.run.same.Reads as reads
