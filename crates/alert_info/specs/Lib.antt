@@ -1,8 +1,11 @@
+-- what a reader has to believe
 pub mod Bytes
 pub mod Grammar
+-- what is claimed of it
+pub mod Claims
+pub mod Examples
+-- what only the code's inner promises use; the claims tie it to the grammar
 pub mod Walk
 pub mod Parts
 pub mod Value
 pub mod Pass
-pub mod Claims
-pub mod Examples

@@ -5,15 +5,15 @@ use mathlib.Core.Logic.{_⊎_, inl, inr}
 use mathlib.Core.Bool.{Bool, true, false, not, _&&_, _||_, and-true, and-eq-true-iff}
 use mathlib.Core.List.{List, [], _∷_, map}
 use native.Mathlib.Omega.{arith}
-use native.Mathlib.Nat.{zero-add}
 use native.Mathlib.Numerals.{add-one}
 use lib.ListN.{length, getD, drop, drop-of-length-le}
 use lib.Seq.{drop-cons}
 use lib.Dec.{eqb, ltb, leb}
-use borrow.Author.Tests.{eq-eqb, ne-eqb, eqb-true, eqb-false, leb-true, ltb-true, le-leb}
+use borrow.Author.Tests.{eq-eqb, ne-eqb, eqb-true, eqb-false, leb-true, lt-ltb, le-ltb, ltb-true, le-leb}
 use Rattle.resolution.specs.Names.{sameName}
-use Rattle.alert_urn.specs.Text.{within, all, labelByte, labelOk, upTo, past, nameOk, onFirst, fields, common, endsAt}
+use Rattle.alert_urn.specs.Text.{within, all, labelByte, labelOk, upTo, past, nameOk, onFirst, fields, differAt, endsAt}
 use Rattle.alert_urn.specs.Urn.{lower, lowered, notCapital, noCapital, begins, bytes, restOk, alertUrn, storedName}
+use Rattle.resolution.proofs.Names.{name-exact}
 use Rattle.alert_urn.proofs.Fields.{byTest}
 use Rattle.alert_urn.proofs.Turns.{same-lengths}
 
@@ -55,27 +55,6 @@ lowered-below [] h k = h k
 lowered-below (x ∷ s) h zero = lower-below x (h 0)
 lowered-below (x ∷ s) h (suc k) = lowered-below s (λ j. h (suc j)) k
 
--- texts of one length are equal if all their bytes are common
-pub same-common : (s p : List ℕ) → length p ≡ length s → eqb (common p s) (length p) ≡ sameName s p
-unfolding common
-same-common [] [] h = refl
-same-common [] (y ∷ p) h = absurd (omega arith)
-same-common (x ∷ s) [] h = absurd (omega arith)
-same-common (x ∷ s) (y ∷ p) h =
-    byTest (eqb x y)
-    (λ e.
-    let f : eqb y x ≡ true = eq-eqb y x (sym (eqb-true x y e)) in
-    rw (e, f) (same-suc (common p s) (length p) ∙ same-common s p (omega arith)))
-    (λ e.
-    let f : eqb y x ≡ false = ne-eqb y x (λ q. eqb-false x y e (sym q)) in
-    rw (e, f) (ne-eqb 0 (suc (length p)) (λ q. omega arith)))
-  where
-    same-suc : (n m : ℕ) → eqb (suc n) (suc m) ≡ eqb n m
-    same-suc n m =
-        byTest (eqb n m)
-        (λ e. rw (e, eq-eqb (suc n) (suc m) (ap suc (eqb-true n m e))))
-        (λ e. rw (e, ne-eqb (suc n) (suc m) (λ z. eqb-false n m e (omega arith))))
-
 -- colons stay where they are
 pub lowered-upTo : (c : ℕ) → c < 97 → (c < 65) ⊎ (90 < c) → (s : List ℕ) → upTo c (lowered s) ≡ lowered (upTo c s)
 unfolding lowered upTo
@@ -99,6 +78,20 @@ lowered-ends w n =
     byTest (ltb n (length w))
     (λ e. rw (lowered-length w, e, lowered-at w n (ltb-true n (length w) e)) (lower-other 58 (getD w n 0) (omega arith) (inl (omega arith))))
     (λ e. rw (lowered-length w, e))
+
+-- two texts at one place
+module _ (p s : List ℕ) (n : ℕ) where
+  pub differ-short : length p ≤ n → false ≡ differAt p (lowered s) n
+  unfolding differAt
+  differ-short h = sym (rw (le-ltb n (length p) h))
+
+  pub differ-over : n < length p → length s ≤ n → false ≡ differAt p (lowered s) n
+  unfolding differAt
+  differ-over h k = sym (rw (lt-ltb n (length p) h, lowered-length s, le-ltb n (length s) k))
+
+  pub differ-there : {y : ℕ} → n < length p → n < length s → y ≡ lower (getD s n 0) → not (eqb (getD p n 0) y) ≡ differAt p (lowered s) n
+  unfolding differAt
+  differ-there h k e = ap (λ z. not (eqb (getD p n 0) z)) (e ∙ sym (lowered-at s n k)) ∙ sym (rw (lt-ltb n (length p) h, lowered-length s, lt-ltb n (length s) k))
 
 -- no capital letter so far
 module _ (s : List ℕ) (i : ℕ) (a : Bool) (v : noCapital s ≡ (not a && all notCapital (drop i s))) where
@@ -137,8 +130,27 @@ name-capital s e t = sym (rw (sym e ∙ t))
 pub small-byte : (s : List ℕ) (i : ℕ) {r : ℕ} → i < length s → getD s i 0 < 256 → r ≡ lower (getD s i 0) → (r ≡ getD (lowered s) i 0) × (r < 256)
 small-byte s i h b e = (e ∙ sym (lowered-at s i h), omega (arith, e, lower-below (getD s i 0) b))
 
-pub small-same : (s p : List ℕ) {n : ℕ} → length p ≡ length s → n ≡ 0 + common p (lowered s) → eqb n (length p) ≡ sameName (lowered s) p
-small-same s p h e = ap (λ z. eqb z (length p)) (e ∙ zero-add (common p (lowered s))) ∙ same-common (lowered s) p (h ∙ sym (lowered-length s))
+-- two texts of one length, compared from the end
+module _ (s p : List ℕ) (e : length p ≡ length s) where
+  pub small-start-end : drop (length p) (lowered s) ≡ drop (length p) p
+  small-start-end = drop-of-length-le (lowered s) {i = length p} (omega (arith, e, lowered-length s)) ∙ sym (drop-of-length-le p {i = length p} (omega arith))
+
+  pub small-before : (i : ℕ) {y : ℕ} → 0 < i → i ≤ length p → drop i (lowered s) ≡ drop i p → y ≡ lower (getD s (i - 1) 0) → getD p (i - 1) 0 ≡ y
+      → drop (i - 1) (lowered s) ≡ drop (i - 1) p
+  small-before i z h v f g =
+      let m : suc (i - 1) ≡ i = omega arith in
+      drop-cons (lowered s) (i - 1) 0 (omega (arith, e, lowered-length s))
+      ∙ ap₂ (λ (x : ℕ) (l : List ℕ). x ∷ l) (lowered-at s (i - 1) (omega arith) ∙ sym f ∙ sym g) (ap (λ k. drop k (lowered s)) m ∙ v ∙ ap (λ k. drop k p) (sym m))
+      ∙ sym (drop-cons p (i - 1) 0 (omega arith))
+
+  pub small-other : (k : ℕ) {y : ℕ} → k < length p → y ≡ lower (getD s k 0) → (getD p k 0 ≡ y → ⊥) → false ≡ sameName (lowered s) p
+  small-other k h f g = byTest (sameName (lowered s) p)
+      (λ b. absurd (g (ap (λ l. getD l k 0) (sym (name-exact .to (lowered s) p b)) ∙ lowered-at s k (omega arith) ∙ sym f)))
+      (λ b. sym b)
+
+pub small-same : (s p : List ℕ) (i : ℕ) → i ≤ 0 → drop i (lowered s) ≡ drop i p → true ≡ sameName (lowered s) p
+small-same s p zero h v = sym (ap (sameName (lowered s)) (sym v) ∙ name-exact .self (lowered s))
+small-same s p (suc i) h v = absurd (omega arith)
 
 pub small-lengths : (s p : List ℕ) → (length p ≡ length s → ⊥) → false ≡ sameName (lowered s) p
 small-lengths s p n = same-lengths (lowered s) p (λ e. n (sym e ∙ lowered-length s))

@@ -10,41 +10,42 @@ use lib.ListN.{length, getD, take, drop}
 use lib.Seq.{drop-cons, drop-length, take-all, length-take-le, getD-take}
 use lib.Dec.{eqb, leb}
 use borrow.Author.Tests.{eq-eqb, ne-eqb, leb-true}
-use Rattle.alert_urn.specs.Text.{all, within, labelByte, labelRun, labelOk, upTo, past, nameOk, nameLength}
+use Rattle.alert_urn.specs.Text.{all, within, labelByte, runBy, labelOk, upTo, past, nameOk, lengthBy}
 use Rattle.alert_urn.proofs.Fields.{byTest, upTo-take}
 
 -- the run, one byte further
-pub run-more : (s : List ℕ) (i : ℕ) {b : Bool} → i < length s → b ≡ labelByte (getD s i 0) → b ≡ true → labelRun (drop i s) ≡ suc (labelRun (drop (i + 1) s))
-unfolding labelRun
-run-more s i h e t = rw (add-one, drop-cons s i 0, ← e, t)
+module _ (p : ℕ → Bool) (s : List ℕ) (i : ℕ) where
+  pub run-more : {b : Bool} → i < length s → b ≡ p (getD s i 0) → b ≡ true → runBy p (drop i s) ≡ suc (runBy p (drop (i + 1) s))
+  unfolding runBy
+  run-more h e t = rw (add-one, drop-cons s i 0, ← e, t)
 
-pub run-stop : (s : List ℕ) (i : ℕ) {b : Bool} → i < length s → b ≡ labelByte (getD s i 0) → b ≡ false → labelRun (drop i s) ≡ 0
-unfolding labelRun
-run-stop s i h e t = rw (drop-cons s i 0, ← e, t)
+  pub run-stop : {b : Bool} → i < length s → b ≡ p (getD s i 0) → b ≡ false → runBy p (drop i s) ≡ 0
+  unfolding runBy
+  run-stop h e t = rw (drop-cons s i 0, ← e, t)
 
-pub run-end : (s : List ℕ) (i : ℕ) → length s ≤ i → i ≤ length s → labelRun (drop i s) ≡ 0
-unfolding labelRun
-run-end s i h k = let e : i ≡ length s = omega arith in rw (e, drop-length)
+  pub run-end : length s ≤ i → i ≤ length s → runBy p (drop i s) ≡ 0
+  unfolding runBy
+  run-end h k = let e : i ≡ length s = omega arith in rw (e, drop-length)
 
 -- the run ends within the text
-pub run-le : (s : List ℕ) → labelRun s ≤ length s
-unfolding labelRun
-run-le [] = omega arith
-run-le (x ∷ xs) = byTest (labelByte x) (λ e. simp e (omega (arith, run-le xs))) (λ e. simp e (omega arith))
+pub run-le : (p : ℕ → Bool) (s : List ℕ) → runBy p s ≤ length s
+unfolding runBy
+run-le p [] = omega arith
+run-le p (x ∷ xs) = byTest (p x) (λ e. simp e (omega (arith, run-le p xs))) (λ e. simp e (omega arith))
 
 -- its bytes may stand in a label
-run-all : (s : List ℕ) → all labelByte (take (labelRun s) s) ≡ true
-unfolding labelRun all
+run-all : (s : List ℕ) → all labelByte (take (runBy labelByte s) s) ≡ true
+unfolding runBy all
 run-all [] = refl
 run-all (x ∷ xs) = byTest (labelByte x) (λ e. simp (e, run-all xs)) (λ e. simp e)
 
 -- a text that goes on after the run is no label
-run-short : (s : List ℕ) → labelRun s < length s → all labelByte s ≡ false
-unfolding labelRun all
+run-short : (s : List ℕ) → runBy labelByte s < length s → all labelByte s ≡ false
+unfolding runBy all
 run-short [] h = absurd (omega arith)
 run-short (x ∷ xs) h =
     byTest (labelByte x)
-    (λ e. let k : labelRun xs < length xs = omega (arith, simp e at h) in simp (e, run-short xs k))
+    (λ e. let k : runBy labelByte xs < length xs = omega (arith, simp e at h) in simp (e, run-short xs k))
     (λ e. simp e)
 
 -- a byte that no label has is none of a label's
@@ -52,8 +53,8 @@ other-byte : (c x : ℕ) → labelByte c ≡ false → labelByte x ≡ true → 
 other-byte c x n e = ne-eqb x c (λ q. false≢true (sym n ∙ ap labelByte (sym q) ∙ e))
 
 -- before a colon or the end the run is what stands up to the colon
-run-upTo : (s : List ℕ) → (labelRun s < length s → getD s (labelRun s) 0 ≡ 58) → upTo 58 s ≡ take (labelRun s) s
-unfolding labelRun upTo labelByte
+pub run-upTo : (s : List ℕ) → (runBy labelByte s < length s → getD s (runBy labelByte s) 0 ≡ 58) → upTo 58 s ≡ take (runBy labelByte s) s
+unfolding runBy upTo labelByte
 run-upTo [] h = refl
 run-upTo (x ∷ xs) h =
     byTest (labelByte x)
@@ -73,21 +74,21 @@ unfolding labelOk
 none-label = refl
 
 -- of label bytes a name is a label
-label-name : (l : List ℕ) → all labelByte l ≡ true → nameOk l ≡ labelOk l
+pub label-name : (l : List ℕ) → all labelByte l ≡ true → nameOk l ≡ labelOk l
 unfolding nameOk
 label-name l h = simp (no-at l h, none-label, and-false, or-false)
 
 -- a name is not empty
-name-some : (l : List ℕ) → nameOk l ≡ true → 0 < length l
+pub name-some : (l : List ℕ) → nameOk l ≡ true → 0 < length l
 unfolding nameOk labelOk upTo past
 name-some [] h = absurd (false≢true h)
 name-some (x ∷ xs) h = omega arith
 
-module _ (s : List ℕ) (n : ℕ) (e : n ≡ labelRun s) where
+module _ (s : List ℕ) (n : ℕ) (e : n ≡ runBy labelByte s) where
   pub run-fits : n ≤ length s
-  run-fits = omega (arith, run-le s)
+  run-fits = omega (arith, run-le labelByte s)
 
-  bytes-fit : all labelByte (take n s) ≡ true
+  pub bytes-fit : all labelByte (take n s) ≡ true
   bytes-fit = rw e (run-all s)
 
   -- the run is a label by its length and its ends
@@ -111,37 +112,37 @@ module _ (s : List ℕ) (n : ℕ) (e : n ≡ labelRun s) where
 
   -- the name at the front is the run where a colon or the end follows
   module _ (h : n < length s → getD s n 0 ≡ 58) {b : Bool} (f : b ≡ labelOk (take n s)) where
-    run-name : nameLength s ≡ cond b n 0
-    unfolding nameLength
+    run-name : lengthBy nameOk s ≡ cond b n 0
+    unfolding lengthBy
     run-name =
         let u : upTo 58 s ≡ take n s = rw (run-upTo s (rw e at h), e) in
         simp (u, label-name (take n s) bytes-fit, ← f, length-take-le n s run-fits)
 
-    pub run-named : b ≡ true → n ≡ nameLength s
+    pub run-named : b ≡ true → n ≡ lengthBy nameOk s
     run-named t = sym (run-name ∙ simp t)
 
-    pub run-unnamed : b ≡ false → 0 ≡ nameLength s
+    pub run-unnamed : b ≡ false → 0 ≡ lengthBy nameOk s
     run-unnamed t = sym (run-name ∙ simp t)
 
 -- the name at the front by the bytes up to the first colon
-module _ (s : List ℕ) (k : ℕ) (e : k ≡ length (upTo 58 s)) {b : Bool} (f : b ≡ nameOk (take (k - 0) (drop 0 s))) where
-  front : b ≡ nameOk (upTo 58 s)
-  front = f ∙ ap nameOk (simp (sub-zero, e) (upTo-take 58 s))
+module _ (ok : List ℕ → Bool) (s : List ℕ) (k : ℕ) (e : k ≡ length (upTo 58 s)) {b : Bool} (f : b ≡ ok (take (k - 0) (drop 0 s))) where
+  front : b ≡ ok (upTo 58 s)
+  front = f ∙ ap ok (simp (sub-zero, e) (upTo-take 58 s))
 
-  pub front-named : b ≡ true → k ≡ nameLength s
-  unfolding nameLength
+  pub front-named : b ≡ true → k ≡ lengthBy ok s
+  unfolding lengthBy
   front-named t = e ∙ sym (simp (← front, t))
 
-  pub front-unnamed : b ≡ false → 0 ≡ nameLength s
-  unfolding nameLength
+  pub front-unnamed : b ≡ false → 0 ≡ lengthBy ok s
+  unfolding lengthBy
   front-unnamed t = sym (simp (← front, t))
 
 -- what the length of a name tells of it
-pub length-bad : (s : List ℕ) → nameLength s ≡ 0 → nameOk (upTo 58 s) ≡ false
-unfolding nameLength
-length-bad s e =
-    byTest (nameOk (upTo 58 s)) (λ t. absurd (omega (arith, name-some (upTo 58 s) t, simp t at e))) (λ t. t)
+module _ (ok : List ℕ → Bool) (some : (l : List ℕ) → ok l ≡ true → 0 < length l) (s : List ℕ) where
+  pub length-bad : lengthBy ok s ≡ 0 → ok (upTo 58 s) ≡ false
+  unfolding lengthBy
+  length-bad e = byTest (ok (upTo 58 s)) (λ t. absurd (omega (arith, some (upTo 58 s) t, simp t at e))) (λ t. t)
 
-pub length-good : (s : List ℕ) → (nameLength s ≡ 0 → ⊥) → (nameOk (upTo 58 s) ≡ true) × (nameLength s ≡ length (upTo 58 s))
-unfolding nameLength
-length-good s n = byTest (nameOk (upTo 58 s)) (λ t. (t, simp t)) (λ t. absurd (n (simp t)))
+  pub length-good : (lengthBy ok s ≡ 0 → ⊥) → (ok (upTo 58 s) ≡ true) × (lengthBy ok s ≡ length (upTo 58 s))
+  unfolding lengthBy
+  length-good n = byTest (ok (upTo 58 s)) (λ t. (t, simp t)) (λ t. absurd (n (simp t)))

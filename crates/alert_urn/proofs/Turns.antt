@@ -1,7 +1,7 @@
 -- Laws of the text definitions at a turn of a loop: one byte or one name further.
 use Prim.Native.Nat.{ℕ, suc, zero, _+_, _*_, _-_, _≤_, _<_, min}
 use mathlib.Core.Path.{_≡_, refl, ap, sym, _∙_}
-use mathlib.Core.Bool.{Bool, true, false, cond, _&&_, and-false, and-true, and-eq-true-iff}
+use mathlib.Core.Bool.{Bool, true, false, cond, not, _&&_, and-false, and-true, and-eq-true-iff}
 use mathlib.Core.List.{List, [], _∷_, _++_}
 use native.Mathlib.Numerals.{add-one}
 use native.Mathlib.Omega.{arith}
@@ -10,11 +10,11 @@ use native.Mathlib.Decide.{decLe}
 use lib.ListN.{length, getD, take, drop, length-drop, drop-of-length-le, take-append-drop}
 use lib.Seq.{drop-cons, drop-length, take-all, take-nil}
 use lib.Dec.{eqb, ltb, leb}
-use borrow.Author.Tests.{eq-eqb, ne-eqb, eqb-true, eqb-false, leb-true, lt-ltb, le-ltb, ltb-true, ltb-false}
+use borrow.Author.Tests.{eq-eqb, ne-eqb, eqb-true, eqb-false, leb-true, lt-ltb, le-ltb, ltb-true, ltb-false, not-true}
 use Rattle.resolution.specs.Names.{sameName}
 use Rattle.resolution.proofs.Names.{name-exact}
-use Rattle.alert_urn.specs.Text.{all, within, upTo, past, fields, nameOk, nameLength, labelOk, covers, wordOf, common, commonNext, comparedBytes, endsAt}
-use Rattle.alert_urn.specs.Urn.{bytes, bytesFrom, lower, noCapital, begins, namesIn, restOk, alertUrn, urnOk}
+use Rattle.alert_urn.specs.Text.{all, within, upTo, past, fields, nameOk, lengthBy, labelOk, covers, wordOf, common, commonNext, differAt, comparedBytes, endsAt}
+use Rattle.alert_urn.specs.Urn.{bytes, bytesFrom, lower, begins, namesBy, restOk, alertUrn}
 use Rattle.alert_urn.proofs.Fields.{byTest, upTo-take, upTo-le, past-drop, past-at, part-end, fields-first, fields-more, fields-last, coversBytes, covers-fields}
 use Rattle.alert_urn.proofs.Runs.{length-bad, length-good}
 
@@ -188,6 +188,15 @@ pub next-lesser : (p w : List ℕ) (k l : ℕ) {r : ℕ} → (k ≡ l → ⊥) �
 unfolding commonNext
 next-lesser p w k l e f = f ∙ sym (ap (λ b. cond b (k + common (drop k p) (drop k w)) (min k l)) (ne-eqb k l e))
 
+-- texts that agree up to a byte, and differ there
+pub differ-next : (p w : List ℕ) (n : ℕ) → differAt p w n ≡ true → (n < length p) × (commonNext p w n n ≡ n)
+unfolding differAt commonNext common
+differ-next p w n e =
+    let a = and-eq-true-iff (ltb n (length p)) (ltb n (length w) && not (eqb (getD p n 0) (getD w n 0))) .0 e in
+    let b = and-eq-true-iff (ltb n (length w)) (not (eqb (getD p n 0) (getD w n 0))) .0 (a .1) in
+    let h = ltb-true n (length p) (a .0) in
+    (h, rw (eq-eqb n n refl, drop-cons p n 0 h, drop-cons w n 0 (ltb-true n (length w) (b .0)), not-true (eqb (getD p n 0) (getD w n 0)) (b .1)) (add-zero n))
+
 -- not more than there are
 pub common-le : (p w : List ℕ) → common p w ≤ length w
 unfolding common
@@ -306,64 +315,57 @@ module _ (w s : List ℕ) (i : ℕ) {b : Bool} (v : b ≡ begins (drop i w) (dro
   begins-end h = sym (v ∙ rw (drop-of-length-le w {i = i} h))
 
 -- the names of a text, with n already read
-unfoldable pub namesFrom : ℕ → List ℕ → ℕ
-namesFrom n s = cond (all nameOk (fields 58 s)) (n + length (fields 58 s)) 0
+module _ (ok : List ℕ → Bool) where
+  unfoldable pub namesFrom : ℕ → List ℕ → ℕ
+  namesFrom n s = cond (all ok (fields 58 s)) (n + length (fields 58 s)) 0
 
-pub names-start : (s : List ℕ) → namesIn s ≡ namesFrom 0 s
-unfolding namesIn namesFrom
-names-start s = simp zero-add
+  pub names-start : (s : List ℕ) → namesBy ok s ≡ namesFrom 0 s
+  unfolding namesBy namesFrom
+  names-start s = simp zero-add
 
-names-bad : (n : ℕ) (s : List ℕ) → nameOk (upTo 58 s) ≡ false → 0 ≡ namesFrom n s
-unfolding namesFrom all
-names-bad n s t = simp (fields-first 58 s .1, t)
+  names-bad : (n : ℕ) (s : List ℕ) → ok (upTo 58 s) ≡ false → 0 ≡ namesFrom n s
+  unfolding namesFrom all
+  names-bad n s t = simp (fields-first 58 s .1, t)
 
-names-last : (n : ℕ) (s : List ℕ) → length s ≤ length (upTo 58 s) → nameOk (upTo 58 s) ≡ true → n + 1 ≡ namesFrom n s
-unfolding namesFrom all
-names-last n s h t = simp (fields-last 58 s h, t)
+  names-last : (n : ℕ) (s : List ℕ) → length s ≤ length (upTo 58 s) → ok (upTo 58 s) ≡ true → n + 1 ≡ namesFrom n s
+  unfolding namesFrom all
+  names-last n s h t = simp (fields-last 58 s h, t)
 
-names-more : (n : ℕ) (s : List ℕ) → length (upTo 58 s) < length s → nameOk (upTo 58 s) ≡ true → namesFrom n s ≡ namesFrom (n + 1) (past 58 s)
-unfolding namesFrom all
-names-more n s h t =
-    let l = length (fields 58 (past 58 s)) in
-    let k : n + suc l ≡ n + 1 + l = omega arith in
-    simp (fields-more 58 s h, t, k)
+  names-more : (n : ℕ) (s : List ℕ) → length (upTo 58 s) < length s → ok (upTo 58 s) ≡ true → namesFrom n s ≡ namesFrom (n + 1) (past 58 s)
+  unfolding namesFrom all
+  names-more n s h t =
+      let l = length (fields 58 (past 58 s)) in
+      let k : n + suc l ≡ n + 1 + l = omega arith in
+      simp (fields-more 58 s h, t, k)
 
--- one name, read from `at`: k bytes long, or of bad form
-module _ (s : List ℕ) (at k : ℕ) (e : k ≡ nameLength (take (length s - at) (drop at s))) where
-  rest : k ≡ nameLength (drop at s)
-  rest = rw part-end at e
+  -- one name, read from `at`: k bytes long, or of bad form
+  module _ (some : (l : List ℕ) → ok l ≡ true → 0 < length l) (s : List ℕ) (at k : ℕ) (e : k ≡ lengthBy ok (take (length s - at) (drop at s))) where
+    rest : k ≡ lengthBy ok (drop at s)
+    rest = rw part-end at e
 
-  pub names-stop : (n : ℕ) → namesIn s ≡ namesFrom n (drop at s) → k ≡ 0 → 0 ≡ namesIn s
-  names-stop n v z = names-bad n (drop at s) (length-bad (drop at s) (sym rest ∙ z)) ∙ sym v
+    pub names-stop : (n : ℕ) → namesBy ok s ≡ namesFrom n (drop at s) → k ≡ 0 → 0 ≡ namesBy ok s
+    names-stop n v z = names-bad n (drop at s) (length-bad ok some (drop at s) (sym rest ∙ z)) ∙ sym v
 
-  module _ (f : k ≡ 0 → ⊥) where
-    good : (nameOk (upTo 58 (drop at s)) ≡ true) × (nameLength (drop at s) ≡ length (upTo 58 (drop at s)))
-    good = length-good (drop at s) (λ z. f (rest ∙ z))
+    module _ (f : k ≡ 0 → ⊥) where
+      good : (ok (upTo 58 (drop at s)) ≡ true) × (lengthBy ok (drop at s) ≡ length (upTo 58 (drop at s)))
+      good = length-good ok some (drop at s) (λ z. f (rest ∙ z))
 
-    pub field-le : at ≤ length s → at + k ≤ length s
-    field-le h = omega (arith, rest, good .1, upTo-le 58 (drop at s), length-drop at s)
+      pub field-le : at ≤ length s → at + k ≤ length s
+      field-le h = omega (arith, rest, good .1, upTo-le 58 (drop at s), length-drop at s)
 
-    module _ (n : ℕ) (v : namesIn s ≡ namesFrom n (drop at s)) where
-      pub names-step : at + k < length s → namesIn s ≡ namesFrom (n + 1) (drop (at + k + 1) s)
-      names-step h =
-          v ∙ names-more n (drop at s) (omega (arith, rest, good .1, length-drop at s)) (good .0)
-          ∙ ap (namesFrom (n + 1)) (sym (past-at 58 s at k (rest ∙ good .1)))
+      module _ (n : ℕ) (v : namesBy ok s ≡ namesFrom n (drop at s)) where
+        pub names-step : at + k < length s → namesBy ok s ≡ namesFrom (n + 1) (drop (at + k + 1) s)
+        names-step h =
+            v ∙ names-more n (drop at s) (omega (arith, rest, good .1, length-drop at s)) (good .0)
+            ∙ ap (namesFrom (n + 1)) (sym (past-at 58 s at k (rest ∙ good .1)))
 
-      pub names-done : length s ≤ at + k → n + 1 ≡ namesIn s
-      names-done h = names-last n (drop at s) (omega (arith, rest, good .1, length-drop at s)) (good .0) ∙ sym v
+        pub names-done : length s ≤ at + k → n + 1 ≡ namesBy ok s
+        names-done h = names-last n (drop at s) (omega (arith, rest, good .1, length-drop at s)) (good .0) ∙ sym v
 
 -- the forms, by the number of names
-pub rest-names : (s : List ℕ) {n : ℕ} → n ≡ namesIn s → leb 2 n ≡ restOk s
-unfolding namesIn restOk
+pub rest-names : (s : List ℕ) {n : ℕ} → n ≡ namesBy nameOk s → leb 2 n ≡ restOk s
+unfolding namesBy restOk
 rest-names s e = byTest (all nameOk (fields 58 s)) (λ t. simp (e, t, and-true)) (λ t. simp (e, t, and-false))
-
-pub urn-names : (s : List ℕ) {n : ℕ} {a : Bool} → a ≡ noCapital s → a ≡ true → n ≡ namesIn s → within 2 9 n ≡ urnOk s
-unfolding namesIn urnOk
-urn-names s f q e = byTest (all nameOk (fields 58 s)) (λ t. simp (e, t, and-true, sym f ∙ q)) (λ t. simp (e, t, and-false, sym f ∙ q))
-
-pub urn-capital : (s : List ℕ) {a : Bool} → a ≡ noCapital s → a ≡ false → false ≡ urnOk s
-unfolding urnOk
-urn-capital s f q = sym (rw (sym f ∙ q))
 
 -- the form of a URI
 pub alert-other : (uri : List ℕ) {a : Bool} → a ≡ begins (bytes "urn:alert:") uri → a ≡ false → false ≡ alertUrn uri

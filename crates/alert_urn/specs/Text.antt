@@ -20,10 +20,10 @@ all p (x ∷ xs) = p x && all p xs
 unfoldable pub labelByte : ℕ → Bool
 labelByte b = within 97 122 b || (within 65 90 b || (within 48 57 b || eqb b 45))
 
--- how many bytes at the front may stand in a label
-unfoldable pub labelRun : List ℕ → ℕ
-labelRun [] = 0
-labelRun (x ∷ xs) = cond (labelByte x) (suc (labelRun xs)) 0
+-- how many bytes at the front pass the test
+unfoldable pub runBy : (ℕ → Bool) → List ℕ → ℕ
+runBy p [] = 0
+runBy p (x ∷ xs) = cond (p x) (suc (runBy p xs)) 0
 
 -- at least 1 and at most 27 letters, digits and hyphens; a hyphen stands at neither end
 unfoldable pub labelOk : List ℕ → Bool
@@ -45,9 +45,9 @@ past c (x ∷ xs) = cond (eqb x c) xs (past c xs)
 unfoldable pub nameOk : List ℕ → Bool
 nameOk s = labelOk s || (labelOk (upTo 64 s) && labelOk (past 64 s))
 
--- how long the name up to the first colon or the end is, or 0 if it is of bad form
-unfoldable pub nameLength : List ℕ → ℕ
-nameLength s = cond (nameOk (upTo 58 s)) (length (upTo 58 s)) 0
+-- how long the name up to the first colon or the end is, or 0 if it does not pass the test
+unfoldable pub lengthBy : (List ℕ → Bool) → List ℕ → ℕ
+lengthBy ok s = cond (ok (upTo 58 s)) (length (upTo 58 s)) 0
 
 -- a byte put before the first of some texts
 unfoldable pub onFirst : ℕ → List (List ℕ) → List (List ℕ)
@@ -88,6 +88,10 @@ common (x ∷ p) (y ∷ w) = cond (eqb x y) (suc (common p w)) 0
 -- how many bytes p and w have in common, where another text has k in common with w and l with p
 unfoldable pub commonNext : List ℕ → List ℕ → ℕ → ℕ → ℕ
 commonNext p w k l = cond (eqb k l) (k + common (drop k p) (drop k w)) (min k l)
+
+-- both texts have a byte at n, and not the same one
+unfoldable pub differAt : List ℕ → List ℕ → ℕ → Bool
+differAt p w n = ltb n (length p) && (ltb n (length w) && not (eqb (getD p n 0) (getD w n 0)))
 
 -- how many bytes of p are compared with w, from the first: those that w has at the same places, and the first that it lacks there
 unfoldable pub comparedBytes : List ℕ → List ℕ → ℕ

@@ -6,7 +6,7 @@ use mathlib.Core.Bool.{Bool, true, false, cond, not, _&&_}
 use mathlib.Core.List.{List, [], _∷_}
 use lib.ListN.{length, drop}
 use lib.Dec.{eqb, leb}
-use Rattle.alert_urn.specs.Text.{within, all, upTo, past, nameOk, fields}
+use Rattle.alert_urn.specs.Text.{within, all, labelByte, upTo, past, nameOk, fields}
 
 -- n characters of an ASCII text from the i-th on, as bytes
 unfoldable pub bytesFrom : String → ℕ → ℕ → List ℕ
@@ -64,6 +64,10 @@ categoryOf = upTo 58
 abbrev pub pathOf : List ℕ → List ℕ
 pathOf = past 58
 
--- how many names stand between the colons, or 0 if one of them is of bad form
-unfoldable pub namesIn : List ℕ → ℕ
-namesIn s = cond (all nameOk (fields 58 s)) (length (fields 58 s)) 0
+-- how many names stand between the colons, or 0 if one of them does not pass the test
+unfoldable pub namesBy : (List ℕ → Bool) → List ℕ → ℕ
+namesBy ok s = cond (all ok (fields 58 s)) (length (fields 58 s)) 0
+
+-- a byte that may stand in a label of a stored name
+unfoldable pub storedByte : ℕ → Bool
+storedByte b = labelByte b && notCapital b

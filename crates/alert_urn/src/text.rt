@@ -2,7 +2,7 @@ ghost use mathlib.Core.Path.{_≡_};
 ghost use Prim.Native.Nat.{_≤_, _<_, _+_, min};
 ghost use lib.ListN.{length, take, drop, getD};
 ghost use Rattle.resolution.specs.Names.{sameName};
-ghost use Rattle.alert_urn.specs.Text.{within, labelByte, labelRun, labelOk, upTo, nameOk, nameLength, common, endsAt, wordOf};
+ghost use Rattle.alert_urn.specs.Text.{within, labelByte, runBy, labelOk, upTo, nameOk, lengthBy, common, endsAt, wordOf};
 
 // lo ≤ x ≤ hi
 pub(crate) fn in_range(x: u8, lo: u8, hi: u8) -> bool
@@ -32,7 +32,7 @@ pub(crate) fn label_byte(b: u8) -> bool
 
 // How many bytes at the front may stand in a label.
 pub(crate) fn label_run(s: &[u8]) -> usize
-    ensures { λ r. ⌜ r ≡ labelRun (now (s .entry)) ⌝ }
+    ensures { λ r. ⌜ r ≡ runBy labelByte (now (s .entry)) ⌝ }
 {
     let mut i = 0;
     while i < s.len() {
@@ -46,8 +46,8 @@ pub(crate) fn label_run(s: &[u8]) -> usize
 }
 
 // The n bytes at the front that may stand in a label are one: 1 to 27, no hyphen first or last.
-fn run_label(s: &[u8], n: usize) -> bool
-    requires { ⌜ n ≡ labelRun (now s) ⌝ }
+pub(crate) fn run_label(s: &[u8], n: usize) -> bool
+    requires { ⌜ n ≡ runBy labelByte (now s) ⌝ }
     ensures { λ r. ⌜ r ≡ labelOk (take n (now (s .entry))) ⌝ }
 {
     if n < 1 {
@@ -113,7 +113,7 @@ pub fn name(s: &[u8]) -> bool
 
 // How long the name up to the first colon or the end is, or 0 if it is of bad form.
 fn any_name_end(s: &[u8]) -> usize
-    ensures { λ r. ⌜ r ≡ nameLength (now (s .entry)) ⌝ }
+    ensures { λ r. ⌜ r ≡ lengthBy nameOk (now (s .entry)) ⌝ }
 {
     let a = 0;
     let e = find(s, 58);
@@ -125,7 +125,7 @@ fn any_name_end(s: &[u8]) -> usize
 
 // The same, with one look at each byte where the name has no `@`.
 pub(crate) fn name_end(s: &[u8]) -> usize
-    ensures { λ r. ⌜ r ≡ nameLength (now (s .entry)) ⌝ }
+    ensures { λ r. ⌜ r ≡ lengthBy nameOk (now (s .entry)) ⌝ }
 {
     let k = label_run(s);
     if k < s.len() {

@@ -3,8 +3,8 @@ ghost use mathlib.Core.Bool.{_||_};
 ghost use Prim.Native.Nat.{_+_, _≤_, _<_};
 ghost use lib.ListN.{length, drop, getD};
 ghost use Rattle.resolution.specs.Names.{sameName};
-ghost use Rattle.alert_urn.specs.Text.{wordOf, common, commonNext};
-ghost use Rattle.alert_urn.specs.Urn.{bytes, lower, lowered, noCapital, begins, namesIn, restOk, alertUrn, storedName, urnOk};
+ghost use Rattle.alert_urn.specs.Text.{nameOk, wordOf, common, commonNext, differAt};
+ghost use Rattle.alert_urn.specs.Urn.{bytes, lower, lowered, noCapital, begins, namesBy, restOk, alertUrn, storedName, urnOk};
 
 // urn:alert:
 const SCHEME: [u8; 10] = [117, 114, 110, 58, 97, 108, 101, 114, 116, 58];
@@ -89,15 +89,37 @@ pub fn common_lowered_next(p: &[u8], w: &[u8], k: usize, l: usize) -> usize
     crate::text::lesser(k, l)
 }
 
-// The text s, its letters taken as small ones, is p.
+// Both texts have a byte at n, and w's, taken as a small letter, is another than p's.
+pub fn differ_at(p: &[u8], w: &[u8], n: usize) -> bool
+    ensures { λ r. ⌜ r ≡ differAt (now (p .entry)) (lowered (now (w .entry))) n ⌝ }
+{
+    if p.len() <= n {
+        return false;
+    }
+    if w.len() <= n {
+        return false;
+    }
+    p[n] != lower_of(w[n])
+}
+
+// The text s, its letters taken as small ones, is p. Names of one length mostly differ at their end: it is compared first.
 pub fn same_lowered(s: &[u8], p: &[u8]) -> bool
     ensures { λ r. ⌜ r ≡ sameName (lowered (now (s .entry))) (now (p .entry)) ⌝ }
 {
     let n = p.len();
-    if n == s.len() {
-        return common_lowered_from(p, s, 0) == n;
+    if n != s.len() {
+        return false;
     }
-    false
+    let mut i = n;
+    while 0 < i {
+        let k = i - 1;
+        if p[k] == lower_of(s[k]) {
+            i = k;
+        } else {
+            return false;
+        }
+    }
+    true
 }
 
 // Either of two.
@@ -123,7 +145,7 @@ fn no_capital(s: &[u8]) -> bool
     !capital
 }
 
-// The URI begins with `urn:alert:`, in any letter case. Small letters are the usual case: they are compared at once.
+// The URI begins with `urn:alert:`, capitals or not. Small letters are the usual case: they are compared at once.
 fn begins_alert(s: &[u8]) -> bool
     ensures { λ r. ⌜ r ≡ begins (bytes "urn:alert:") (now (s .entry)) ⌝ }
 {
@@ -150,7 +172,7 @@ fn begins_alert(s: &[u8]) -> bool
 
 // How many names stand between the colons, or 0 if one of them is of bad form.
 fn names(s: &[u8]) -> usize
-    ensures { λ r. ⌜ r ≡ namesIn (now (s .entry)) ⌝ }
+    ensures { λ r. ⌜ r ≡ namesBy nameOk (now (s .entry)) ⌝ }
 {
     let n = s.len();
     let mut at = 0;
@@ -203,10 +225,7 @@ pub fn stored_name(s: &[u8]) -> bool
 pub fn urn_formed(s: &[u8]) -> bool
     ensures { λ r. ⌜ r ≡ urnOk (now (s .entry)) ⌝ }
 {
-    if !no_capital(s) {
-        return false;
-    }
-    let n = names(s);
+    let n = crate::stored::names(s);
     if n < 2 {
         return false;
     }

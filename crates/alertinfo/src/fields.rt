@@ -2,8 +2,8 @@
 use crate::files;
 use crate::words;
 use carried_record::Carried;
+use entry_run::Resolution;
 use libc::STDERR_FILENO;
-use resolver::Resolution;
 
 // What is known after some values: whether all could be read, what is carried, whether one was accepted, the counts of
 // all, and the number of the last that was refused.

@@ -107,7 +107,7 @@ fn accepted(signal: u8, used: usize, skipped: usize) {
     words::count(skipped as u64, b" skipped\n");
 }
 
-fn answer(r: resolver::Resolution) {
+fn answer(r: entry_run::Resolution) {
     if r.refusal != 0 {
         words::refused(r.refusal);
         return;

@@ -15,7 +15,8 @@ use Rattle.resolution.specs.Lists.{all}
 use Rattle.resolution.specs.Table.{Table, WellFormed, place}
 use Rattle.resolution.specs.Nodes.{nodes}
 use Rattle.resolution.proofs.Lists.{all-to, all-of, all-stop}
-use Rattle.node_step.specs.Arrays.{NodesIn, Numbers, InnerIn}
+use Rattle.node_search.specs.Arrays.{NodesIn, InnerIn}
+use Rattle.node_step.specs.Rows.{Numbers}
 use Rattle.node_step.specs.StatusByte as node
 use Rattle.machine_image.specs.Refusals.{byteFits}
 use Rattle.machine_image.specs.Positions.{ByteOf}

@@ -12,8 +12,8 @@ use crate::print;
 use alert_info::Cursor;
 use alert_info::Found;
 use alert_info::Span;
+use entry_run::Resolution;
 use resolver::PlainResolution;
-use resolver::Resolution;
 use signal_table::Match;
 
 fn span(p: Span) {

@@ -20,7 +20,7 @@ use Rattle.resolution.specs.Settled.{Settled, isSettled, needed, afterFirst}
 use Rattle.resolution.proofs.Lists.{or-true}
 use Rattle.resolution.proofs.TableStep.{state-direct}
 use Rattle.resolution.proofs.Settled.{settled-to, settled-of, needed-within, needed-enough, needed-fewest, needed-early, needed-is, needed-ahead}
-use Rattle.node_step.specs.Uses.{usedUrn}
+use Rattle.node_search.specs.Uses.{usedUrn}
 use Rattle.stored_table.specs.Tables.{tableRefusal, tableOf, categoryNames}
 use Rattle.stored_table.proofs.Accepting.{accepted}
 use Rattle.early.specs.FirstEntries.{frontFrom, urisIn, Begins}
@@ -28,7 +28,7 @@ use Rattle.early.specs.Early.{takenAs, numberOf, refused, reached, enoug
 use Rattle.early.specs.Claims.{stateAfter, ReadEnough, settled, ended, Needed, EarlyClaim}
 use Rattle.early.specs.declared.Early.{Early}
 use Rattle.early.proofs.FrontLaws.{front-claims}
-use Rattle.early.proofs.TakenLaws.{taken-used, map-take, map-append}
+use Rattle.entry_run.proofs.TakenLaws.{taken-used, map-take, map-append}
 use Rattle.early.proofs.AnswerLaws.{early-refused, early-read}
 
 module _ (t v : List ℕ) where

@@ -1,5 +1,4 @@
 pub mod FrontLaws
-pub mod TakenLaws
 pub mod Moves
 pub mod SettledLaws
 pub mod SettledRight

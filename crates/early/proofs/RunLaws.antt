@@ -18,8 +18,8 @@ use Rattle.alert_info.proofs.Lands.{SpanIn, FoundLands, entry-lands}
 use Rattle.resolution.proofs.Lists.{or-true}
 use Rattle.node_step.specs.StatusByte.{stepPacked}
 use Rattle.node_step.specs.declared.stored.Packed.{Packed}
-use Rattle.node_step.specs.declared.uses.Use.{Use}
-use Rattle.node_step.specs.declared.uses.Use.the-variants.{Skipped, Used}
+use Rattle.node_search.specs.declared.uses.Use.{Use}
+use Rattle.node_search.specs.declared.uses.Use.the-variants.{Skipped, Used}
 use Rattle.stored_table.specs.declared.Decoded.{Decoded}
 use Rattle.early.specs.FirstEntries.{Front, nothing, only, before, frontFrom, firstOf}
 use Rattle.early.specs.Run.{useIn, afterUse, afterUri, settledIn, spanIn, reachedAt, runOver, runFrom}

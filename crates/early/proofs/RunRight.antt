@@ -19,10 +19,10 @@ use Rattle.resolution.proofs.TableStep.{state-valid, state-start, state-step}
 use Rattle.resolution.proofs.Claim.{run-used}
 use Rattle.node_step.specs.Step.{coded, stepNumbers}
 use Rattle.node_step.specs.StatusByte.{packed, packedOf, stepPacked}
-use Rattle.node_step.specs.Uses.{usedUrn, useOf}
+use Rattle.node_search.specs.Uses.{usedUrn, useOf}
 use Rattle.node_step.specs.declared.State as code
 use Rattle.node_step.specs.declared.stored.Packed.{Packed}
-use Rattle.node_step.proofs.UseRight.{uses-right}
+use Rattle.node_search.proofs.UseRight.{uses-right}
 use Rattle.node_step.proofs.Both.{step-direct, coded-start, of-packed}
 use Rattle.stored_table.specs.Tables.{tableOf, categoryNames}
 use Rattle.stored_table.specs.Decoded.{Holds}
@@ -32,7 +32,7 @@ use Rattle.early.specs.Early.{takenAs, reached, enough}
 use Rattle.early.specs.Run.{afterUse, afterUri, settledIn, runOver}
 use Rattle.early.specs.declared.run.Reached.{Reached}
 use Rattle.early.proofs.SettledRight.{settled-right}
-use Rattle.early.proofs.TakenLaws.{used-of}
+use Rattle.entry_run.proofs.TakenLaws.{used-of}
 
 module _ (T : Table) where
   abbrev next : State → Option Urn → State

@@ -12,7 +12,7 @@ use Rattle.resolution.specs.Lists.{all}
 use Rattle.resolution.proofs.Lists.{all-stop}
 use Rattle.node_step.specs.Step.{digit, put, rowAt}
 use Rattle.node_step.specs.StatusByte.{samePacked, stepPacked}
-use Rattle.node_step.specs.Uses.{fewer}
+use Rattle.node_search.specs.Uses.{fewer}
 use Rattle.node_step.specs.declared.stored.Packed.{Packed}
 use Rattle.node_step.proofs.PackedStep.{packed-exact}
 use Rattle.early.specs.SettledBy.{keepsAt, beside, besideKeeps, signalKeeps, heldKeeps, categoryKeeps}

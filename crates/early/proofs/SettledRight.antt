@@ -1,4 +1,4 @@
--- The test of a state on node numbers is the theory's: no sequence of symbols leads to another signal.
+-- The test of a state on node numbers is the theory's: whatever symbols follow, the signal stays.
 use Prim.Native.Nat.{ℕ, _+_, _-_, _≤_, _<_}
 use mathlib.Core.Path.{_≡_, refl, sym, ap, ap₂, _∙_}
 use mathlib.Core.Logic.{inr}
@@ -25,9 +25,10 @@ use Rattle.resolution.proofs.Numbers.{number-node}
 use Rattle.resolution.proofs.Deepest.{inner-node}
 use Rattle.resolution.proofs.TableStep.{state-valid, state-signal}
 use Rattle.node_step.specs.Step.{codedStatus, coded, digit, put, rowAt, stepNumbers}
-use Rattle.node_step.specs.Arrays.{pack, numbersFrom, Numbers, InnerIn}
+use Rattle.node_search.specs.Arrays.{InnerIn}
+use Rattle.node_step.specs.Rows.{pack, numbersFrom, Numbers}
 use Rattle.node_step.specs.StatusByte.{byteOf, packedOf, stepPacked}
-use Rattle.node_step.specs.Uses.{fewer}
+use Rattle.node_search.specs.Uses.{fewer}
 use Rattle.node_step.specs.declared.Status.the-variants.{Held}
 use Rattle.node_step.specs.declared.State as code
 use Rattle.node_step.specs.declared.stored.Packed.{Packed}

@@ -26,7 +26,7 @@ pub record Needed (t v : List ℕ) (us : List (List ℕ)) : Type 0 where
   pub short : length v ≤ 4096
   pub formed : tableRefusal t ≡ 0
   pub few : length us ≤ 64
-  -- after fewer of them a sequence of symbols leads to another signal
+  -- after fewer of them some symbols lead to another signal
   pub fewest : (k : ℕ) → k < length us → Settled (tableOf t) (stateAfter t (take k us)) → ⊥
   pub read : ReadEnough t v us
 

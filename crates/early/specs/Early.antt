@@ -2,25 +2,16 @@
 use Prim.Native.Nat.{ℕ}
 use mathlib.Core.Bool.{Bool, cond, _&&_, _||_}
 use mathlib.Core.Option.{Option}
-use mathlib.Core.List.{List, map}
+use mathlib.Core.List.{List}
 use lib.Dec.{eqb, leb}
 use lib.ListN.{length}
-use Rattle.alert_info.specs.Value.{refusalOf}
 use Rattle.resolution.specs.Table.{Urn, Table}
 use Rattle.resolution.specs.Direct.{State}
 use Rattle.resolution.specs.Settled.{isSettled, needed, afterFirst}
-use Rattle.node_step.specs.Uses.{usedUrn}
-use Rattle.stored_table.specs.Tables.{tableRefusal, tableOf, categoryNames}
+use Rattle.stored_table.specs.Tables.{tableRefusal, tableOf}
+pub use Rattle.entry_run.specs.Answers.{takenAs, numberOf}
 use Rattle.early.specs.FirstEntries.{Front, frontFrom, firstOf, urisIn}
 use Rattle.early.specs.declared.Early.{Early}
-
--- a list of URIs as a stored table takes them: a used one with its URN, or skipped
-abbrev pub takenAs : List ℕ → List (List ℕ) → List (Option Urn)
-takenAs t uris = map (usedUrn (categoryNames t)) uris
-
--- the number with which the full resolver refuses: the value's (1 to 3), else the table's (4 to 12), or 0
-abbrev pub numberOf : List ℕ → List ℕ → ℕ
-numberOf t v = cond (eqb (refusalOf v) 0) (tableRefusal t) (refusalOf v)
 
 -- a refused question has signal 0 and no entries
 abbrev pub refused : ℕ → Early

@@ -1,5 +1,5 @@
--- The entries of a value that are read one by one: up to its end, or up to where it does not fit. An entry is read once its text
--- fits up to and with the comma after it, or up to the end of the value.
+-- The entries of a value that are read one by one: up to its end, or up to where it does not fit. The comma
+-- behind an entry, or the value's end, is read with it.
 use Prim.Native.Nat.{ℕ, _<_}
 use Prim.Native.Char.{code}
 use mathlib.Core.Path.{_≡_}

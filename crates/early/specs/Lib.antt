@@ -1,5 +1,8 @@
+-- what a reader has to believe
 pub mod FirstEntries
-pub mod SettledBy
 pub mod Early
-pub mod Run
+-- what is claimed of it
 pub mod Claims
+-- what only the code's inner promises use
+pub mod SettledBy
+pub mod Run

@@ -7,18 +7,14 @@ use Rattle.alert_info.specs.declared.alert_param.Span.{Span}
 use Rattle.alert_info.specs.declared.alert_param.Found.{Found}
 use Rattle.alert_info.specs.declared.alert_param.Found.the-variants.{Last, More, None}
 use Rattle.node_step.specs.StatusByte.{stepPacked}
-use Rattle.node_step.specs.Uses.{usesOf}
 use Rattle.node_step.specs.declared.stored.Packed.{Packed}
-use Rattle.node_step.specs.declared.uses.Use.{Use}
-use Rattle.node_step.specs.declared.uses.Use.the-variants.{Skipped, Used}
+use Rattle.node_search.specs.declared.uses.Use.{Use}
+use Rattle.node_search.specs.declared.uses.Use.the-variants.{Skipped, Used}
 use Rattle.stored_table.specs.declared.Decoded.{Decoded}
+pub use Rattle.entry_run.specs.Run.{useIn}
 use Rattle.early.specs.FirstEntries.{frontFrom, firstOf}
 use Rattle.early.specs.SettledBy.{settledBy}
 use Rattle.early.specs.declared.run.Reached.{Reached}
-
--- what a URI is to the decoded table
-abbrev pub useIn : List ℕ → Decoded → List ℕ → Use
-useIn t d uri = usesOf t (d .«name_at») (d .«name_len») (d .categories) (d .category) (d .at) (d .len) (d .shared) (d .inner) (d .nodes) uri
 
 -- one URI more: a skipped one changes nothing
 abbrev pub afterUse : List ℕ → List ℕ → List Bool → ℕ → Packed → Use → Packed

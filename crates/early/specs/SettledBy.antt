@@ -7,7 +7,7 @@ use lib.ListN.{getD}
 use Rattle.resolution.specs.Lists.{all}
 use Rattle.node_step.specs.Step.{digit, put, rowAt}
 use Rattle.node_step.specs.StatusByte.{stepPacked}
-use Rattle.node_step.specs.Uses.{fewer}
+use Rattle.node_search.specs.Uses.{fewer}
 use Rattle.node_step.specs.declared.stored.Packed.{Packed}
 
 -- the step in category c, at the node or root d, keeps the signal

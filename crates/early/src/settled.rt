@@ -1,13 +1,13 @@
 // Whether a state is settled: no URN leads from it to another signal. Only a signal that differs from the current one in one
 // category can be reached by a URN, and a step tells whether it is.
+use node_search::uses::at_most;
 use node_step::stored::Packed;
 use node_step::stored::step_packed;
-use node_step::uses::at_most;
 ghost use mathlib.Core.Path.{_≡_};
 ghost use Prim.Native.Nat.{_<_};
 ghost use Rattle.resolution.specs.Lists.{all};
 ghost use Rattle.node_step.specs.Step.{digit, rowAt};
-ghost use Rattle.node_step.specs.Uses.{fewer};
+ghost use Rattle.node_search.specs.Uses.{fewer};
 ghost use Rattle.early.specs.SettledBy.{keepsAt, beside, besideKeeps, signalKeeps, heldKeeps, categoryKeeps, settledBy};
 
 // The step in category c, at the node or root d, keeps the signal.

@@ -19,7 +19,8 @@ use Rattle.resolution.specs.Machine.{MachineState}
 use Rattle.resolution.specs.Build.{discovered}
 use Rattle.resolution.proofs.Lists.{mem-at}
 use Rattle.resolution.specs.Nodes.{nodes}
-use Rattle.node_step.specs.Arrays.{Numbers, InnerIn}
+use Rattle.node_search.specs.Arrays.{InnerIn}
+use Rattle.node_step.specs.Rows.{Numbers}
 use Rattle.node_step.specs.Step.{digit, coded}
 use Rattle.node_step.specs.StatusByte.{byteOf}
 use Rattle.node_step.specs.declared.stored.Packed.{Packed}

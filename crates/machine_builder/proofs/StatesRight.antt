@@ -13,7 +13,8 @@ use Rattle.resolution.specs.Build.{discovered}
 use Rattle.resolution.proofs.Direct.{state-exact}
 use Rattle.resolution.proofs.TableStep.{state-start, state-step}
 use Rattle.resolution.proofs.Coded.{discover-all, discover-code, targets-code}
-use Rattle.node_step.specs.Arrays.{Numbers, InnerIn}
+use Rattle.node_search.specs.Arrays.{InnerIn}
+use Rattle.node_step.specs.Rows.{Numbers}
 use Rattle.node_step.specs.StatusByte.{samePacked}
 use Rattle.node_step.specs.declared.stored.Packed.{Packed}
 use Rattle.node_step.proofs.Both.{packed-test}

@@ -4,12 +4,12 @@ mod states;
 ghost use mathlib.Core.Path.{_≡_};
 ghost use Prim.Native.Nat.{_+_, _*_, _≤_};
 ghost use lib.ListN.{length, replicate};
-ghost use Rattle.node_step.specs.Uses.{fewer};
+ghost use Rattle.node_search.specs.Uses.{fewer};
 ghost use Rattle.machine_builder.specs.Built.{refused};
 ghost use Rattle.machine_symbols.specs.Steps.{nextState};
 ghost use Rattle.machine_builder.specs.States.{headBytes, builtBy, bufferBy};
 
-// What a build answers: its refusal number, and the image's length, 0 if refused.
+// What a build answers: the number if it is refused, or how long the image is.
 #[repr(C)]
 pub struct Built {
     pub refusal: u8,
@@ -68,7 +68,7 @@ fn write_image<'a>(
 {
     let head = 3 + 3 * count;
     let room = buf.len();
-    let from = node_step::uses::at_most(head, room);
+    let from = node_search::uses::at_most(head, room);
     let n = states::discover(
         rows,
         parents,
@@ -109,7 +109,7 @@ pub fn build_by<'a>(
     ensures { λ r. ⌜ r ≡ builtBy (nextState (now (rows .entry)) (now (parents .entry)) (now (inner .entry)) signals (now (symbols .entry))) (fewer categories 8) (fewer count 128) (length (now (buf .entry))) ⌝ }
     ensures { λ _. ⌜ now (buf .exit) ≡ bufferBy (nextState (now (rows .entry)) (now (parents .entry)) (now (inner .entry)) signals (now (symbols .entry))) (fewer categories 8) (fewer count 128) (now (symbols .entry)) (length (now (buf .entry))) ⌝ }
 {
-    let k = node_step::uses::at_most(categories, 8);
-    let n = node_step::uses::at_most(count, 128);
+    let k = node_search::uses::at_most(categories, 8);
+    let n = node_search::uses::at_most(count, 128);
     write_image(rows, parents, inner, signals, k, symbols, n, buf)
 }

@@ -19,7 +19,8 @@ use Rattle.resolution.specs.Machine.{machineState, target, targetRight, rowRigh
 use Rattle.resolution.proofs.Lists.{tabulate-length, tabulate-at}
 use Rattle.resolution.proofs.Table.{row-place}
 use Rattle.resolution.proofs.TableStep.{state-of, state-start, state-step}
-use Rattle.node_step.specs.Arrays.{NodesIn, Numbers, InnerIn}
+use Rattle.node_search.specs.Arrays.{NodesIn, InnerIn}
+use Rattle.node_step.specs.Rows.{Numbers}
 use Rattle.node_step.specs.Step.{coded, codedStatus, statusIn}
 use Rattle.node_step.specs.StatusByte.{byteOf, packed, samePacked, fitsBy}
 use Rattle.node_step.specs.declared.Progress.{Progress}

@@ -1,1 +1,3 @@
+-- What only the code's inner promises use: the tests of an image.
+
 pub mod Checks

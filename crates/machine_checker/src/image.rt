@@ -4,7 +4,7 @@ use node_step::stored::Packed;
 ghost use mathlib.Core.Path.{_≡_};
 ghost use Prim.Native.Nat.{_≤_, _<_};
 ghost use lib.ListN.{getD};
-ghost use Rattle.node_step.specs.Uses.{fewer};
+ghost use Rattle.node_search.specs.Uses.{fewer};
 ghost use Rattle.machine_image.specs.Image.{stateCount, placeOf, signalIn, targetIn};
 ghost use Rattle.machine_checker.specs.Checks.{packFrom, packedIn};
 
@@ -74,7 +74,7 @@ pub(crate) fn state(im: &[u8], categories: usize, j: usize) -> Packed
 pub fn target(im: &[u8], categories: usize, j: u8, k: u8) -> u8
     ensures { λ r. ⌜ r ≡ targetIn (fewer categories 8) (now (im .entry)) j k ⌝ }
 {
-    let cats = node_step::uses::at_most(categories, 8);
+    let cats = node_search::uses::at_most(categories, 8);
     let state = wide(j);
     let symbol = wide(k);
     let i = place(im, cats, state) + 1 + cats;
@@ -85,7 +85,7 @@ pub fn target(im: &[u8], categories: usize, j: u8, k: u8) -> u8
 pub fn signal(im: &[u8], categories: usize, j: u8) -> u8
     ensures { λ r. ⌜ r ≡ signalIn (fewer categories 8) (now (im .entry)) j ⌝ }
 {
-    let cats = node_step::uses::at_most(categories, 8);
+    let cats = node_search::uses::at_most(categories, 8);
     let state = wide(j);
     let i = place(im, cats, state);
     byte(im, i)

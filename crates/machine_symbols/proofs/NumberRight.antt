@@ -20,9 +20,10 @@ use Rattle.resolution.proofs.Lists.{same-test, mem-at}
 use Rattle.resolution.proofs.Numbers.{number-node, number-same, root-number}
 use Rattle.resolution.proofs.Deepest.{deepest-node}
 use Rattle.resolution.proofs.Symbols.{symbol-exact, symbol-known}
-use Rattle.node_step.specs.Arrays.{childless, NodesIn, Numbers}
+use Rattle.node_search.specs.Arrays.{childless, NodesIn}
+use Rattle.node_step.specs.Rows.{Numbers}
 use Rattle.machine_image.specs.Image.{kindOf}
-use Rattle.node_step.specs.Uses.{fewer}
+use Rattle.node_search.specs.Uses.{fewer}
 use Rattle.machine_symbols.specs.Listed.{SymbolsIn, isTriple, tripleIndex, kindFor, indexFrom, symbolNumber}
 use Rattle.machine_symbols.proofs.SymbolLaws.{by-index}
 use Rattle.node_step.proofs.Leaves.{leaf-is}

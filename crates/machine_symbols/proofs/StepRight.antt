@@ -16,7 +16,8 @@ use Rattle.resolution.specs.Symbols.{other, symbols, symbolAt, stepAt}
 use Rattle.resolution.proofs.Lists.{mem-at}
 use Rattle.resolution.proofs.Symbols.{symbol-known}
 use Rattle.resolution.proofs.TableStep.{state-valid}
-use Rattle.node_step.specs.Arrays.{Numbers, InnerIn}
+use Rattle.node_search.specs.Arrays.{InnerIn}
+use Rattle.node_step.specs.Rows.{Numbers}
 use Rattle.node_step.specs.Step.{coded, stepNumbers}
 use Rattle.node_step.specs.StatusByte.{packed, packedOf, stepPacked}
 use Rattle.node_step.specs.declared.stored.Packed.{Packed}

@@ -14,11 +14,12 @@ use Rattle.resolution.specs.Table.{Urn, urn, Table}
 use Rattle.resolution.specs.Nodes.{nodes, number, nodeAt, leaf}
 use Rattle.resolution.specs.Symbols.{Symbol, node, other, nodeSymbols, symbolsFrom, symbols}
 use Rattle.resolution.proofs.Numbers.{number-at, root-number}
-use Rattle.node_step.specs.Arrays.{NodesIn, childless, Numbers}
+use Rattle.node_search.specs.Arrays.{NodesIn, childless}
+use Rattle.node_step.specs.Rows.{Numbers}
 use Rattle.node_step.proofs.Leaves.{leaf-is}
 use Rattle.machine_image.specs.Image.{joined, symbolBytes, storedSymbols}
 use Rattle.machine_image.proofs.Joined.{stored-length}
-use Rattle.node_step.specs.Uses.{fewer}
+use Rattle.node_search.specs.Uses.{fewer}
 use Rattle.machine_symbols.specs.Listed.{triple, nodeTriples, nodesTriples, categoryTriples, tripleLists, Listed, SymbolsIn}
 
 joined-append : {A : Type 0} (f : A → List ℕ) (a b : List A) → joined f (a ++ b) ≡ joined f a ++ joined f b

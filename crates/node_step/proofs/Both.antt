@@ -22,7 +22,8 @@ use Rattle.resolution.specs.Symbols.{Symbol, stepsAs}
 use Rattle.resolution.proofs.Step.{Valid}
 use Rattle.resolution.proofs.NodeStep.{direct-at-node, symbol-at-node}
 use Rattle.node_step.specs.Step.{codedStatus, progressFrom, coded, statusIn, stepNumbers}
-use Rattle.node_step.specs.Arrays.{Numbers, InnerIn}
+use Rattle.node_search.specs.Arrays.{InnerIn}
+use Rattle.node_step.specs.Rows.{Numbers}
 use Rattle.node_step.proofs.ProgressLaws.{progress-length, progress-at, same-lists}
 use Rattle.node_step.specs.StatusByte.{packed, unpacked, packedOf, ofPacked, samePacked}
 use Rattle.node_step.proofs.ByteLaws.{Numbered, pack-again}

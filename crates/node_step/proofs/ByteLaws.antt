@@ -15,7 +15,7 @@ use Rattle.node_step.specs.declared.Status.the-variants.{Open, Held, Shu
 use Rattle.node_step.specs.StatusByte.{byteOf, statusOf, packed, unpacked}
 use Rattle.node_step.specs.declared.Progress.{Progress}
 use Rattle.node_step.specs.Step.{digit, statusIn}
-use Rattle.node_step.specs.Arrays.{pack}
+use Rattle.node_step.specs.Rows.{pack}
 use Rattle.node_step.proofs.PackedLaws.{Bytes, pack-digit}
 use Rattle.node_step.proofs.ProgressLaws.{same-lists}
 

@@ -1,4 +1,4 @@
--- Leaves by the parents: a node is a leaf if it is nobody's parent.
+-- Leaves by the parents: leaves are nobody's parent.
 use Prim.Native.Nat.{ℕ, zero, suc, _+_, _<_}
 use mathlib.Core.Path.{_≡_, refl, sym, ap, ap₂, _∙_}
 use mathlib.Core.Logic.{_⊎_, inl, inr, _≢_}
@@ -18,7 +18,8 @@ use Rattle.resolution.proofs.Names.{snoc-view}
 use Rattle.resolution.proofs.Nodes.{urn-exact, root-free}
 use Rattle.resolution.proofs.Numbers.{number-node, number-positive, number-at, ancestor-node}
 use Rattle.resolution.proofs.Deepest.{under-to, leaf-ends}
-use Rattle.node_step.specs.Arrays.{NodesIn, childless, Numbers}
+use Rattle.node_search.specs.Arrays.{NodesIn, childless}
+use Rattle.node_step.specs.Rows.{Numbers}
 
 -- a node with a child
 pub child-found : (ps : List ℕ) (d n i : ℕ) → i < n → getD ps i 0 ≡ d → false ≡ childless ps d n

@@ -8,7 +8,4 @@ pub mod StepRight
 pub mod TriesLaws
 pub mod TriesRight
 pub mod Leaves
-pub mod MarkLaws
-pub mod UseLaws
-pub mod UseRight
 pub mod Both

@@ -31,7 +31,8 @@ use Rattle.node_step.specs.declared.Status.the-variants.{Open, Held, Shu
 use Rattle.node_step.specs.declared.State.{State}
 use Rattle.node_step.specs.declared.Hit.{Hit}
 use Rattle.node_step.specs.Step.{codedStatus, progressFrom, coded, few, digit, put, rowAt, parentOf, innerAt, reaches, findRow, noHit, hitAt, seek, extends, statusIn, isShut, lastTaken, takesPast, takes, statusFrom, moved, hitNumbers, stepNumbers}
-use Rattle.node_step.specs.Arrays.{pack, numbersFrom, Numbers, InnerIn}
+use Rattle.node_search.specs.Arrays.{InnerIn}
+use Rattle.node_step.specs.Rows.{pack, numbersFrom, Numbers}
 use Rattle.node_step.proofs.PackedLaws.{pack-digit, pack-set, pack-same}
 use Rattle.node_step.proofs.ProgressLaws.{progress-at, progress-set}
 use Rattle.node_step.proofs.NumberLaws.{numbers-length, numbers-at, numbers-set, numbers-bytes, Anchored, numbers-same, foundRow, finds}

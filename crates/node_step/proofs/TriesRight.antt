@@ -26,7 +26,8 @@ use Rattle.resolution.specs.Tries.{triesIfTaken, nodeTries, tries}
 use Rattle.resolution.proofs.Tries.{tries-found, tries-at-node}
 use Rattle.node_step.specs.Step.{coded, parentOf, hitAt, hitNumbers}
 use Rattle.node_step.specs.Tries.{depth, triesTo, triesNumbers}
-use Rattle.node_step.specs.Arrays.{Numbers, InnerIn}
+use Rattle.node_search.specs.Arrays.{InnerIn}
+use Rattle.node_step.specs.Rows.{Numbers}
 use Rattle.node_step.proofs.StepRight.{up-anchor, up-number, not-root, few-parts-at, low, wide, hitOf, taken-above, hit-untaken, hit-taken}
 
 module _ (rows ps : List ℕ) (n : ℕ) (t : Table) (wf : WellFormed t) (nu : Numbers rows ps n t) (c : ℕ) (known : c < t .cats) where

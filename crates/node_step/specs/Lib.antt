@@ -1,5 +1,6 @@
-pub mod Arrays
+-- What only the code's inner promises use: the step on numbers. Its laws say that it is the theory's.
+
+pub mod Rows
 pub mod Step
 pub mod Tries
-pub mod Uses
 pub mod StatusByte

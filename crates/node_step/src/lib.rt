@@ -1,7 +1,13 @@
-pub mod marks;
+// The step of direct resolution, on the numbers of nodes and signals.
+//
+// In: arrays that hold the signals' places and the nodes' parents, a state, and what is said: a category, a node or the root, and
+// whether that is all of it. Out: the next state.
+//
+//   lib.rt     the step: which category takes what is said, the search for a signal, and the state after it
+//   tries.rt   the step with the candidates that it tries
+//   stored.rt  a state's statuses as bytes in one number, and the step on them
 pub mod stored;
 pub mod tries;
-pub mod uses;
 
 ghost use mathlib.Core.Path.{_≡_};
 ghost use mathlib.Core.Bool.{_&&_};
@@ -9,7 +15,7 @@ ghost use Prim.Native.Nat.{_≤_, _<_};
 ghost use lib.Dec.{eqb};
 ghost use Rattle.node_step.specs.Step.{few, rowAt, digit, put, parentOf, innerAt, reaches, findRow, seek, extends, progressIn, isShut, lastTaken, takesPast, statusFrom, moved, hitNumbers, stepNumbers};
 
-// What a category remembers of the URN last taken there: it is open at its place, held at a node, or shut for good.
+// What is kept of the last URN that a category took: the category is open at its place, held at a node, or shut for good.
 pub enum Status {
     Open,
     Held(u8),
@@ -21,7 +27,7 @@ pub struct Progress {
     pub status: Status,
 }
 
-// The current signal, and each category's progress; a category that the table lacks is open.
+// The current signal, and each category's progress; those past the table's are open.
 pub struct State {
     pub signal: u8,
     pub categories: [Progress; 8],

@@ -11,11 +11,10 @@ use crate::put_at;
 use crate::row_at;
 use crate::seek_from;
 use crate::takes_at;
-use crate::uses::at_most;
-use crate::uses::wide8;
+use node_search::uses::at_most;
 ghost use mathlib.Core.Path.{_≡_};
 ghost use mathlib.Core.Bool.{true};
-ghost use Prim.Native.Nat.{_<_};
+ghost use Prim.Native.Nat.{_≤_, _<_};
 ghost use Rattle.node_step.specs.Step.{rowAt, digit, extends};
 ghost use Rattle.node_step.specs.StatusByte.{byteOf, statusOf, stepPacked, movedPacked, fitsBy};
 
@@ -23,6 +22,13 @@ ghost use Rattle.node_step.specs.StatusByte.{byteOf, statusOf, stepPacke
 pub struct Packed {
     pub signal: u8,
     pub statuses: u64,
+}
+
+// A number as an index.
+fn wide8(x: u8) -> usize
+    ensures { λ r. ⌜ (r ≡ x) × (r ≤ 255) ⌝ }
+{
+    x as usize
 }
 
 // The byte of a category: 0 open, 1 shut, 1 + n held at node n.

@@ -11,7 +11,7 @@ use Rattle.carried_record.specs.declared.Carried.{Carried}
 use Rattle.signal_table.specs.Built.{builtFrom, checkFrom}
 use Rattle.resolver.specs.Resolve.{plainOf, machineOf}
 use Rattle.resolver.specs.Feed.{feedOf}
-use Rattle.resolver.specs.Demands.{ValueNumber, EntryNumber, TableNumber, PlainNumber, MachineNumber, FeedNumber, BuildNumber, CheckNumber}
+use Rattle.demands.specs.Demands.{ValueNumber, EntryNumber, TableNumber, PlainNumber, MachineNumber, FeedNumber, BuildNumber, CheckNumber}
 
 pub record EachNumber : Type 0 where
   pub by-value : (n : ℕ) → ValueNumber n → (v : List ℕ) × (refusalOf v ≡ n)

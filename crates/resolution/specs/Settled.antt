@@ -37,9 +37,9 @@ needed t l = neededFrom t (start (t .cats)) l
 abbrev pub afterFirst : Table → List (Option Urn) → ℕ → State
 afterFirst t l k = direct t (usedOf (take k l))
 
--- the early answer, over lists of any length, also empty
+-- the early answer, over any list, also the empty one
 pub record EarlyLaw (t : Table) : Type 0 where
-  -- no sequence of symbols leads to another signal exactly if no single one does
+  -- symbols can lead to another signal exactly if a single one can
   pub settled-to : (st : State) → StateOf t st → isSettled t st ≡ true → Settled t st
   pub settled-of : (st : State) → Settled t st → isSettled t st ≡ true
   -- or where no single used URN does

@@ -16,7 +16,7 @@ abbrev pub oneMore : Option ℕ → ℕ → ℕ
 oneMore none n = suc n
 oneMore (some s) n = 1
 
--- the candidates tried: in order, up to and with the first that has a signal
+-- the candidates tried: in order, the first that has a signal being the last
 abbrev pub triesOf : Env → Row → ℕ → List Parts → ℕ
 triesOf env row c [] = 0
 triesOf env row c (p ∷ ps) = oneMore (env .finder (set row c p)) (triesOf env row c ps)
@@ -63,7 +63,7 @@ pub record Searched (t : Table) (st : State) (u : Urn) : Type 0 where
   pub left : below (placeAt t st u) (u .path) ≡ some rest
   pub short : Parts
   pub down : below (placeAt t st u) (deepestOf t u) ≡ some short
-  -- leaving out the candidates deeper than the deepest node changes nothing
+  -- what is deeper than the deepest node need not be looked up
   pub same : firstHit (envOf t) (rowOf t (st .signal)) (u .cat) (candidates (placeAt t st u) rest) ≡ firstHit (envOf t) (rowOf t (st .signal)) (u .cat) (candidates (placeAt t st u) short)
   -- a signal is found, and the tries are the candidates from the deepest node to where it is found, both counted
   pub hit : Hit

@@ -1,9 +1,8 @@
 -- An image walked over a whole value.
-use Prim.Native.Nat.{ℕ, _≤_, _<_}
-use mathlib.Core.Path.{_≡_, sym, ap, ap₂, _∙_}
+use Prim.Native.Nat.{ℕ, _<_}
+use mathlib.Core.Path.{_≡_, refl, sym, ap, ap₂, _∙_}
 use mathlib.Core.Bool.{Bool, true, false, cond}
 use mathlib.Core.List.{List}
-use lib.ListN.{length}
 use lib.Dec.{eqb}
 use borrow.Author.Tests.{eq-eqb, le-leb}
 use Rattle.alert_info.specs.Value.{refusalOf, urisOf}
@@ -15,13 +14,14 @@ use Rattle.machine_image.specs.Walk.{stepIn}
 use Rattle.stored_table.specs.Tables.{tableRefusal, tableOf}
 use Rattle.stored_table.specs.Decoded.{Holds, Means}
 use Rattle.stored_table.specs.declared.Decoded.{Decoded}
-use Rattle.resolver.specs.declared.run.Current.{Current}
+use Rattle.entry_run.specs.declared.run.Current.{Current}
 use Rattle.resolver.specs.Resolve.{takenAs, refused, answered, walkedSignal, unlessRefused, machineOf}
-use Rattle.resolver.specs.Run.{Walk, Machine, moved, signalNow, resolvedFrom}
-use Rattle.resolver.proofs.FoldLaws.{Steps}
-use Rattle.resolver.proofs.AnswerLaws.{value-refused, refused-first, resolved-right}
+use Rattle.entry_run.specs.Run.{Walk, Machine, moved, signalNow, endedFrom}
+use Rattle.entry_run.specs.declared.answer.Ended.{Ended}
+use Rattle.entry_run.proofs.FoldLaws.{Steps, holds-reads}
+use Rattle.entry_run.proofs.AnswerLaws.{value-refused, refused-first, value-ends, end-answer}
 use Rattle.node_step.specs.StatusByte.{fitsBy}
-use Rattle.node_step.specs.Uses.{fewer}
+use Rattle.node_search.specs.Uses.{fewer}
 use Rattle.machine_symbols.specs.Listed.{SymbolsIn, tripleLists, symbolsOf, indexFrom}
 use Rattle.machine_symbols.specs.declared.Symbols.{Symbols}
 use Rattle.machine_checker.specs.Checks.{formBy}
@@ -33,7 +33,7 @@ module _ (t : List ℕ) (d : Decoded) (h : Holds t (tableOf t) d) (m : Machine) 
   all-cats : fewer (m .categories) 8 ≡ tableOf t .cats
   all-cats = let e = cats ∙ h .categories in ap (λ k. fewer k 8) e ∙ ap (λ b. cond b (tableOf t .cats) 8) (le-leb (tableOf t .cats) 8 (h .numbers .few-cats))
 
-  walk-steps : Steps t (tableOf t) d h m (λ j. Unit) (stepIn (tableOf t) (m .image)) Walk
+  walk-steps : Steps t (tableOf t) d (holds-reads t (tableOf t) d h) m (λ j. Unit) (stepIn (tableOf t) (m .image)) Walk
   unfolding moved
   walk-steps =
       record {
@@ -44,13 +44,12 @@ module _ (t : List ℕ) (d : Decoded) (h : Holds t (tableOf t) d) (m : Machine) 
       }
 
   -- from state 0, an image of right form: the machine resolver's answer
-  pub machine-right : {x : Current} → x ≡ Walk 0 → (v : List ℕ) → length v ≤ 4096 → tableRefusal t ≡ 0 → formOf (tableOf t) (m .image) ≡ true
-      → resolvedFrom t d m x v ≡ machineOf t (m .image) v
+  pub machine-right : {x : Current} → x ≡ Walk 0 → (v : List ℕ) {e : Ended} → e ≡ endedFrom t d m x v → tableRefusal t ≡ 0 → formOf (tableOf t) (m .image) ≡ true
+      → e .answer ≡ machineOf t (m .image) v
   unfolding machineOf signalNow
-  machine-right e v short formed right =
-      ap (λ (x : Current). resolvedFrom t d m x v) e
-      ∙ resolved-right t (tableOf t) d h m v short (λ j. Unit) (stepIn (tableOf t) (m .image)) Walk walk-steps 0 tt formed (signalIn (tableOf t .cats) (m .image)) (λ j. ap (λ n. signalIn n (m .image) j) all-cats)
-      ∙ ap (λ j. unlessRefused t v (answered t (urisOf v) (signalIn (tableOf t .cats) (m .image) j))) (sym (run-used (stepIn (tableOf t) (m .image)) 0 (takenAs t (urisOf v))))
+  machine-right f v q formed right =
+      end-answer t v m _ _ formed (value-ends t (tableOf t) d (holds-reads t (tableOf t) d h) m v (λ j. Unit) (stepIn (tableOf t) (m .image)) Walk walk-steps 0 tt refl f q)
+      ∙ ap₂ (λ n j. unlessRefused t v (answered t (urisOf v) (signalIn n (m .image) j))) all-cats (sym (run-used (stepIn (tableOf t) (m .image)) 0 (takenAs t (urisOf v))))
       ∙ ap (λ b. unlessRefused t v (cond b (answered t (urisOf v) (walkedSignal t (m .image) (urisOf v))) (refused 15))) (sym right)
 
 -- the answers of the machine resolver's tests

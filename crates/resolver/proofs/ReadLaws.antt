@@ -24,15 +24,15 @@ use Rattle.stored_table.specs.Tables.{tableRefusal, tableOf}
 use Rattle.stored_table.specs.Decoded.{Holds, Means}
 use Rattle.stored_table.specs.declared.Decoded.{Decoded}
 use Rattle.stored_table.proofs.Accepting.{accepted}
-use Rattle.resolver.specs.declared.Resolution.{Resolution}
-use Rattle.resolver.specs.declared.run.Current.{Current}
-use Rattle.resolver.specs.declared.run.Outcome.{Outcome}
+use Rattle.entry_run.specs.declared.Resolution.{Resolution}
+use Rattle.entry_run.specs.declared.run.Current.{Current}
+use Rattle.entry_run.specs.declared.answer.Ended.{Ended}
 use Rattle.resolver.specs.Resolve.{takenAs, refused, answered}
-use Rattle.resolver.specs.Run.{Direct, Machine, runFrom, answerOf, begin}
+use Rattle.entry_run.specs.Run.{Direct, Machine, signalNow, endedFrom}
 use Rattle.resolver.specs.Feed.{unchanged, onlyCounted, stateAfter, goesOn, readFrom, feedOf}
-use Rattle.resolver.proofs.AnswerLaws.{Ended}
-use Rattle.resolver.proofs.AnswerLaws as answer
-use Rattle.resolver.proofs.PlainLaws.{direct-ends}
+use Rattle.entry_run.proofs.AnswerLaws.{End}
+use Rattle.entry_run.proofs.AnswerLaws as ends
+use Rattle.entry_run.proofs.DirectLaws.{direct-ends}
 
 -- a run stays among the table's states
 pub state-run : (t : List ℕ) → tableRefusal t ≡ 0 → (us : List Urn) (st : direct.State) → StateOf (tableOf t) st → StateOf (tableOf t) (foldl (step (envOf (tableOf t))) st us)
@@ -49,40 +49,33 @@ module _ (t : List ℕ) (ok : tableRefusal t ≡ 0) (v : List ℕ) (r : Carried)
   abbrev end : direct.State
   end = stateAfter t (stateIn (tableOf t) r) (urisOf v)
 
-  module _ {n : ℕ} (o : Outcome) (x : State) (ex : x ≡ o .point .current .state) (a : Resolution) (ea : a ≡ answerOf o (x .signal)) where
-    pub read-refused : Ended t v (Direct (coded (tableOf t) end) n) o → (a .refusal ≡ 0 → ⊥) → record { answer = a; carried = counted r } ≡ readFrom t r v
-    read-refused (answer.not-taken n e) h =
-        ap (λ (y : Resolution). record { answer = y; carried = counted r }) (ea ∙ e (x .signal))
+  module _ {m : Machine} {n : ℕ} (x : Ended) where
+    pub read-refused : End t v m (Direct (coded (tableOf t) end) n) x → (x .answer .refusal ≡ 0 → ⊥) → record { answer = x .answer; carried = counted r } ≡ readFrom t r v
+    read-refused (ends.not-taken n e) h =
+        ap (λ (y : Resolution). record { answer = y; carried = counted r }) e
         ∙ sym (ap (λ b. cond b (goesOn t r v) (onlyCounted (refusalOf v) r)) (ne-eqb (refusalOf v) 0 n))
-    read-refused (answer.taken z c e) h = absurd (h (ap (λ (y : Resolution). y .refusal) (ea ∙ e (x .signal))))
+    read-refused (ends.taken z c e) h = absurd (h (ap (λ (y : Resolution). y .refusal) e))
 
-    pub read-taken : Ended t v (Direct (coded (tableOf t) end) n) o → a .refusal ≡ 0 → (c : Carried) → c ≡ carriedWith x (r .values + 1)
-        → record { answer = a; carried = c } ≡ readFrom t r v
-    read-taken (answer.not-taken n e) h c ec = absurd (n (sym (ap (λ (y : Resolution). y .refusal) (ea ∙ e (x .signal))) ∙ h))
-    read-taken (answer.taken z y e) h c ec =
-        let q : x ≡ coded (tableOf t) end = ex ∙ ap (λ (w : Current). w .state) y in
-        let p = ea ∙ e (x .signal) ∙ ap (λ (w : State). answered t (urisOf v) (w .signal)) q in
+    pub read-taken : End t v m (Direct (coded (tableOf t) end) n) x → x .answer .refusal ≡ 0 → (c : Carried) → c ≡ carriedWith (x .last .state) (r .values + 1)
+        → record { answer = x .answer; carried = c } ≡ readFrom t r v
+    unfolding signalNow
+    read-taken (ends.not-taken n e) h c ec = absurd (n (sym (ap (λ (y : Resolution). y .refusal) e) ∙ h))
+    read-taken (ends.taken z y e) h c ec =
+        let q : x .last .state ≡ coded (tableOf t) end = ap (λ (w : Current). w .state) y in
         let k = ec ∙ ap (λ (w : State). carriedWith w (r .values + 1)) q ∙ carried-coded (tableOf t) (accepted t ok .few-categories) (accepted t ok .few-nodes) end (r .values + 1) in
-        (λ i. record { answer = p i; carried = k i })
+        (λ i. record { answer = e i; carried = k i })
         ∙ sym (ap (λ b. cond b (goesOn t r v) (onlyCounted (refusalOf v) r)) (eq-eqb (refusalOf v) 0 z))
 
 -- the run over a value from what a fitting record carries
 module _ (t : List ℕ) (d : Decoded) (means : Means t d) (ok : tableRefusal t ≡ 0) (r : Carried) (wide : length (r .status) ≡ 8) (fit : Fits (tableOf t) r)
-    (m : Machine) (v : List ℕ) (short : length v ≤ 4096) where
-  pub fed-ends : {s : State} → s ≡ stateWith r → {x : Current} → x ≡ Direct s 0 → {o : Outcome} → o ≡ runFrom t d m v (begin x) 0
-      → Ended t v (Direct (coded (tableOf t) (stateAfter t (stateIn (tableOf t) r) (urisOf v))) (triesOver (tableOf t) (stateIn (tableOf t) r) (usedOf (takenAs t (urisOf v))))) o
+    (m : Machine) (v : List ℕ) where
+  pub fed-ends : {s : State} → s ≡ stateWith r → {x : Current} → x ≡ Direct s 0 → {e : Ended} → e ≡ endedFrom t d m x v
+      → End t v m (Direct (coded (tableOf t) (stateAfter t (stateIn (tableOf t) r) (urisOf v))) (triesOver (tableOf t) (stateIn (tableOf t) r) (usedOf (takenAs t (urisOf v))))) e
   fed-ends e f q =
       let c = state-coded (tableOf t) (accepted t ok .few-categories) r wide fit in
-      direct-ends t d (means .holds ok) m v short (stateIn (tableOf t) r) (state-carried t ok r wide fit)
-      (q ∙ ap (λ (x : Current). runFrom t d m v (begin x) 0) (f ∙ ap (λ (s : State). Direct s 0) (e ∙ c)))
+      direct-ends t d (means .holds ok) m v (stateIn (tableOf t) r) (state-carried t ok r wide fit) (f ∙ ap (λ (s : State). Direct s 0) (e ∙ c)) q
 
 module _ (t : List ℕ) (r : Carried) (v : List ℕ) where
-  -- a value that is refused before it is read
-  pub read-unread : {k : ℕ} → refusalOf v ≡ k → 0 < k → record { answer = refused k; carried = counted r } ≡ readFrom t r v
-  read-unread {k} e h =
-      ap (λ (n : ℕ). record { answer = refused n; carried = counted r }) (sym e)
-      ∙ sym (ap (λ b. cond b (goesOn t r v) (onlyCounted (refusalOf v) r)) (ne-eqb (refusalOf v) 0 (λ z. omega arith)))
-
   -- feeding, by its tests
   pub feed-table : {k : ℕ} → k ≡ tableRefusal t → (k ≡ 0 → ⊥) → unchanged k r ≡ feedOf t r v
   unfolding feedOf

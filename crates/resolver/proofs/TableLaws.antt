@@ -2,9 +2,9 @@
 use mathlib.Core.Path.{_≡_}
 use Prim.Native.Nat.{ℕ}
 use mathlib.Core.List.{List, _++_}
-use Rattle.node_step.specs.Uses.{usedUrn}
+use Rattle.node_search.specs.Uses.{usedUrn}
 use Rattle.stored_table.specs.Tables.{categoryNames}
-use Rattle.early.proofs.TakenLaws.{map-append}
+use Rattle.entry_run.proofs.TakenLaws.{map-append}
 use Rattle.resolver.specs.Resolve.{takenAs}
 
 -- a list of URIs cut in two

@@ -1,10 +1,2 @@
 pub mod Resolve
-pub mod Tried
-pub mod Run
 pub mod Feed
-pub mod Feeding
-pub mod Demands
-pub mod Examples
-pub mod DemandExample
-pub mod FieldsExample
-pub mod EarlyExample

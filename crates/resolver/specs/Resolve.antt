@@ -3,14 +3,14 @@ use Prim.Native.Nat.{ℕ}
 use mathlib.Core.Bool.{cond}
 use mathlib.Core.List.{List}
 use lib.Dec.{eqb}
-use Rattle.alert_info.specs.Value.{refusalOf, urisOf}
-use Rattle.resolution.specs.Direct.{start, direct, usedOf, usedCount, skippedCount}
+use Rattle.alert_info.specs.Value.{urisOf}
+use Rattle.resolution.specs.Direct.{start, direct, usedOf}
 use Rattle.resolution.specs.Tries.{triesOver}
 use Rattle.machine_image.specs.Refusals.{formOf}
 use Rattle.machine_image.specs.Walk.{walkSignal}
-use Rattle.stored_table.specs.Tables.{tableRefusal, tableOf}
-pub use Rattle.early.specs.Early.{takenAs}
-use Rattle.resolver.specs.declared.Resolution.{Resolution}
+use Rattle.stored_table.specs.Tables.{tableOf}
+use Rattle.entry_run.specs.declared.Resolution.{Resolution}
+pub use Rattle.entry_run.specs.Answers.{takenAs, refused, answered, unlessRefused}
 use Rattle.resolver.specs.declared.PlainResolution.{PlainResolution}
 
 -- direct resolution's signal over a list of URIs
@@ -20,20 +20,6 @@ directSignal t uris = direct (tableOf t) (usedOf (takenAs t uris)) .signal
 -- the signal of an image's walk over a list of URIs
 abbrev pub walkedSignal : List ℕ → List ℕ → List (List ℕ) → ℕ
 walkedSignal t im uris = walkSignal (tableOf t) im (takenAs t uris)
-
--- refused: all zero but the number
-abbrev pub refused : ℕ → Resolution
-refused k = record { refusal = k; signal = 0; used = 0; skipped = 0 }
-
--- a signal with the numbers of used and skipped URIs
-abbrev pub answered : List ℕ → List (List ℕ) → ℕ → Resolution
-answered t uris s =
-    record { refusal = 0; signal = s; used = usedCount (takenAs t uris); skipped = skippedCount (takenAs t uris) }
-
--- an answer where neither the value (1 to 3) nor the table (4 to 12) is refused
-abbrev pub unlessRefused : List ℕ → List ℕ → Resolution → Resolution
-unlessRefused t v r =
-    cond (eqb (refusalOf v) 0) (cond (eqb (tableRefusal t) 0) r (refused (tableRefusal t))) (refused (refusalOf v))
 
 -- the plain resolver: direct resolution over the value's list
 unfoldable pub plainOf : List ℕ → List ℕ → Resolution

@@ -1,10 +1,11 @@
 // The plain resolver by a table that is decoded already: whoever needs the decoded table too, or resolves many values,
 // decodes it once.
 use crate::PlainResolution;
-use crate::Resolution;
-use crate::answer;
-use crate::run::Point;
-use crate::run::at_start;
+use entry_run::Resolution;
+use entry_run::answer::refused;
+use entry_run::answer::resolved;
+use entry_run::answer::value_first;
+use entry_run::run::at_start;
 use stored_table::Decoded;
 ghost use mathlib.Core.Path.{_≡_};
 ghost use Rattle.stored_table.specs.Decoded.{Means};
@@ -31,32 +32,21 @@ fn with_tries(a: Resolution, tries: u16) -> PlainResolution
 pub(crate) fn too_long() -> PlainResolution
     ensures { λ r. ⌜ r ≡ triedAs (refusedWith 1) 0 ⌝ }
 {
-    with_tries(answer::refused(1), 0)
+    with_tries(refused(1), 0)
 }
 
 // The value v with the table t, decoded as d, and the tries.
 pub fn tried(t: &[u8], d: Decoded, v: &[u8]) -> PlainResolution
     ensures { λ r. ⌜ (Means (now (t .entry)) d → r ≡ plainWith (now (t .entry)) (now (v .entry))) ⌝ }
 {
-    if 4096 < v.len() {
-        return too_long();
-    }
     if d.refusal != 0 {
-        return with_tries(answer::value_first(v, d.refusal), 0);
+        return with_tries(value_first(v, d.refusal), 0);
     }
-    let from = Point {
-        current: at_start(),
-        used: 0,
-        skipped: 0,
-    };
     let no_index = [0u8; 136];
     let no_symbols = [0u8; 384];
-    let o = crate::run::run(t, d, &no_index, &no_symbols, 0, t, from, v);
-    let p = o.point;
-    let last = p.current;
-    let st = last.state;
-    let a = answer::answer(o, st.signal);
-    with_tries(a, last.tries)
+    let e = resolved(t, d, &no_index, &no_symbols, 0, t, at_start(), v);
+    let last = e.last;
+    with_tries(e.answer, last.tries)
 }
 
 // The value v with the table t, decoded as d.

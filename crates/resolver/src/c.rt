@@ -1,7 +1,7 @@
 // The resolvers for C: a table, an image and a value are each a pointer and a length, a carried record is 10 bytes.
 use crate::PlainResolution;
-use crate::Resolution;
 use early::Early;
+use entry_run::Resolution;
 ghost use mathlib.Core.Path.{_≡_};
 ghost use Rattle.resolver.specs.Resolve.{plainWith, machineOf};
 ghost use Rattle.carried_record.specs.Record.{carriedIn, carriedBytes};

@@ -1,11 +1,10 @@
 // One value of a message that has several: direct resolution goes on from what is carried.
 use crate::Fed;
-use crate::Resolution;
-use crate::answer::answer;
-use crate::answer::refused;
-use crate::run::Point;
-use crate::run::at_state;
 use carried_record::Carried;
+use entry_run::Resolution;
+use entry_run::answer::refused;
+use entry_run::answer::resolved;
+use entry_run::run::at_state;
 use stored_table::Decoded;
 ghost use mathlib.Core.Path.{_≡_};
 ghost use Prim.Native.Nat.{_<_};
@@ -47,26 +46,16 @@ pub(crate) fn read_from(t: &[u8], d: Decoded, carried: Carried, v: &[u8]) -> Fed
     requires { ⌜ Means (now t) d × (tableRefusal (now t) ≡ 0) × Fits (tableOf (now t)) carried × (length (carried .status) ≡ 8) × (carried .values < 16) ⌝ }
     ensures { λ r. ⌜ r ≡ readFrom (now (t .entry)) carried (now (v .entry)) ⌝ }
 {
-    if 4096 < v.len() {
-        return counted(refused(1), carried);
-    }
     let start = carried_record::state(carried);
-    let from = Point {
-        current: at_state(start, 0),
-        used: 0,
-        skipped: 0,
-    };
     let no_index = [0u8; 136];
     let no_symbols = [0u8; 384];
-    let o = crate::run::run(t, d, &no_index, &no_symbols, 0, t, from, v);
-    let p = o.point;
-    let last = p.current;
-    let st = last.state;
-    let a = answer(o, st.signal);
+    let e = resolved(t, d, &no_index, &no_symbols, 0, t, at_state(start, 0), v);
+    let a = e.answer;
     if a.refusal != 0 {
         return counted(a, carried);
     }
-    let next = carried_record::after(st, carried.values + 1);
+    let last = e.last;
+    let next = carried_record::after(last.state, carried.values + 1);
     Fed {
         answer: a,
         carried: next,

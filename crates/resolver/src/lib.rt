@@ -3,34 +3,24 @@
 // In: a value, a table and an image, each any bytes. Out: a refusal number, or the signal with the numbers of used and
 // skipped entries.
 //
-//   run.rt      going through a value from entry to entry
-//   answer.rt   the answer at its end
 //   fields.rt   one value of a message that has several Alert-Info fields
 //   by.rt       the plain resolver by a decoded table
 //   c.rt        all of it for C
-mod answer;
 pub mod by;
 mod c;
 mod fields;
-mod run;
 
-use crate::answer::refused;
-use crate::run::at_number;
 use carried_record::Carried;
+use entry_run::Resolution;
+use entry_run::answer::refused;
+use entry_run::answer::resolved;
+use entry_run::answer::value_first;
+use entry_run::run::at_number;
 ghost use mathlib.Core.Path.{_≡_};
 ghost use Rattle.resolver.specs.Resolve.{plainWith, machineOf};
 ghost use Rattle.resolver.specs.Feed.{feedOf};
 
-// A refusal number, 0 if neither value nor table is refused; the signal; and how many entries were used and skipped.
-#[repr(C)]
-pub struct Resolution {
-    pub refusal: u8,
-    pub signal: u8,
-    pub used: u8,
-    pub skipped: u8,
-}
-
-// The plain resolver's answer: the same, and how many candidates its searches tried.
+// The plain resolver's answer: a resolution, and how many candidates its searches tried.
 #[repr(C)]
 pub struct PlainResolution {
     pub refusal: u8,
@@ -66,7 +56,7 @@ pub fn machine(t: &[u8], image: &[u8], v: &[u8]) -> Resolution
     }
     let d = stored_table::decode(t);
     if d.refusal != 0 {
-        return answer::value_first(v, d.refusal);
+        return value_first(v, d.refusal);
     }
     let categories = d.categories;
     let nodes = d.nodes;
@@ -85,10 +75,11 @@ pub fn machine(t: &[u8], image: &[u8], v: &[u8]) -> Resolution
         categories,
         image,
     ) {
-        return answer::value_first(v, 15);
+        return value_first(v, 15);
     }
     let index = machine_symbols::index(&s.bytes, count);
-    answer::resolved(t, d, &index, &s.bytes, count, image, at_number(0), v)
+    let e = resolved(t, d, &index, &s.bytes, count, image, at_number(0), v);
+    e.answer
 }
 
 // One value of a message that has several: direct resolution goes on from what is carried.

@@ -19,7 +19,8 @@ use Rattle.resolution.proofs.Names.{row-exact}
 use Rattle.resolution.proofs.Table.{row-place, row-length}
 use Rattle.resolution.proofs.Nodes.{row-nodes}
 use Rattle.resolution.proofs.Numbers.{root-number}
-use Rattle.node_step.specs.Arrays.{stretch, pack, numbersFrom}
+use Rattle.node_search.specs.Arrays.{stretch}
+use Rattle.node_step.specs.Rows.{pack, numbersFrom}
 use Rattle.node_step.proofs.NumberLaws.{numbers-length, numbers-at, numbers-bytes, numbers-same, Anchored}
 use Rattle.node_step.proofs.PackedLaws.{pack-same}
 use Rattle.table_sections.specs.Held.{Tagged, tag, Padded}

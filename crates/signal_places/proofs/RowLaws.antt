@@ -10,7 +10,7 @@ use lib.Dec.{eqb}
 use borrow.Author.Tests.{eq-eqb, ne-eqb, eqb-true, eqb-false}
 use Rattle.alert_urn.proofs.Fields.{byTest}
 use Rattle.resolution.specs.Names.{sameName}
-use Rattle.node_step.specs.Arrays.{stretch}
+use Rattle.node_search.specs.Arrays.{stretch}
 use Rattle.signal_places.specs.Slots.{placeNumber, packedFrom, sameSlots}
 
 module _ (slots node : List ℕ) (k : ℕ) {x : ℕ} (e : x ≡ getD slots k 0) where

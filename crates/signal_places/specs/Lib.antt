@@ -1,3 +1,5 @@
-pub mod Tests
+-- what a reader has to believe
 pub mod Verdict
+-- what only the code's inner promises use
+pub mod Tests
 pub mod Slots

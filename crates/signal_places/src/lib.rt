@@ -9,7 +9,7 @@ ghost use Rattle.resolution.specs.Names.{Parts};
 ghost use Rattle.resolution.specs.Table.{Table};
 ghost use Rattle.resolution.specs.Nodes.{nodes};
 ghost use Rattle.alert_urn.specs.Text.{fields};
-ghost use Rattle.node_step.specs.Arrays.{stretch};
+ghost use Rattle.node_search.specs.Arrays.{stretch};
 ghost use Rattle.table_sections.specs.Held.{Padded};
 ghost use Rattle.signal_places.specs.Verdict.{verdict};
 ghost use Rattle.signal_places.specs.Slots.{Listing, Numbering, Placed};

@@ -4,10 +4,10 @@ use mathlib.Core.Path.{_≡_, ap, sym, _∙_}
 use mathlib.Core.Bool.{Bool, cond}
 use mathlib.Core.List.{List}
 use borrow.Author.Tests.{eq-eqb, ne-eqb}
-use Rattle.node_step.specs.Uses.{usesOf}
-use Rattle.node_step.proofs.UseRight.{uses-right}
-use Rattle.node_step.specs.declared.uses.Use.{Use}
-use Rattle.node_step.specs.declared.uses.Use.the-variants.{Skipped, Used}
+use Rattle.node_search.specs.Uses.{usesOf}
+use Rattle.node_search.proofs.UseRight.{uses-right}
+use Rattle.node_search.specs.declared.uses.Use.{Use}
+use Rattle.node_search.specs.declared.uses.Use.the-variants.{Skipped, Used}
 use Rattle.stored_table.specs.Tables.{tableRefusal, tableOf, categoryNames}
 use Rattle.stored_table.specs.Decoded.{Holds, Means}
 use Rattle.stored_table.specs.declared.Decoded.{Decoded}

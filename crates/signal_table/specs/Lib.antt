@@ -1,3 +1,5 @@
+-- what a reader has to believe
 pub mod Built
-pub mod Claims
 pub mod Matching
+-- what is claimed of it
+pub mod Claims

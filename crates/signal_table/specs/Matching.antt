@@ -3,9 +3,9 @@ use Prim.Native.Nat.{ℕ}
 use mathlib.Core.Bool.{cond}
 use mathlib.Core.List.{List}
 use lib.Dec.{eqb}
-use Rattle.node_step.specs.Uses.{usedUrn, useOf}
-use Rattle.node_step.specs.declared.uses.Use.{Use}
-use Rattle.node_step.specs.declared.uses.Use.the-variants.{Skipped, Used}
+use Rattle.node_search.specs.Uses.{usedUrn, useOf}
+use Rattle.node_search.specs.declared.uses.Use.{Use}
+use Rattle.node_search.specs.declared.uses.Use.the-variants.{Skipped, Used}
 use Rattle.stored_table.specs.Tables.{tableRefusal, tableOf, categoryNames}
 use Rattle.signal_table.specs.declared.matching.Match.{Match}
 

@@ -74,7 +74,7 @@ pub fn match_urn(t: &[u8], uri: &[u8]) -> Match
     if refused != 0 {
         return matching::refused(refused);
     }
-    let u = node_step::uses::uses(
+    let u = node_search::uses::uses(
         t,
         &d.name_at,
         &d.name_len,

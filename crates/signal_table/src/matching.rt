@@ -1,5 +1,5 @@
 // The answer to what a URI is to a table.
-use node_step::uses::Use;
+use node_search::uses::Use;
 ghost use mathlib.Core.Path.{_≡_};
 ghost use mathlib.Core.Bool.{cond};
 ghost use Rattle.signal_table.specs.Matching.{refusedMatch, matchUse};

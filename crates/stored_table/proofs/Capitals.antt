@@ -5,25 +5,10 @@ use mathlib.Core.Bool.{Bool, true, false, cond, _&&_}
 use mathlib.Core.List.{List, [], _∷_}
 use Rattle.alert_urn.specs.Text.{all, nameOk}
 use Rattle.alert_urn.specs.Urn.{noCapital, storedName, urnOk}
+use Rattle.alert_urn.proofs.Capitals.{exchange, all-two, name-two}
 use Rattle.table_sections.specs.Stored.{Read, fault, got, Stored, sections}
 use Rattle.stored_table.specs.Tables.{formed, listed, tableIn, verdict, judged, judgedRead, tableRefusal}
 use Rattle.stored_table.specs.Capitals.{withoutCapitals, urnInAnyCase, formedInAnyCase, judgedInAnyCase, CapitalsRefused}
-
-exchange : (a b c d : Bool) → ((a && b) && (c && d)) ≡ ((a && c) && (b && d))
-exchange true true c d = refl
-exchange true false true d = refl
-exchange true false false d = refl
-exchange false b c d = refl
-
--- a test that is two, over a list
-all-two : {A : Type 0} (p q r : A → Bool) → ((x : A) → r x ≡ (p x && q x)) → (l : List A) → all r l ≡ (all p l && all q l)
-unfolding all
-all-two p q r e [] = refl
-all-two p q r e (x ∷ l) = ap₂ _&&_ (e x) (all-two p q r e l) ∙ exchange (p x) (q x) (all p l) (all q l)
-
-name-two : (x : List ℕ) → storedName x ≡ (noCapital x && nameOk x)
-unfolding storedName
-name-two x = refl
 
 urn-two : (x : List ℕ) → urnOk x ≡ (noCapital x && urnInAnyCase x)
 unfolding urnOk

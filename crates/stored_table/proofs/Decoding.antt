@@ -14,11 +14,12 @@ use Rattle.resolution.specs.Table.{Urn, urn, Table}
 use Rattle.resolution.specs.Nodes.{nodes, number, nodeAt, addUrn}
 use Rattle.resolution.proofs.Lists.{tabulate-length, tabulate-at}
 use Rattle.resolution.proofs.Numbers.{number-at, root-number}
-use Rattle.node_step.specs.Arrays.{stretch, NamesIn, NodesIn, SharedIn, childless, Numbers}
-use Rattle.node_step.specs.Uses.{fewer}
+use Rattle.node_search.specs.Arrays.{stretch, NamesIn, NodesIn, SharedIn, childless}
+use Rattle.node_step.specs.Rows.{Numbers}
+use Rattle.node_search.specs.Uses.{fewer}
 use Rattle.node_step.proofs.Leaves.{inner-is}
-use Rattle.node_step.proofs.MarkLaws.{shared-of}
-use Rattle.node_step.proofs.UseLaws.{fewer-le}
+use Rattle.node_search.proofs.MarkLaws.{shared-of}
+use Rattle.node_search.proofs.UseLaws.{fewer-le}
 use Rattle.table_sections.specs.declared.Counts.{Counts}
 use Rattle.table_nodes.specs.Nodes.{nodeUrn, pathUrn, Numbered, Nodes, AllAdded}
 use Rattle.signal_places.specs.Slots.{urnOf, Listing, Numbering, Placed}

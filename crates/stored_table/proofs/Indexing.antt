@@ -16,7 +16,7 @@ use Rattle.alert_urn.specs.Urn.{categoryOf, pathOf}
 use Rattle.alert_urn.proofs.Fields.{byTest, upTo-take, past-drop}
 use Rattle.resolution.specs.Lists.{tabulate, memberBy, indexBy}
 use Rattle.resolution.specs.Names.{sameName}
-use Rattle.node_step.specs.Arrays.{stretch}
+use Rattle.node_search.specs.Arrays.{stretch}
 use Rattle.stored_table.specs.Tables.{isListed}
 use Rattle.stored_table.specs.Held.{Indexed}
 use Rattle.table_sections.proofs.Readings.{stretch-set, stretch-keep}

@@ -15,7 +15,7 @@ use Rattle.resolution.specs.Names.{Name, sameName}
 use Rattle.resolution.specs.Table.{Urn, urn, Table}
 use Rattle.resolution.proofs.Lists.{tabulate-same, tabulate-length, tabulate-at, index-member, index-at}
 use Rattle.resolution.proofs.Names.{name-exact}
-use Rattle.node_step.specs.Arrays.{stretch}
+use Rattle.node_search.specs.Arrays.{stretch}
 use Rattle.table_sections.specs.Stored.{fault, got, Stored, stored, sections}
 use Rattle.table_sections.specs.Held.{tag, taggedFrom, joined, urnAt, ReadAs}
 use Rattle.table_sections.specs.declared.Counts.{Counts}

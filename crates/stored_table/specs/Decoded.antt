@@ -5,7 +5,8 @@ use mathlib.Core.Bool.{false}
 use mathlib.Core.List.{List}
 use lib.ListN.{replicate}
 use Rattle.resolution.specs.Table.{Table, WellFormed}
-use Rattle.node_step.specs.Arrays.{NamesIn, NodesIn, SharedIn, InnerIn, Numbers}
+use Rattle.node_search.specs.Arrays.{NamesIn, NodesIn, SharedIn, InnerIn}
+use Rattle.node_step.specs.Rows.{Numbers}
 use Rattle.table_sections.specs.Held.{Padded}
 use Rattle.stored_table.specs.Tables.{categoryNames, tableOf, tableRefusal}
 use Rattle.stored_table.specs.declared.Decoded.{Decoded}

@@ -6,7 +6,7 @@ use lib.ListN.{length, getD}
 use Rattle.resolution.specs.Lists.{indexBy}
 use Rattle.resolution.specs.Names.{sameName}
 use Rattle.alert_urn.specs.Urn.{categoryOf, pathOf}
-use Rattle.node_step.specs.Arrays.{stretch}
+use Rattle.node_search.specs.Arrays.{stretch}
 
 -- the arrays have the category's number and the path of every URN
 pub record Indexed (t : List ℕ) (names : List (List ℕ)) (at len : List ℕ) (m : ℕ) (category pathAt pathLen : List ℕ) : Type 0 where

@@ -1,9 +1,12 @@
+-- what a reader has to believe
 pub mod Tables
-pub mod Held
+-- what is claimed of it
 pub mod Accepted
-pub mod Stages
-pub mod Decoded
 pub mod Capitals
 pub mod Limits
-pub mod Written
 pub mod Examples
+-- what only the code's inner promises use
+pub mod Held
+pub mod Stages
+pub mod Decoded
+pub mod Written

@@ -7,7 +7,7 @@ use lib.ListN.{length}
 use Rattle.resolution.specs.Lists.{tabulate}
 use Rattle.resolution.specs.Nodes.{nodes}
 use Rattle.alert_urn.specs.Text.{fields}
-use Rattle.node_step.specs.Arrays.{stretch}
+use Rattle.node_search.specs.Arrays.{stretch}
 use Rattle.table_sections.specs.Held.{Padded, ReadAs}
 use Rattle.table_sections.specs.declared.Counts.{Counts}
 use Rattle.signal_places.specs.Slots.{Listing}

@@ -12,7 +12,7 @@ ghost use lib.Dec.{eqb};
 ghost use Rattle.resolution.specs.Lists.{tabulate, indexBy};
 ghost use Rattle.resolution.specs.Names.{sameName};
 ghost use Rattle.alert_urn.specs.Text.{all};
-ghost use Rattle.node_step.specs.Arrays.{stretch};
+ghost use Rattle.node_search.specs.Arrays.{stretch};
 ghost use Rattle.stored_table.specs.Tables.{any, noTwo, isListed};
 ghost use Rattle.stored_table.specs.Held.{Indexed};
 

@@ -5,7 +5,7 @@ ghost use Prim.Native.Nat.{_≤_};
 ghost use Rattle.resolution.specs.Lists.{tabulate};
 ghost use Rattle.alert_urn.specs.Text.{all};
 ghost use Rattle.alert_urn.specs.Urn.{storedName, urnOk};
-ghost use Rattle.node_step.specs.Arrays.{stretch};
+ghost use Rattle.node_search.specs.Arrays.{stretch};
 
 // Every category name has its form.
 pub(crate) fn names_formed(t: &[u8], n: usize, at: &[u16; 8], len: &[u8; 8]) -> bool

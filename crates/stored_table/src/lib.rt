@@ -109,7 +109,7 @@ fn placed(
     let mut rows = [0u64; 32];
     let k = signal_places::by_nodes(l.signals, l.urns, signal, category, &node, &mut rows);
     if k == 0 {
-        let m = node_step::marks::of_nodes(t, &cats, &parent, &at, &len, n);
+        let m = node_search::marks::of_nodes(t, &cats, &parent, &at, &len, n);
         let shared = m.shared;
         let inner = m.inner;
         return Decoded {

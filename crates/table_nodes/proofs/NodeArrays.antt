@@ -2,30 +2,31 @@
 use Prim.Native.Nat.{ℕ, suc, zero, _+_, _-_, _≤_, _<_}
 use mathlib.Core.Path.{_≡_, refl, ap, ap₂, sym, _∙_, subst}
 use mathlib.Core.Logic.{inl, inr}
-use mathlib.Core.Bool.{Bool, true, false}
-use mathlib.Core.List.{List, [], _∷_, _++_, foldl, foldl-append, append-assoc}
+use mathlib.Core.Bool.{Bool, true, false, _||_}
+use mathlib.Core.List.{List, [], _∷_, _++_, foldl, foldl-append}
 use native.Mathlib.Numerals.{add-one}
 use native.Mathlib.Omega.{arith}
-use lib.ListN.{length, getD, set, take, drop, length-append, length-take, length-drop}
-use lib.Seq.{getD-set-same, getD-set-other, take-all, getD-drop}
+use lib.ListN.{length, getD, set, take, drop, length-append, length-take, length-drop, take-append-drop}
+use lib.Seq.{getD-set-same, getD-set-other, take-all, getD-drop, drop-cons}
 use lib.Dec.{eqb}
 use borrow.Author.Tests.{eq-eqb, ne-eqb, eqb-true, eqb-false}
 use Rattle.alert_urn.specs.Text.{upTo, fields}
-use Rattle.alert_urn.proofs.Fields.{byTest, same-fields, upTo-le, upTo-stop, upTo-take, fields-upTo, part-end}
+use Rattle.alert_urn.proofs.Fields.{byTest, same-fields, upTo-le, upTo-stop, upTo-take, fields-first, fields-upTo, fields-join, part-end}
 use Rattle.resolution.specs.Lists.{tabulate, memberBy, indexBy, addBy}
 use Rattle.resolution.specs.Names.{Name, Parts, sameName}
-use Rattle.resolution.specs.Table.{Urn, urn, Table}
-use Rattle.resolution.specs.Nodes.{sameUrn, isNode, number, nodeAt, nodes, prefixes, addUrn, RootOrNode, past as begins}
-use Rattle.resolution.proofs.Lists.{tabulate-length, tabulate-same, Extends, at-extends, add-extends, extends-trans, extends-self}
+use Rattle.resolution.specs.Table.{Urn, urn}
+use Rattle.resolution.specs.Nodes.{sameUrn, isNode, number, nodeAt, prefixes, addUrn, RootOrNode, past as begins}
+use Rattle.resolution.proofs.Lists.{tabulate-length, tabulate-same, member-of, mem-at, Extends, at-extends, add-extends, extends-trans, extends-self}
 use Rattle.resolution.proofs.Nodes.{urn-exact}
-use Rattle.resolution.proofs.Numbers.{number-node, ancestor-node}
-use Rattle.node_step.specs.Arrays.{stretch}
+use Rattle.resolution.proofs.Numbers.{number-node}
+use Rattle.node_search.specs.Arrays.{stretch}
 use Rattle.table_sections.specs.Held.{Padded}
 use Rattle.table_sections.proofs.Padding.{pad-set}
 use Rattle.table_nodes.specs.Nodes.{nodeUrn, Nodes, Numbered, AddedTo, AddsNode, AllAdded}
 use Rattle.table_nodes.specs.declared.Added.{Added}
 use Rattle.table_sections.proofs.Tabulated.{tab-suc, tab-split, tab-same-end, index-hit}
 use Rattle.table_sections.proofs.Readings.{stretch-set, stretch-keep}
+use Rattle.table_nodes.proofs.Ancestors.{adder, longer-other, other-absent, closed, bare, added-last}
 use Rattle.table_nodes.proofs.Prefixes.{coming, coming-start, coming-end, coming-more, fields-front}
 
 -- one node
@@ -55,6 +56,9 @@ module _ (f : ℕ → Urn) (c : ℕ) (p : Parts) (i n : ℕ) (v : memberBy sameU
 pub no-node : (ns : List Urn) (c : ℕ) (p : Parts) → number ns c p ≡ 0 → isNode ns c p ≡ false
 no-node ns c p e = byTest (isNode ns c p) (λ b. let z : suc (indexBy sameUrn (urn c p) ns) ≡ 0 = rw b at e in absurd (omega arith)) (λ b. b)
 
+pub no-number : (ns : List Urn) (c : ℕ) (p : Parts) → isNode ns c p ≡ false → number ns c p ≡ 0
+no-number ns c p e = rw e
+
 pub some-node : (ns : List Urn) (c : ℕ) (p : Parts) → 0 < number ns c p → isNode ns c p ≡ true
 some-node ns c p h = byTest (isNode ns c p) (λ b. b) (λ b. let z : 0 < 0 = rw b at h in absurd (omega arith))
 
@@ -62,6 +66,10 @@ pub node-number : (ns : List Urn) (c : ℕ) (p : Parts) {r : ℕ} → r ≡ numb
 node-number ns c p {r} e h =
     let k = number-node ns c p (some-node ns c p (omega (arith, e))) in
     inr (k .0, e ∙ k .2, k .1, k .3)
+
+numbered-root : (ns : List Urn) (c : ℕ) (p : Parts) (k : ℕ) → Numbered ns c p k → RootOrNode ns c p
+numbered-root ns c p k (inl e) = inl (e .1)
+numbered-root ns c p k (inr w) = inr (subst (λ (u : Urn). memberBy sameUrn u ns ≡ true) (w .3) (member-of sameUrn urn-exact (nodeAt ns (w .0)) ns (mem-at ns (w .0) (urn 0 []) (w .2))))
 
 pub numbered-extends : {ns ms : List Urn} (c : ℕ) (p : Parts) (k : ℕ) → Extends ns ms → Numbered ns c p k → Numbered ms c p k
 numbered-extends c p k x (inl e) = inl e
@@ -81,19 +89,22 @@ module _ (t cats parents at len : List ℕ) (n : ℕ) (ns : List Urn) (N : Nodes
     on : r ≡ number ns c p
     on = e ∙ ap (λ (l : List Urn). number l c p) (N .held)
 
-    pub found : 0 < r → AddedTo t cats parents at len ns c p (record { node = r; count = n })
+    pub found : 0 < r → AddedTo t cats parents at len ns c p (record { node = r; count = n; new = false })
     found h = record { over = λ z. absurd (omega arith); kept = λ _. (N, node-number ns c p on h) }
 
-    pub found-add : 0 < r → AddedTo t cats parents at len (addBy sameUrn ns (urn c p)) c p (record { node = r; count = n })
+    pub found-add : 0 < r → AddedTo t cats parents at len (addBy sameUrn ns (urn c p)) c p (record { node = r; count = n; new = false })
     found-add h =
         let m : isNode ns c p ≡ true = some-node ns c p (omega (arith, on)) in
-        subst (λ (l : List Urn). AddedTo t cats parents at len l c p (record { node = r; count = n })) (sym (rw m)) (found h)
+        subst (λ (l : List Urn). AddedTo t cats parents at len l c p (record { node = r; count = n; new = false })) (sym (rw m)) (found h)
+
+    pub none-of : r ≤ 0 → isNode ns c p ≡ false
+    none-of z = no-node ns c p (omega (arith, on))
 
     module _ (z : r ≡ 0) where
       new : addBy sameUrn ns (urn c p) ≡ ns ++ urn c p ∷ []
       new = let m : isNode ns c p ≡ false = no-node ns c p (sym on ∙ z) in rw m
 
-      pub full : 64 ≤ n → AddedTo t cats parents at len (addBy sameUrn ns (urn c p)) c p (record { node = 0; count = n })
+      pub full : 64 ≤ n → AddedTo t cats parents at len (addBy sameUrn ns (urn c p)) c p (record { node = 0; count = n; new = false })
       full h =
           record {
             over = λ _. omega (arith, ap length new, length-append ns (urn c p ∷ []), count);
@@ -143,9 +154,9 @@ module _ (t cats parents at len : List ℕ) (n : ℕ) (ns : List Urn) (N : Nodes
         parent : (k : ℕ) → k < n + 1 → Parent k
         parent k i = byTest (eqb k n) (λ b. subst Parent (sym (eqb-true k n b)) parent-end) (λ b. let y = eqb-false k n b in parent-before k (omega arith))
 
-        pub put : AddedTo t (set cats n c) (set parents n q) (set at n a) (set len n l) (addBy sameUrn ns (urn c p)) c p (record { node = n + 1; count = n + 1 })
+        pub put : AddedTo t (set cats n c) (set parents n q) (set at n a) (set len n l) (addBy sameUrn ns (urn c p)) c p (record { node = n + 1; count = n + 1; new = true })
         put =
-            subst (λ (z : List Urn). AddedTo t (set cats n c) (set parents n q) (set at n a) (set len n l) z c p (record { node = n + 1; count = n + 1 })) (sym new)
+            subst (λ (z : List Urn). AddedTo t (set cats n c) (set parents n q) (set at n a) (set len n l) z c p (record { node = n + 1; count = n + 1; new = true })) (sym new)
             (record {
               over = λ y. absurd (omega arith);
               kept = λ _. (
@@ -162,19 +173,23 @@ module _ (t cats parents at len : List ℕ) (n : ℕ) (ns : List Urn) (N : Nodes
               );
             })
 
+-- a node that was looked for, unless it was known to be none
+pub looked : (t cats parents at len : List ℕ) (n : ℕ) (ns : List Urn) → Nodes t cats parents at len n ns → (c : ℕ) {s w : List ℕ} {r : ℕ} {new : Bool} → s ≡ w
+    → ((new ≡ true → isNode (tabulate (nodeUrn t cats at len) n) c (fields 58 s) ≡ false) → r ≡ number (tabulate (nodeUrn t cats at len) n) c (fields 58 s))
+    → (new ≡ true → isNode ns c (fields 58 w) ≡ false) → r ≡ number (tabulate (nodeUrn t cats at len) n) c (fields 58 w)
+looked t cats parents at len n ns N c e f h =
+    f (λ z. ap₂ (λ (l : List Urn) (s : List ℕ). isNode l c (fields 58 s)) (N .held) e ∙ h z) ∙ ap (λ s. number (tabulate (nodeUrn t cats at len) n) c (fields 58 s)) e
+
 -- a node put where the code puts it
 pub put-by : (t cats parents at len : List ℕ) (n : ℕ) (ns : List Urn) (N : Nodes t cats parents at len n ns) (c from k : ℕ) {r q₁ q a l : ℕ}
     → r ≡ number (tabulate (nodeUrn t cats at len) n) c (fields 58 (take k (drop from t))) → r ≤ 0 → n < 64 → q₁ ≡ q → a ≡ from → l ≡ k
     → (u : Parts) (x : Name) → fields 58 (take k (drop from t)) ≡ u ++ x ∷ [] → Numbered ns c u q
-    → AddedTo t (set cats n c) (set parents n q₁) (set at n a) (set len n l) (addBy sameUrn ns (urn c (fields 58 (take k (drop from t))))) c (fields 58 (take k (drop from t))) (record { node = n + 1; count = n + 1 })
+    → AddedTo t (set cats n c) (set parents n q₁) (set at n a) (set len n l) (addBy sameUrn ns (urn c (fields 58 (take k (drop from t))))) c (fields 58 (take k (drop from t))) (record { node = n + 1; count = n + 1; new = true })
 put-by t cats parents at len n ns N c from k {r} {q₁} {q} {a} {l} e z h f g i u x j o =
     put t cats parents at len n ns N c (fields 58 (take k (drop from t))) r e (omega arith) h a l q₁ (ap₂ (λ a l. fields 58 (take l (drop a t))) g i) u x j
     (subst (λ (y : ℕ). Numbered ns c u y) (sym f) o)
 
 -- the nodes only grow
-abbrev pub adder : ℕ → List Urn → Parts → List Urn
-adder c s p = addBy sameUrn s (urn c p)
-
 adds-extend : (c : ℕ) (ps : List Parts) (s : List Urn) → Extends s (foldl (adder c) s ps)
 adds-extend c [] s = extends-self s
 adds-extend c (p ∷ ps) s = extends-trans (add-extends sameUrn urn-exact s (urn c p)) (adds-extend c ps (adder c s p))
@@ -198,58 +213,22 @@ front t w from k i e h =
     shorter (suc i) (suc k) [] h = refl
     shorter (suc i) (suc k) (y ∷ x) h = ap (λ (l : List ℕ). y ∷ l) (shorter i k x (omega arith))
 
--- the prefixes of w that end in its first i bytes have been added to ns
+-- the prefixes of w that end in its first i bytes have been added to ns; if the last is new there is nothing under it, and w is no node
+-- while there is more to come
 pub record PathDone (t w : List ℕ) (c : ℕ) (ns : List Urn) (cats parents at len : List ℕ) (i : ℕ) (r : Added) : Type 0 where
-  pub done : List Urn
-  pub so-far : addUrn ns (urn c (fields 58 w)) ≡ foldl (adder c) done (coming w i)
-  pub added : AddedTo t cats parents at len done c (fields 58 (take i w)) r
+  pub us : List Urn
+  pub so-far : addUrn ns (urn c (fields 58 w)) ≡ foldl (adder c) (foldl addUrn [] us) (coming w i)
+  pub added : AddedTo t cats parents at len (foldl addUrn [] us) c (fields 58 (take i w)) r
+  pub none-under : r .new ≡ true → (x : Name) → isNode (foldl addUrn [] us) c (fields 58 (take i w) ++ x ∷ []) ≡ false
+  pub none-yet : i < length w → isNode (foldl addUrn [] us) c (fields 58 w) ≡ false
 
-module _ (t w : List ℕ) (c from k : ℕ) (y : w ≡ take k (drop from t)) (ns : List Urn) where
-  pub path-start : {cats parents at len cats₁ parents₁ at₁ len₁ : List ℕ} (n i : ℕ) {r : Added} → i ≡ length (upTo 58 w)
-      → AddsNode t c from i 0 n cats parents at len cats₁ parents₁ at₁ len₁ r → Nodes t cats parents at len n ns → PathDone t w c ns cats₁ parents₁ at₁ len₁ i r
-  path-start {cats} {parents} {at} {len} {cats₁} {parents₁} {at₁} {len₁} n i {r} e A N =
-      let h : i ≤ length w = omega (arith, e, upTo-le 58 w) in
-      let f : take i w ≡ take i (drop from t) = front t w from k i y h in
-      let g : fields 58 (take i w) ≡ upTo 58 w ∷ [] = rw (e, upTo-take 58 w) (fields-upTo 58 w) in
-      let s : begins [] (fields 58 w) ≡ fields 58 (take i w) ∷ coming w i = rw e (coming-start w) in
-      record {
-        done = addBy sameUrn ns (urn c (fields 58 (take i w)));
-        so-far = ap (foldl (adder c) ns) s;
-        added = subst (λ (z : List ℕ). AddedTo t cats₁ parents₁ at₁ len₁ (addBy sameUrn ns (urn c (fields 58 z))) c (fields 58 z) r) (sym f)
-            (A ns [] (upTo 58 w) N (ap (fields 58) (sym f) ∙ g) (inl (refl, refl)));
-      }
-
-  module _ {cats parents at len : List ℕ} (i : ℕ) {r : Added} (D : PathDone t w c ns cats parents at len i r) where
-    pub path-more : {cats₁ parents₁ at₁ len₁ : List ℕ} (j : ℕ) {r₁ : Added} → i < length w → getD w i 0 ≡ 58
-        → j ≡ length (upTo 58 (take (length w - (i + 1)) (drop (i + 1) w))) → (r .node ≡ 0 → ⊥)
-        → AddsNode t c from (i + 1 + j) (r .node) (r .count) cats parents at len cats₁ parents₁ at₁ len₁ r₁ → PathDone t w c ns cats₁ parents₁ at₁ len₁ (i + 1 + j) r₁
-    path-more {cats₁} {parents₁} {at₁} {len₁} j {r₁} h e d z A =
-        let q : j ≡ length (upTo 58 (drop (i + 1) w)) = rw part-end at d in
-        let l : i + 1 + j ≤ length w = omega (arith, q, upTo-le 58 (drop (i + 1) w), length-drop (i + 1) w) in
-        let f : take (i + 1 + j) w ≡ take (i + 1 + j) (drop from t) = front t w from k (i + 1 + j) y l in
-        let K = D .added .kept (omega (arith, z)) in
-        record {
-          done = addBy sameUrn (D .done) (urn c (fields 58 (take (i + 1 + j) w)));
-          so-far = D .so-far ∙ ap (foldl (adder c) (D .done)) (coming-more w i j h e q);
-          added = subst (λ (z : List ℕ). AddedTo t cats₁ parents₁ at₁ len₁ (addBy sameUrn (D .done) (urn c (fields 58 z))) c (fields 58 z) r₁) (sym f)
-              (A (D .done) (fields 58 (take i w)) (upTo 58 (drop (i + 1) w)) (K .0) (ap (fields 58) (sym f) ∙ fields-front w i j h e q) (K .1));
-        }
-
-    whole : AddedTo t cats parents at len (addUrn ns (urn c (fields 58 w))) c (fields 58 w) r → AddedTo t cats parents at len (addUrn ns (urn c (fields 58 (take k (drop from t))))) c (fields 58 (take k (drop from t))) r
-    whole = subst (λ (z : List ℕ). AddedTo t cats parents at len (addUrn ns (urn c (fields 58 z))) c (fields 58 z) r) y
-
-    pub path-over : r .node ≡ 0 → AddedTo t cats parents at len (addUrn ns (urn c (fields 58 (take k (drop from t))))) c (fields 58 (take k (drop from t))) r
-    path-over z = whole (record {
-      over = λ _. omega (arith, D .added .over z, extends-le (adds-extend c (coming w i) (D .done)), ap length (D .so-far));
-      kept = λ l. absurd (omega (arith, z));
-    })
-
-    pub path-end : length w ≤ i → AddedTo t cats parents at len (addUrn ns (urn c (fields 58 (take k (drop from t))))) c (fields 58 (take k (drop from t))) r
-    path-end h =
-        let e : addUrn ns (urn c (fields 58 w)) ≡ D .done = D .so-far ∙ ap (foldl (adder c) (D .done)) (coming-end w i h) in
-        let f : take i w ≡ w = take-all i w h in
-        whole (subst (λ (l : List Urn). AddedTo t cats parents at len l c (fields 58 w) r) (sym e)
-        (subst (λ (z : List ℕ). AddedTo t cats parents at len (D .done) c (fields 58 z) r) f (D .added)))
+-- what ends at a colon is shorter than the whole
+front-shorter : (w : List ℕ) (i : ℕ) → i < length w → getD w i 0 ≡ 58 → length (fields 58 (take i w)) < length (fields 58 w)
+front-shorter w i h e =
+    let f = fields-first 58 (drop (i + 1) w) in
+    let j : w ≡ take i w ++ (58 ∷ drop (i + 1) w) = rw add-one (sym (take-append-drop i w) ∙ ap (λ z. take i w ++ z) (drop-cons w i 0 h ∙ ap (λ x. x ∷ drop (suc i) w) e)) in
+    let k : fields 58 w ≡ fields 58 (take i w) ++ fields 58 (drop (i + 1) w) = ap (fields 58) j ∙ fields-join 58 (take i w) (drop (i + 1) w) in
+    omega (arith, ap length k, length-append (fields 58 (take i w)) (fields 58 (drop (i + 1) w)), ap length (f .1))
 
 pub colon-start : (w : List ℕ) (i : ℕ) → i ≡ length (upTo 58 w) → i < length w → getD w i 0 ≡ 58
 colon-start w i e h = rw e (upTo-stop 58 w (omega arith))
@@ -266,37 +245,89 @@ module _ (w : List ℕ) (i j : ℕ) (d : j ≡ length (upTo 58 (take (length w -
       let l : length (upTo 58 (drop (i + 1) w)) < length (drop (i + 1) w) = omega (arith, q, length-drop (i + 1) w) in
       sym (getD-drop (i + 1) w j 0) ∙ rw q (upTo-stop 58 (drop (i + 1) w) l)
 
--- the ancestors of a node are nodes: nothing is added
-module _ (us : List Urn) (c : ℕ) (p : Parts) where
-  ns : List Urn
-  ns = foldl addUrn [] us
+module _ (t w : List ℕ) (c from k : ℕ) (y : w ≡ take k (drop from t)) where
+  pub path-start : {cats parents at len cats₁ parents₁ at₁ len₁ : List ℕ} (us : List Urn) (n i : ℕ) {r : Added} {new : Bool} → i ≡ length (upTo 58 w)
+      → new ≡ (false || eqb i (length w)) → AddsNode t c from i 0 n new cats parents at len cats₁ parents₁ at₁ len₁ r → Nodes t cats parents at len n (foldl addUrn [] us)
+      → isNode (foldl addUrn [] us) c (fields 58 (take k (drop from t))) ≡ false → PathDone t w c (foldl addUrn [] us) cats₁ parents₁ at₁ len₁ i r
+  path-start {cats} {parents} {at} {len} {cats₁} {parents₁} {at₁} {len₁} us n i {r} {new} e b A N m =
+      let h : i ≤ length w = omega (arith, e, upTo-le 58 w) in
+      let f : take i w ≡ take i (drop from t) = front t w from k i y h in
+      let g : fields 58 (take i w) ≡ upTo 58 w ∷ [] = rw (e, upTo-take 58 w) (fields-upTo 58 w) in
+      let s : begins [] (fields 58 w) ≡ fields 58 (take i w) ∷ coming w i = rw e (coming-start w) in
+      let none : isNode (foldl addUrn [] us) c (fields 58 w) ≡ false = ap (λ z. isNode (foldl addUrn [] us) c (fields 58 z)) y ∙ m in
+      let one : adder c (foldl addUrn [] us) (fields 58 (take i w)) ≡ foldl addUrn [] (us ++ urn c (fields 58 (take i w)) ∷ []) =
+      ap (adder c (foldl addUrn [] us)) g ∙ added-last us c [] (inl refl) (upTo 58 w) ∙ ap (λ z. foldl addUrn [] (us ++ urn c z ∷ [])) (sym g) in
+      let B = A (foldl addUrn [] us) [] (upTo 58 w) N (ap (fields 58) (sym f) ∙ g) (inl (refl, refl))
+      (λ z. ap (λ z. isNode (foldl addUrn [] us) c (fields 58 z)) (sym f ∙ take-all i w (omega (arith, eqb-true i (length w) (sym b ∙ z)))) ∙ none) in
+      record {
+        us = us ++ urn c (fields 58 (take i w)) ∷ [];
+        so-far = ap (foldl (adder c) (foldl addUrn [] us)) s ∙ ap (λ (l : List Urn). foldl (adder c) l (coming w i)) one;
+        added = subst (λ (l : List Urn). AddedTo t cats₁ parents₁ at₁ len₁ l c (fields 58 (take i w)) r) one
+            (subst (λ (z : List ℕ). AddedTo t cats₁ parents₁ at₁ len₁ (addBy sameUrn (foldl addUrn [] us) (urn c (fields 58 z))) c (fields 58 z) r) (sym f) (B .0));
+        none-under = λ z x. subst (λ (l : List Urn). isNode l c (fields 58 (take i w) ++ x ∷ []) ≡ false) one
+            (bare us c (fields 58 (take i w)) (λ q. omega (arith, ap length q, ap length g)) (ap (λ z. isNode (foldl addUrn [] us) c (fields 58 z)) f ∙ B .1 z) x);
+        none-yet = λ l. subst (λ (s : List Urn). isNode s c (fields 58 w) ≡ false) one
+            (other-absent (foldl addUrn [] us) c (fields 58 (take i w)) (fields 58 w) none (longer-other (fields 58 (take i w)) (fields 58 w) (front-shorter w i l (colon-start w i e l))));
+      }
 
-  one : Table
-  one = record { cats = 0; signals = us ∷ [] }
+  module _ (ns : List Urn) {cats parents at len : List ℕ} (i : ℕ) {r : Added} (D : PathDone t w c ns cats parents at len i r) where
+    abbrev ds : List Urn
+    ds = foldl addUrn [] (D .us)
 
-  same : nodes one ≡ foldl addUrn [] us
-  unfolding nodes ns one
-  same = refl
+    pub path-more : {cats₁ parents₁ at₁ len₁ : List ℕ} (j : ℕ) {r₁ : Added} {new : Bool} → i < length w → getD w i 0 ≡ 58
+        → j ≡ length (upTo 58 (take (length w - (i + 1)) (drop (i + 1) w))) → (r .node ≡ 0 → ⊥) → new ≡ (r .new || eqb (i + 1 + j) (length w))
+        → AddsNode t c from (i + 1 + j) (r .node) (r .count) new cats parents at len cats₁ parents₁ at₁ len₁ r₁ → PathDone t w c ns cats₁ parents₁ at₁ len₁ (i + 1 + j) r₁
+    path-more {cats₁} {parents₁} {at₁} {len₁} j {r₁} {new} h e d z b A =
+        let q : j ≡ length (upTo 58 (drop (i + 1) w)) = rw part-end at d in
+        let l : i + 1 + j ≤ length w = omega (arith, q, upTo-le 58 (drop (i + 1) w), length-drop (i + 1) w) in
+        let f : take (i + 1 + j) w ≡ take (i + 1 + j) (drop from t) = front t w from k (i + 1 + j) y l in
+        let g : fields 58 (take (i + 1 + j) w) ≡ fields 58 (take i w) ++ upTo 58 (drop (i + 1) w) ∷ [] = fields-front w i j h e q in
+        let K = D .added .kept (omega (arith, z)) in
+        let one : adder c ds (fields 58 (take (i + 1 + j) w)) ≡ foldl addUrn [] (D .us ++ urn c (fields 58 (take (i + 1 + j) w)) ∷ []) =
+        ap (adder c ds) g ∙ added-last (D .us) c (fields 58 (take i w)) (numbered-root ds c (fields 58 (take i w)) (r .node) (K .1)) (upTo 58 (drop (i + 1) w))
+        ∙ ap (λ z. foldl addUrn [] (D .us ++ urn c z ∷ [])) (sym g) in
+        let known : new ≡ true → isNode ds c (fields 58 (take (i + 1 + j) w)) ≡ false = λ v. byTest (r .new)
+        (λ a. ap (isNode ds c) g ∙ D .none-under a (upTo 58 (drop (i + 1) w)))
+        (λ a.
+        let u : eqb (i + 1 + j) (length w) ≡ true = ap (λ x. x || eqb (i + 1 + j) (length w)) (sym a) ∙ sym b ∙ v in
+        ap (λ z. isNode ds c (fields 58 z)) (take-all (i + 1 + j) w (omega (arith, eqb-true (i + 1 + j) (length w) u))) ∙ D .none-yet h) in
+        let B = A ds (fields 58 (take i w)) (upTo 58 (drop (i + 1) w)) (K .0) (ap (fields 58) (sym f) ∙ g) (K .1)
+        (λ v. ap (λ z. isNode ds c (fields 58 z)) (sym f) ∙ known v) in
+        record {
+          us = D .us ++ urn c (fields 58 (take (i + 1 + j) w)) ∷ [];
+          so-far = D .so-far ∙ ap (foldl (adder c) ds) (coming-more w i j h e q) ∙ ap (λ (l : List Urn). foldl (adder c) l (coming w (i + 1 + j))) one;
+          added = subst (λ (l : List Urn). AddedTo t cats₁ parents₁ at₁ len₁ l c (fields 58 (take (i + 1 + j) w)) r₁) one
+              (subst (λ (z : List ℕ). AddedTo t cats₁ parents₁ at₁ len₁ (addBy sameUrn ds (urn c (fields 58 z))) c (fields 58 z) r₁) (sym f) (B .0));
+          none-under = λ v x. subst (λ (l : List Urn). isNode l c (fields 58 (take (i + 1 + j) w) ++ x ∷ []) ≡ false) one
+              (bare (D .us) c (fields 58 (take (i + 1 + j) w)) (λ p. omega (arith, ap length p, ap length g, length-append (fields 58 (take i w)) (upTo 58 (drop (i + 1) w) ∷ [])))
+              (ap (λ z. isNode ds c (fields 58 z)) f ∙ B .1 v) x);
+          none-yet = λ m. subst (λ (s : List Urn). isNode s c (fields 58 w) ≡ false) one
+              (other-absent ds c (fields 58 (take (i + 1 + j) w)) (fields 58 w) (D .none-yet h)
+              (longer-other (fields 58 (take (i + 1 + j) w)) (fields 58 w) (front-shorter w (i + 1 + j) m (colon-next w i j d m))));
+        }
 
-  nothing : isNode (foldl addUrn [] us) c p ≡ true → (q r : Parts) → q ++ r ≡ p → foldl (adder c) (foldl addUrn [] us) (begins q r) ≡ foldl addUrn [] us
-  nothing m q [] e = refl
-  nothing m q (x ∷ r) e = go (subst (λ (l : List Urn). RootOrNode l c (q ++ x ∷ [])) same (ancestor-node one c (q ++ x ∷ []) p (record { rest = r; joined = append-assoc q (x ∷ []) r ∙ e })
-      (inr (subst (λ (l : List Urn). isNode l c p ≡ true) (sym same) m)))) (nothing m (q ++ x ∷ []) r (append-assoc q (x ∷ []) r ∙ e))
-    where
-      go : RootOrNode (foldl addUrn [] us) c (q ++ x ∷ []) → foldl (adder c) (foldl addUrn [] us) (begins (q ++ x ∷ []) r) ≡ foldl addUrn [] us
-          → foldl (adder c) (foldl addUrn [] us) (begins q (x ∷ r)) ≡ foldl addUrn [] us
-      go (inl z) ih = absurd (omega (arith, ap length z, length-append q (x ∷ [])))
-      go (inr z) ih = ap (λ (l : List Urn). foldl (adder c) l (begins (q ++ x ∷ []) r)) (rw z) ∙ ih
+    whole : AddedTo t cats parents at len (addUrn ns (urn c (fields 58 w))) c (fields 58 w) r → AddedTo t cats parents at len (addUrn ns (urn c (fields 58 (take k (drop from t))))) c (fields 58 (take k (drop from t))) r
+    whole = subst (λ (z : List ℕ). AddedTo t cats parents at len (addUrn ns (urn c (fields 58 z))) c (fields 58 z) r) y
 
-  pub closed : isNode (foldl addUrn [] us) c p ≡ true → addUrn (foldl addUrn [] us) (urn c p) ≡ foldl addUrn [] us
-  closed m = nothing m [] p refl
+    pub path-over : r .node ≡ 0 → AddedTo t cats parents at len (addUrn ns (urn c (fields 58 (take k (drop from t))))) c (fields 58 (take k (drop from t))) r
+    path-over z = whole (record {
+      over = λ _. omega (arith, D .added .over z, extends-le (adds-extend c (coming w i) ds), ap length (D .so-far));
+      kept = λ l. absurd (omega (arith, z));
+    })
+
+    pub path-end : length w ≤ i → AddedTo t cats parents at len (addUrn ns (urn c (fields 58 (take k (drop from t))))) c (fields 58 (take k (drop from t))) r
+    path-end h =
+        let e : addUrn ns (urn c (fields 58 w)) ≡ ds = D .so-far ∙ ap (foldl (adder c) ds) (coming-end w i h) in
+        let f : take i w ≡ w = take-all i w h in
+        whole (subst (λ (l : List Urn). AddedTo t cats parents at len l c (fields 58 w) r) (sym e)
+        (subst (λ (z : List ℕ). AddedTo t cats parents at len ds c (fields 58 z) r) f (D .added)))
 
 pub whole-found : (t cats parents at len : List ℕ) (n : ℕ) (us : List Urn) → Nodes t cats parents at len n (foldl addUrn [] us) → (c : ℕ) (p : Parts) (r : ℕ)
-    → r ≡ number (tabulate (nodeUrn t cats at len) n) c p → 0 < r → AddedTo t cats parents at len (addUrn (foldl addUrn [] us) (urn c p)) c p (record { node = r; count = n })
+    → r ≡ number (tabulate (nodeUrn t cats at len) n) c p → 0 < r → AddedTo t cats parents at len (addUrn (foldl addUrn [] us) (urn c p)) c p (record { node = r; count = n; new = false })
 whole-found t cats parents at len n us N c p r e h =
     let f : r ≡ number (foldl addUrn [] us) c p = e ∙ ap (λ (l : List Urn). number l c p) (N .held) in
     let m : isNode (foldl addUrn [] us) c p ≡ true = some-node (foldl addUrn [] us) c p (omega (arith, f)) in
-    subst (λ (l : List Urn). AddedTo t cats parents at len l c p (record { node = r; count = n })) (sym (closed us c p m))
+    subst (λ (l : List Urn). AddedTo t cats parents at len l c p (record { node = r; count = n; new = false })) (sym (closed us c p m))
     (found t cats parents at len n (foldl addUrn [] us) N c p r e h)
 
 -- all URNs

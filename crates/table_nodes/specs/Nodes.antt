@@ -2,14 +2,15 @@
 use Prim.Native.Nat.{ℕ, suc, _≤_, _<_}
 use mathlib.Core.Path.{_≡_}
 use mathlib.Core.Logic.{_⊎_}
+use mathlib.Core.Bool.{Bool, true, false}
 use mathlib.Core.List.{List, [], _∷_, _++_, foldl}
 use lib.ListN.{length, getD, take, drop}
 use Rattle.resolution.specs.Lists.{tabulate, addBy}
 use Rattle.resolution.specs.Names.{Name, Parts}
 use Rattle.resolution.specs.Table.{Urn, urn}
-use Rattle.resolution.specs.Nodes.{sameUrn, nodeAt, addUrn}
+use Rattle.resolution.specs.Nodes.{sameUrn, nodeAt, isNode, addUrn}
 use Rattle.alert_urn.specs.Text.{fields}
-use Rattle.node_step.specs.Arrays.{stretch}
+use Rattle.node_search.specs.Arrays.{stretch}
 use Rattle.table_sections.specs.Held.{Padded}
 use Rattle.table_nodes.specs.declared.Added.{Added}
 
@@ -40,17 +41,20 @@ pub record AddedTo (t cats parents at len : List ℕ) (new : List Urn) (c : ℕ)
   pub over : r .node ≡ 0 → 64 < length new
   pub kept : 0 < r .node → Nodes t cats parents at len (r .count) new × Numbered new c p (r .node)
 
--- what adding a node promises, whatever nodes the arrays held: the path in k bytes is put under the node `parent`
-abbrev pub AddsNode : (t : List ℕ) (c from k parent n : ℕ) (cats parents at len cats₁ parents₁ at₁ len₁ : List ℕ) → Added → Type 0
-AddsNode t c from k parent n cats parents at len cats₁ parents₁ at₁ len₁ r =
+-- what adding a node promises, whatever nodes the arrays held: the path in k bytes is put under the node `parent`; it is called new only
+-- where it was no node
+abbrev pub AddsNode : (t : List ℕ) (c from k parent n : ℕ) (new : Bool) (cats parents at len cats₁ parents₁ at₁ len₁ : List ℕ) → Added → Type 0
+AddsNode t c from k parent n new cats parents at len cats₁ parents₁ at₁ len₁ r =
     (ns : List Urn) (p : Parts) (x : Name) → Nodes t cats parents at len n ns → fields 58 (take k (drop from t)) ≡ p ++ x ∷ [] → Numbered ns c p parent
+    → (new ≡ true → isNode ns c (fields 58 (take k (drop from t))) ≡ false)
     → AddedTo t cats₁ parents₁ at₁ len₁ (addBy sameUrn ns (urn c (fields 58 (take k (drop from t))))) c (fields 58 (take k (drop from t))) r
+    × (r .new ≡ true → isNode ns c (fields 58 (take k (drop from t))) ≡ false)
 
--- what adding a path with its ancestors promises
+-- what adding a path that is no node, with its ancestors, to the nodes of URNs promises
 abbrev pub AddsPath : (t : List ℕ) (c from k n : ℕ) (cats parents at len cats₁ parents₁ at₁ len₁ : List ℕ) → Added → Type 0
 AddsPath t c from k n cats parents at len cats₁ parents₁ at₁ len₁ r =
-    (ns : List Urn) → Nodes t cats parents at len n ns
-    → AddedTo t cats₁ parents₁ at₁ len₁ (addUrn ns (urn c (fields 58 (take k (drop from t))))) c (fields 58 (take k (drop from t))) r
+    (us : List Urn) → Nodes t cats parents at len n (foldl addUrn [] us) → isNode (foldl addUrn [] us) c (fields 58 (take k (drop from t))) ≡ false
+    → AddedTo t cats₁ parents₁ at₁ len₁ (addUrn (foldl addUrn [] us) (urn c (fields 58 (take k (drop from t))))) c (fields 58 (take k (drop from t))) r
 
 -- what adding a URN to the nodes of others promises
 abbrev pub AddsUrn : (t : List ℕ) (c from k n : ℕ) (cats parents at len cats₁ parents₁ at₁ len₁ : List ℕ) → Added → Type 0

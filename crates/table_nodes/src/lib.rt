@@ -4,12 +4,14 @@ use table_sections::bytes::small;
 use table_sections::bytes::wide;
 use table_sections::bytes::wider;
 ghost use mathlib.Core.Path.{_≡_};
+ghost use mathlib.Core.Bool.{true, false, _||_};
 ghost use Prim.Native.Nat.{_≤_, _<_};
+ghost use lib.Dec.{eqb};
 ghost use Rattle.resolution.specs.Lists.{tabulate};
 ghost use Rattle.resolution.specs.Table.{urn};
-ghost use Rattle.resolution.specs.Nodes.{sameUrn, number};
+ghost use Rattle.resolution.specs.Nodes.{sameUrn, isNode, number};
 ghost use Rattle.alert_urn.specs.Text.{fields};
-ghost use Rattle.node_step.specs.Arrays.{stretch};
+ghost use Rattle.node_search.specs.Arrays.{stretch};
 ghost use Rattle.table_nodes.specs.Nodes.{nodeUrn, pathUrn, Clear, AddsNode, AddsPath, AddsUrn, AllAdded};
 
 // The path of node i + 1.
@@ -65,10 +67,32 @@ fn find_node(
     0
 }
 
-// A node's number, 0 if there is no room, and how many nodes there are.
+// The same, not looked for if it is known to be no node.
+fn find_unless(
+    t: &[u8],
+    c: u8,
+    s: &[u8],
+    n: usize,
+    new: bool,
+    cats: &[u8; 64],
+    at: &[u16; 64],
+    len: &[u8; 64],
+) -> usize
+    requires { ⌜ n ≤ 64 ⌝ }
+    ensures { λ r. ⌜ ((new ≡ true → isNode (tabulate (nodeUrn (now (t .entry)) (now (cats .entry)) (now (at .entry)) (now (len .entry))) n) c (fields 58 (now (s .entry))) ≡ false)
+        → r ≡ number (tabulate (nodeUrn (now (t .entry)) (now (cats .entry)) (now (at .entry)) (now (len .entry))) n) c (fields 58 (now (s .entry)))) × (r ≤ n) ⌝ }
+{
+    if new {
+        return 0;
+    }
+    find_node(t, c, s, n, cats, at, len)
+}
+
+// A node's number, 0 if there is no room, how many nodes there are, and whether it is new among them.
 pub struct Added {
     pub node: usize,
     pub count: usize,
+    pub new: bool,
 }
 
 // The node of category c with the path in the len bytes from `at`, under the node `parent`, is added unless it is there.
@@ -79,19 +103,33 @@ fn add_node(
     k: usize,
     parent: usize,
     n: usize,
+    new: bool,
     cats: &mut [u8; 64],
     parents: &mut [u8; 64],
     at: &mut [u16; 64],
     len: &mut [u8; 64],
 ) -> Added
     requires { ⌜ (n ≤ 64) × (from < 65536) × (k < 256) × (parent ≤ 64) ⌝ }
-    ensures { λ r. ⌜ AddsNode (now (t .entry)) c from k parent n (now (cats .entry)) (now (parents .entry)) (now (at .entry)) (now (len .entry))
+    ensures { λ r. ⌜ AddsNode (now (t .entry)) c from k parent n new (now (cats .entry)) (now (parents .entry)) (now (at .entry)) (now (len .entry))
         (now (cats .exit)) (now (parents .exit)) (now (at .exit)) (now (len .exit)) r ⌝ }
     ensures few { λ r. ⌜ (r .node ≤ 64) × (r .count ≤ 64) ⌝ }
 {
-    let m = find_node(t, c, alert_urn::text::part(t, from, k), n, cats, at, len);
+    let m = find_unless(
+        t,
+        c,
+        alert_urn::text::part(t, from, k),
+        n,
+        new,
+        cats,
+        at,
+        len,
+    );
     if 0 < m {
-        return Added { node: m, count: n };
+        return Added {
+            node: m,
+            count: n,
+            new: false,
+        };
     }
     if n < 64 {
         cats[n] = c;
@@ -102,12 +140,27 @@ fn add_node(
         return Added {
             node: next,
             count: next,
+            new: true,
         };
     }
-    Added { node: 0, count: n }
+    Added {
+        node: 0,
+        count: n,
+        new: false,
+    }
 }
 
-// The ancestors of a path and the path itself are added, shortest first.
+// The path that ends before the byte i of e is no node: its parent is new, or it is the whole path, which is none.
+fn surely_new(parent_new: bool, i: usize, e: usize) -> bool
+    ensures { λ r. ⌜ r ≡ («parent_new» || eqb i e) ⌝ }
+{
+    if parent_new {
+        return true;
+    }
+    i == e
+}
+
+// The ancestors of a path that is no node, and the path itself, are added, shortest first.
 fn add_path(
     t: &[u8],
     c: u8,
@@ -127,14 +180,16 @@ fn add_path(
     let w = alert_urn::text::part(t, from, k);
     let e = w.len();
     let mut i = alert_urn::text::find(w, 58);
-    let mut r = add_node(t, c, from, i, 0, n, cats, parents, at, len);
+    let first = surely_new(false, i, e);
+    let mut r = add_node(t, c, from, i, 0, n, first, cats, parents, at, len);
     while i < e {
         if r.node == 0 {
             return r;
         }
         let a = i + 1;
         i = a + alert_urn::text::find(&w[a..e], 58);
-        r = add_node(t, c, from, i, r.node, r.count, cats, parents, at, len);
+        let new = surely_new(r.new, i, e);
+        r = add_node(t, c, from, i, r.node, r.count, new, cats, parents, at, len);
     }
     r
 }
@@ -158,7 +213,11 @@ fn add_urn(
 {
     let m = find_node(t, c, alert_urn::text::part(t, from, k), n, cats, at, len);
     if 0 < m {
-        return Added { node: m, count: n };
+        return Added {
+            node: m,
+            count: n,
+            new: false,
+        };
     }
     add_path(t, c, from, k, n, cats, parents, at, len)
 }

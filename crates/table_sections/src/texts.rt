@@ -3,7 +3,7 @@ use crate::bytes::wider;
 ghost use mathlib.Core.Path.{_≡_};
 ghost use Prim.Native.Nat.{_≤_, _<_};
 ghost use lib.ListN.{length};
-ghost use Rattle.node_step.specs.Arrays.{stretch};
+ghost use Rattle.node_search.specs.Arrays.{stretch};
 
 // The name of category i, if there is room for so many.
 pub fn name_text<'a>(t: &'a [u8], at: &[u16; 8], len: &[u8; 8], i: usize) -> &'a [u8]

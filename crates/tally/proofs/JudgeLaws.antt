@@ -10,7 +10,7 @@ use borrow.Author.Tests.{lt-ltb, le-ltb, eq-eqb, ne-eqb, eqb-true, eqb-false}
 use Rattle.stored_table.specs.Tables.{tableRefusal, tableOf}
 use Rattle.stored_table.specs.Decoded.{Means}
 use Rattle.stored_table.specs.declared.Decoded.{Decoded}
-use Rattle.resolver.specs.declared.Resolution.{Resolution}
+use Rattle.entry_run.specs.declared.Resolution.{Resolution}
 use Rattle.resolver.specs.Resolve.{refused, plainOf}
 use Rattle.tally.specs.Tally.{most, accepted, countTo, needed, tooFew}
 use Rattle.tally.specs.Steps.{fullCount, judgedOf, judgedCounts}

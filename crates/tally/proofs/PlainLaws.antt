@@ -14,10 +14,10 @@ use Rattle.resolution.specs.Direct.{State, start, step, envOf, StateOf, direct,
 use Rattle.resolution.proofs.TableStep.{state-start, state-step, state-signal}
 use Rattle.stored_table.specs.Tables.{tableRefusal, tableOf}
 use Rattle.stored_table.proofs.Accepting as stored
-use Rattle.resolver.specs.declared.Resolution.{Resolution}
+use Rattle.entry_run.specs.declared.Resolution.{Resolution}
 use Rattle.resolver.specs.Resolve.{takenAs, directSignal, refused, answered, plainOf}
-use Rattle.resolver.specs.Demands.{PlainNumber}
-use Rattle.resolver.proofs.RefusalLaws.{plain-number}
+use Rattle.demands.specs.Demands.{PlainNumber}
+use Rattle.demands.proofs.RefusalLaws.{plain-number}
 
 -- direct resolution is always at a signal of the table
 state-after : (T : Table) → WellFormed T → (us : List Urn) (st : State) → StateOf T st → StateOf T (foldl (step (envOf T)) st us)

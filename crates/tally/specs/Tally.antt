@@ -7,7 +7,7 @@ use mathlib.Core.List.{List}
 use lib.Dec.{ltb, leb, eqb}
 use lib.ListN.{length, getD, set}
 use Rattle.stored_table.specs.Tables.{tableRefusal, tableOf}
-use Rattle.resolver.specs.declared.Resolution.{Resolution}
+use Rattle.entry_run.specs.declared.Resolution.{Resolution}
 use Rattle.resolver.specs.Resolve.{refused, plainOf}
 use Rattle.tally.specs.declared.Tally.{Tally}
 

@@ -1,5 +1,5 @@
 // A value's resolution, with a refusal counted.
-use resolver::Resolution;
+use entry_run::Resolution;
 ghost use mathlib.Core.Path.{_≡_};
 ghost use mathlib.Core.Bool.{cond};
 ghost use Prim.Native.Nat.{_≤_};

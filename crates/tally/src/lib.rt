@@ -13,7 +13,7 @@ mod judge;
 pub mod month;
 mod records;
 
-use resolver::Resolution;
+use entry_run::Resolution;
 ghost use mathlib.Core.Path.{_≡_};
 ghost use Rattle.tally.specs.Tally.{Tallied};
 

@@ -3,7 +3,7 @@
 use crate::Tally;
 use crate::judge;
 use crate::records;
-use resolver::Resolution;
+use entry_run::Resolution;
 ghost use mathlib.Core.Path.{_≡_};
 ghost use Prim.Native.Nat.{min};
 ghost use lib.ListN.{take};

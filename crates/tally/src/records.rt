@@ -1,7 +1,7 @@
 // An accepted resolution is added to its signal's record.
 use crate::Tally;
 use crate::judge::uncounted;
-use resolver::Resolution;
+use entry_run::Resolution;
 ghost use mathlib.Core.Path.{_≡_};
 ghost use Rattle.tally.specs.Steps.{placeOf, addedOf, answerAt, recordsAt};
 

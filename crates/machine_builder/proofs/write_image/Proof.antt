@@ -1,7 +1,7 @@
 use mathlib.Core.Path.{refl, sym, ap, _∙_}
 use native.Mathlib.Omega.{arith}
 use lib.ListN.{replicate}
-use Rattle.node_step.proofs.UseLaws.{fewer-le}
+use Rattle.node_search.proofs.UseLaws.{fewer-le}
 use Rattle.machine_symbols.specs.Steps.{nextState}
 use Rattle.machine_builder.proofs.WriteLaws.{first-length, built-many, built-short, built-done, rows-fit}
 use borrow.Author.Needs.{needs}

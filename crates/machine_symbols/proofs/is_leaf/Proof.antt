@@ -2,7 +2,7 @@ use native.Mathlib.Omega.{arith}
 use Prim.Native.Nat.{_≤_, _-_}
 use mathlib.Core.Path.{_≡_, refl}
 use mathlib.Core.Bool.{true}
-use Rattle.node_step.specs.Arrays.{childless}
+use Rattle.node_search.specs.Arrays.{childless}
 use Rattle.node_step.proofs.Leaves.{child-found}
 use Rattle.machine_symbols.proofs.SymbolLaws.{child-more, child-end}
 use borrow.Author.Needs.{needs}

@@ -1,8 +1,7 @@
-use mathlib.Core.Path.{refl, sym, ap, _∙_}
+use mathlib.Core.Path.{refl, sym, _∙_}
 use borrow.Author.Tests.{not-true, not-false}
 use native.Mathlib.Omega.{arith}
 use Rattle.alert_info.proofs.ReadingLaws.{refusal-long}
-use Rattle.resolver.specs.declared.run.Current.{Current}
 use Rattle.resolver.proofs.MachineLaws.{machine-right, machine-long, machine-table, machine-form, symbols-listed, form-listed}
 use borrow.Author.Needs.{needs}
 use Rattle.resolver.proofs.machine.Statement.{statement}
@@ -46,16 +45,16 @@ at-number-requires : tie.Need-at-number-requires
 at-number-requires c κs = search needs
 
 resolved-requires : tie.Need-resolved-requires
-resolved-requires c κs = (omega (arith, c .before .before .before .before .before .before .before .before .before .before .before .before .before .before .before .before .before .before .before .before .before .before .if1 .left), ap (λ (x : Current). x .tries) (c .at-number .ensures))
+resolved-requires c κs = search needs
 
 returns-4 : tie.Need-returns-4
 returns-4 c =
-    let d = c .before .before .before .before .before .before .before .before .before .before .before .before .before .before .before .before .before .before .before .before .before .before .decode .ensures in
-    let left = c .before .before .before .before .before .before .before .before .before .before .before .before .before .before .before .before .before .before .before .before .before .if2 .left in
+    let d = c .before .before .before .before .before .before .before .before .before .before .before .before .before .before .before .before .before .before .before .before .before .before .before .decode .ensures in
+    let left = c .before .before .before .before .before .before .before .before .before .before .before .before .before .before .before .before .before .before .before .before .before .before .if2 .left in
     let z = sym (d .refusal) ∙ left in
-    let f = form-listed _ _ d left (c .before .before .before .before .before .before .before .before .before .before .before .before .before .before .before .before .before .list .ensures) _ (c .before .before .before .before .before .before .before .before .before .formed .ensures) in
-    c .resolved .ensures
-    ∙ machine-right _ _ (d .holds z) _ (symbols-listed _ _ d left (c .before .before .before .before .before .before .before .before .before .before .before .before .before .before .before .before .before .list .ensures)) (c .before .before .before .before .before .index .ensures) refl (c .before .at-number .ensures) _ (omega (arith, c .before .before .before .before .before .before .before .before .before .before .before .before .before .before .before .before .before .before .before .before .before .before .before .if1 .left)) z (sym f ∙ not-false _ (c .before .before .before .before .before .before .before .before .if3 .left))
+    let l = c .before .before .before .before .before .before .before .before .before .before .before .before .before .before .before .before .before .before .list .ensures in
+    let f = form-listed _ _ d left l _ (c .before .before .before .before .before .before .before .before .before .before .formed .ensures) in
+    machine-right _ _ (d .holds z) _ (symbols-listed _ _ d left l) (c .before .before .before .before .before .before .index .ensures) refl (c .before .before .at-number .ensures) _ (c .before .resolved .ensures) z (sym f ∙ not-false _ (c .before .before .before .before .before .before .before .before .before .if3 .left))
 
 pub machine-spec : {M : Type 1} → statement M
 machine-spec =

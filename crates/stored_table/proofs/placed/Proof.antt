@@ -1,6 +1,6 @@
 use mathlib.Core.Path.{refl}
 use Rattle.alert_urn.specs.Text.{fields}
-use Rattle.node_step.specs.Arrays.{stretch}
+use Rattle.node_search.specs.Arrays.{stretch}
 use Rattle.table_sections.proofs.Padding.{clear}
 use Rattle.stored_table.specs.Tables.{tableOf}
 use Rattle.stored_table.proofs.Judging.{means-refused}

@@ -1,10 +1,6 @@
 use native.Mathlib.Omega.{arith}
-use mathlib.Core.Path.{ap, _∙_}
-use Rattle.resolution.specs.Lists.{tabulate}
-use Rattle.resolution.specs.Nodes.{number}
-use Rattle.alert_urn.specs.Text.{fields}
-use Rattle.table_nodes.specs.Nodes.{nodeUrn}
-use Rattle.table_nodes.proofs.NodeArrays.{found-add, full, put-by}
+use mathlib.Core.Bool.{false≢true}
+use Rattle.table_nodes.proofs.NodeArrays.{looked, none-of, found-add, full, put-by}
 use Rattle.table_sections.proofs.Padding.{one-byte, two-bytes}
 use borrow.Author.Needs.{needs}
 use Rattle.table_nodes.proofs.add_node.Statement.{statement}
@@ -13,13 +9,16 @@ use Rattle.table_nodes.proofs.add_node.Tie as tie
 part-requires : tie.Need-part-requires
 part-requires c κs = search needs
 
-find-node-requires : tie.Need-find-node-requires
-find-node-requires c κs = search needs
+find-unless-requires : tie.Need-find-unless-requires
+find-unless-requires c κs = search needs
 
 returns : tie.Need-returns
-returns c = let a = c .before .before .before .before .before .before .before .args in
-    let e = c .before .find-node .ensures .0 ∙ ap (λ s. number (tabulate (nodeUrn (a .t .now) (a .cats .now) (a .at .now) (a .len .now)) (a .n)) (a .c) (fields 58 s)) (c .before .before .before .before .before .part .ensures) in
-    ((λ ns p x N g o. found-add (a .t .now) (a .cats .now) (a .parents .now) (a .at .now) (a .len .now) (a .n) ns N (a .c) _ _ e (c .if1 .taken)), (omega (arith, c .before .find-node .ensures .1), omega arith))
+returns c = let a = c .before .before .before .before .before .before .before .args in (
+  (λ ns p x N g o h.
+      let e = looked (a .t .now) (a .cats .now) (a .parents .now) (a .at .now) (a .len .now) (a .n) ns N (a .c) (c .before .before .before .before .before .part .ensures) (c .before .find-unless .ensures .0) h in
+      (found-add (a .t .now) (a .cats .now) (a .parents .now) (a .at .now) (a .len .now) (a .n) ns N (a .c) _ _ e (c .if1 .taken), λ z. absurd (false≢true z))),
+  (omega (arith, c .before .find-unless .ensures .1), omega arith),
+)
 
 element-write-cats : tie.Need-element-write-cats
 element-write-cats c = search needs
@@ -49,21 +48,29 @@ add-next : tie.Need-add-next
 add-next c = search needs
 
 returns-2 : tie.Need-returns-2
-returns-2 c = let a = c .before .before .before .before .before .before .before .before .before .before .before .args in
-    let e = c .before .before .before .before .before .find-node .ensures .0 ∙ ap (λ s. number (tabulate (nodeUrn (a .t .now) (a .cats .now) (a .at .now) (a .len .now)) (a .n)) (a .c) (fields 58 s)) (c .before .before .before .before .before .before .before .before .before .part .ensures) in
-    ((λ ns p x N g o. put-by (a .t .now) (a .cats .now) (a .parents .now) (a .at .now) (a .len .now) (a .n) ns N (a .c) (a .from) (a .k) e (c .before .before .before .before .if1 .left) (c .before .before .before .if2 .taken) (one-byte (c .before .before .small .ensures) (omega arith)) (two-bytes (c .before .short .ensures) (omega arith)) (one-byte (c .small2 .ensures) (omega arith)) p x g o), (omega arith, omega arith))
+returns-2 c = let a = c .before .before .before .before .before .before .before .before .before .before .before .args in (
+  (λ ns p x N g o h.
+      let e = looked (a .t .now) (a .cats .now) (a .parents .now) (a .at .now) (a .len .now) (a .n) ns N (a .c) (c .before .before .before .before .before .before .before .before .before .part .ensures) (c .before .before .before .before .before .find-unless .ensures .0) h in (
+        put-by (a .t .now) (a .cats .now) (a .parents .now) (a .at .now) (a .len .now) (a .n) ns N (a .c) (a .from) (a .k) e (c .before .before .before .before .if1 .left) (c .before .before .before .if2 .taken) (one-byte (c .before .before .small .ensures) (omega arith)) (two-bytes (c .before .short .ensures) (omega arith)) (one-byte (c .small2 .ensures) (omega arith)) p x g o,
+        λ _. none-of (a .t .now) (a .cats .now) (a .parents .now) (a .at .now) (a .len .now) (a .n) ns N (a .c) _ _ e (c .before .before .before .before .if1 .left),
+      )),
+  (omega arith, omega arith),
+)
 
 returns-3 : tie.Need-returns-3
-returns-3 c = let a = c .before .before .before .before .before .before .before .before .args in
-    let e = c .before .before .find-node .ensures .0 ∙ ap (λ s. number (tabulate (nodeUrn (a .t .now) (a .cats .now) (a .at .now) (a .len .now)) (a .n)) (a .c) (fields 58 s)) (c .before .before .before .before .before .before .part .ensures) in
-    ((λ ns p x N g o. full (a .t .now) (a .cats .now) (a .parents .now) (a .at .now) (a .len .now) (a .n) ns N (a .c) _ _ e (omega (arith, c .before .if1 .left)) (c .if2 .left)), (omega arith, omega arith))
+returns-3 c = let a = c .before .before .before .before .before .before .before .before .args in (
+  (λ ns p x N g o h.
+      let e = looked (a .t .now) (a .cats .now) (a .parents .now) (a .at .now) (a .len .now) (a .n) ns N (a .c) (c .before .before .before .before .before .before .part .ensures) (c .before .before .find-unless .ensures .0) h in
+      (full (a .t .now) (a .cats .now) (a .parents .now) (a .at .now) (a .len .now) (a .n) ns N (a .c) _ _ e (omega (arith, c .before .if1 .left)) (c .if2 .left), λ z. absurd (false≢true z))),
+  (omega arith, omega arith),
+)
 
 pub add-node-spec : {M : Type 1} → statement M
 add-node-spec =
     tie.close
     (tie.spec
     part-requires
-    find-node-requires
+    find-unless-requires
     returns
     element-write-cats
     small-requires

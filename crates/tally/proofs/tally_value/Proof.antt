@@ -39,9 +39,9 @@ use denote.Triple.Clauses.{ensured, lasts}
 use denote.Triple.Table.{entered, cited}
 use denote.Triple.Walked.{says, Stays, stay-dropped, gave-slice, walkOf, goes-dropped, goes-gave-slice, Walks, ends-at, walked, walk-meets}
 use denote.Exit.{yes}
-use Rattle.resolver.specs.declared.Resolution.{Resolution}
-use Rattle.resolver.proofs.Resolution as R
-use Rattle.resolver.proofs.Resolution.Laws as R′
+use Rattle.entry_run.specs.declared.Resolution.{Resolution}
+use Rattle.entry_run.proofs.Resolution as R
+use Rattle.entry_run.proofs.Resolution.Laws as R′
 use Rattle.tally.specs.declared.Tally.{Tally}
 use Rattle.tally.specs.Tally.{Tallied}
 use Rattle.tally.specs.Steps.{placeOf, answerAt, recordsAt}

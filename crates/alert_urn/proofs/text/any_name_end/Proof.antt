@@ -1,4 +1,5 @@
 use native.Mathlib.Omega.{arith}
+use Rattle.alert_urn.specs.Text.{nameOk}
 use Rattle.alert_urn.proofs.Fields.{upTo-le}
 use Rattle.alert_urn.proofs.Runs.{front-named, front-unnamed}
 use borrow.Author.Needs.{needs}
@@ -23,12 +24,12 @@ name-requires c κs = search needs
 returns : tie.Need-returns
 returns c =
     let b = c .before .before .before in
-    front-named (b .before .before .args .s .now) (b .find .result) (b .find .ensures) (c .before .name .ensures) (c .if1 .taken)
+    front-named nameOk (b .before .before .args .s .now) (b .find .result) (b .find .ensures) (c .before .name .ensures) (c .if1 .taken)
 
 returns-2 : tie.Need-returns-2
 returns-2 c =
     let b = c .before .before .before in
-    front-unnamed (b .before .before .args .s .now) (b .find .result) (b .find .ensures) (c .before .name .ensures) (c .if1 .left)
+    front-unnamed nameOk (b .before .before .args .s .now) (b .find .result) (b .find .ensures) (c .before .name .ensures) (c .if1 .left)
 
 pub any-name-end-spec : {M : Type 1} → statement M
 any-name-end-spec =

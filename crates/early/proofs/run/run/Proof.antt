@@ -22,7 +22,7 @@ use Rattle.early.proofs.run.same.Reads as same-reads
 use Rattle.early.proofs.run.span_in.Reads as span-in-reads
 use Rattle.early.proofs.run.taken.Reads as taken-reads
 use Rattle.early.proofs.settled.settled.Reads as settled-reads
-use Rattle.node_step.proofs.uses.uses.Reads as uses-reads
+use Rattle.node_search.proofs.uses.uses.Reads as uses-reads
 
 abbrev Inv-loop : tie.InvT-loop
 Inv-loop t v d at₀ n₀ st₀ ends₀ at n st ends = (runFrom t d v (record { signal = 0; statuses = 0 }) 0 0 ≡ runFrom t d v st n at) × (ends ≡ settledIn d st) × (n ≤ 64) × (at ≤ length v)

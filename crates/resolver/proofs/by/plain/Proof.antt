@@ -1,6 +1,6 @@
 use mathlib.Core.Path.{ap, _∙_}
 use Rattle.resolver.specs.declared.PlainResolution.{PlainResolution}
-use Rattle.resolver.specs.declared.Resolution.{Resolution}
+use Rattle.entry_run.specs.declared.Resolution.{Resolution}
 use Rattle.resolver.specs.Resolve.{plainWith}
 use borrow.Author.Needs.{needs}
 use Rattle.resolver.proofs.by.plain.Statement.{statement}

@@ -1,5 +1,5 @@
 use mathlib.Core.Path.{ap, _∙_}
-use Rattle.resolver.specs.declared.Resolution.{Resolution}
+use Rattle.entry_run.specs.declared.Resolution.{Resolution}
 use Rattle.resolver.specs.Resolve.{triedAs}
 use borrow.Author.Needs.{needs}
 use Rattle.resolver.proofs.by.too_long.Statement.{statement}

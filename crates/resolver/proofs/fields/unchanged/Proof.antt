@@ -1,5 +1,5 @@
 use mathlib.Core.Path.{ap}
-use Rattle.resolver.specs.declared.Resolution.{Resolution}
+use Rattle.entry_run.specs.declared.Resolution.{Resolution}
 use borrow.Author.Needs.{needs}
 use Rattle.resolver.proofs.fields.unchanged.Statement.{statement}
 use Rattle.resolver.proofs.fields.unchanged.Tie as tie

@@ -9,7 +9,7 @@ use Rattle.resolution.specs.Lists.{tabulate}
 use Rattle.resolution.proofs.Lists.{tabulate-length}
 use Rattle.alert_urn.specs.Text.{all}
 use Rattle.alert_urn.proofs.Fields.{upTo-le}
-use Rattle.node_step.specs.Arrays.{stretch}
+use Rattle.node_search.specs.Arrays.{stretch}
 use Rattle.stored_table.specs.Tables.{isListed}
 use Rattle.stored_table.specs.Held.{Indexed}
 use Rattle.signal_places.proofs.TestLaws.{all-start, all-next, all-fails, all-ends}

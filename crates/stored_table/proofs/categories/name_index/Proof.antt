@@ -4,7 +4,7 @@ use mathlib.Core.Path.{_≡_, ap, _∙_}
 use mathlib.Core.Bool.{false}
 use Rattle.resolution.specs.Lists.{tabulate, memberBy}
 use Rattle.resolution.specs.Names.{sameName}
-use Rattle.node_step.specs.Arrays.{stretch}
+use Rattle.node_search.specs.Arrays.{stretch}
 use Rattle.table_sections.proofs.Tabulated.{index-start, index-hit, index-next, index-none}
 use borrow.Author.Needs.{needs}
 use Rattle.stored_table.proofs.categories.name_index.Statement.{statement}

@@ -4,7 +4,7 @@ use mathlib.Core.Path.{_≡_}
 use mathlib.Core.Bool.{true}
 use Rattle.resolution.specs.Lists.{tabulate}
 use Rattle.resolution.specs.Names.{sameName}
-use Rattle.node_step.specs.Arrays.{stretch}
+use Rattle.node_search.specs.Arrays.{stretch}
 use Rattle.stored_table.specs.Tables.{noTwo}
 use Rattle.signal_places.proofs.TestLaws.{two-start, two-ends}
 use Rattle.stored_table.proofs.NameLaws.{name-twice, name-once}

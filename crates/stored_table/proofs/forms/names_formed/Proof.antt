@@ -5,7 +5,7 @@ use mathlib.Core.Bool.{true}
 use Rattle.resolution.specs.Lists.{tabulate}
 use Rattle.alert_urn.specs.Text.{all}
 use Rattle.alert_urn.specs.Urn.{storedName}
-use Rattle.node_step.specs.Arrays.{stretch}
+use Rattle.node_search.specs.Arrays.{stretch}
 use Rattle.signal_places.proofs.TestLaws.{all-start, all-next, all-fails, all-ends}
 use borrow.Author.Needs.{needs}
 use Rattle.stored_table.proofs.forms.names_formed.Statement.{statement}

@@ -3,7 +3,7 @@ use Prim.Native.Nat.{_≤_, _-_, _<_}
 use mathlib.Core.Path.{_≡_}
 use lib.ListN.{length}
 use Rattle.resolution.specs.Lists.{tabulate}
-use Rattle.node_step.specs.Arrays.{stretch}
+use Rattle.node_search.specs.Arrays.{stretch}
 use Rattle.table_sections.specs.Stored.{text, times}
 use Rattle.table_sections.specs.Held.{Padded}
 use Rattle.table_sections.proofs.Padding.{one-byte, two-bytes, pad-set}

@@ -1,7 +1,7 @@
 use mathlib.Core.Path.{sym, subst}
 use Prim.Native.Nat.{_≤_}
 use native.Mathlib.Omega.{arith}
-use Rattle.resolver.specs.declared.Resolution.{Resolution}
+use Rattle.entry_run.specs.declared.Resolution.{Resolution}
 use Rattle.tally.proofs.PlainLaws.{plain-few}
 use Rattle.tally.proofs.JudgeLaws.{few-counts, few-records, enough-records, judges-few, judges-plain}
 use borrow.Author.Needs.{needs}

@@ -42,9 +42,9 @@ use denote.Triple.Clauses.{ensured, lasts}
 use denote.Triple.Table.{entered, cited}
 use denote.Triple.Walked.{says, Stays, stay-dropped, stay-slice, walkOf, goes-dropped, goes-slice, Walks, ends-at, walked, walk-meets}
 use denote.Exit.{yes}
-use Rattle.resolver.specs.declared.Resolution.{Resolution}
-use Rattle.resolver.proofs.Resolution as R
-use Rattle.resolver.proofs.Resolution.Laws as R′
+use Rattle.entry_run.specs.declared.Resolution.{Resolution}
+use Rattle.entry_run.proofs.Resolution as R
+use Rattle.entry_run.proofs.Resolution.Laws as R′
 use Rattle.tally.specs.declared.Tally.{Tally}
 use Rattle.tally.specs.declared.records.Added.{Added}
 use Rattle.tally.specs.Tally.{none}

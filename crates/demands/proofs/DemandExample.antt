@@ -1,0 +1,32 @@
+-- Demand 3 of the table of default, internal and external: its refusal number and its four states by computation.
+use Prim.Native.Nat.{_<_}
+use mathlib.Core.Path.{_≡_, refl}
+use lib.ListN.{length}
+use native.Mathlib.Omega.{arith}
+use Rattle.resolution.specs.Build.{discovered, ReachableOver}
+use Rattle.resolution.specs.Direct.{step}
+use Rattle.resolution.specs.Discovery.{discover, expand}
+use Rattle.resolution.specs.Lists.{tabulate}
+use Rattle.resolution.specs.Nodes.{leaf, nodes}
+use Rattle.resolution.proofs.Theorems.{build-law}
+use Rattle.alert_urn.specs.Text.{all, fields, labelByte, labelOk, nameOk, onFirst, past, upTo}
+use Rattle.alert_urn.specs.Urn.{bytes, bytesFrom, noCapital, storedName, urnOk}
+use Rattle.table_sections.specs.Stored.{andThen, byteIn, counted, stored, storedFrom, text, times}
+use Rattle.stored_table.specs.Tables.{any, distinct, fewNodes, formed, isListed, judged, judgedRead, listed, noTwo, plain, single, tableOf, tableRead, tableRefusal, uses, verdict}
+use Rattle.demands.specs.Examples.{T1}
+use Rattle.demands.specs.DemandExample.{DemandExample}
+use Rattle.demands.proofs.DemandLaws.{demand-three}
+
+well-formed : tableRefusal T1 ≡ 0
+unfolding all fields labelByte labelOk nameOk onFirst past upTo bytes bytesFrom noCapital storedName urnOk andThen byteIn counted stored storedFrom text times any distinct fewNodes formed isListed judged judgedRead listed noTwo plain single tableRefusal uses verdict nodes
+well-formed = refl
+
+four-states : length (discovered (tableOf T1) 256) ≡ 4
+unfolding fields onFirst past upTo bytes bytesFrom andThen byteIn counted stored storedFrom text times tableOf tableRead step discover expand tabulate leaf nodes
+four-states = refl
+
+few-states : ReachableOver (tableOf T1) 256 → ⊥
+few-states h = let over : 256 < length (discovered (tableOf T1) 256) = build-law (tableOf T1) 256 .found-over h in omega (arith, over, four-states)
+
+pub demand-example : DemandExample
+demand-example = record { well-formed = well-formed; few-states = few-states; demand = demand-three T1 well-formed few-states }

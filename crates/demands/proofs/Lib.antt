@@ -1,0 +1,11 @@
+pub mod RefusalLaws
+pub mod OneValueLaws
+pub mod Join
+pub mod FeedingLaws
+pub mod EarlyLaws
+pub mod DemandLaws
+pub mod Examples
+pub mod DemandExample
+pub mod FieldsExample
+pub mod Tried
+pub mod EarlyExample

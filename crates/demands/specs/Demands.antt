@@ -1,0 +1,141 @@
+-- The three demands on the whole software, as claims.
+use Prim.Native.Nat.{ℕ, _≤_}
+use mathlib.Core.Path.{_≡_}
+use mathlib.Core.Logic.{_↔_, _⊎_}
+use mathlib.Core.List.{List, [], _++_}
+use lib.ListN.{length, take, replicate}
+use Rattle.alert_info.specs.Claims.{RefusedExactly}
+use Rattle.alert_info.specs.Value.{refusalOf, urisOf, entryOf, entryRefusalOf}
+use Rattle.resolution.specs.Names.{Parts}
+use Rattle.resolution.specs.Table.{mostParts}
+use Rattle.resolution.specs.Direct.{usedOf, usedCount, skippedCount, stepUri, changes}
+use Rattle.resolution.specs.Says.{Says, Given}
+use Rattle.resolution.specs.Build.{ReachableOver}
+use Rattle.node_search.specs.Uses.{usedUrn}
+use Rattle.machine_image.specs.Image.{signalIn, machineImage}
+use Rattle.machine_image.specs.Walk.{stepIn}
+use Rattle.stored_table.specs.Tables.{tableRefusal, tableOf, categoryNames}
+use Rattle.carried_record.specs.declared.Carried.{Carried}
+use Rattle.signal_table.specs.Built.{builtFrom, bufferFrom, checkFrom}
+use Rattle.signal_table.specs.Claims.{RightImage}
+use Rattle.early.specs.Early.{refused as notAnswered, earlyOf}
+use Rattle.early.specs.Claims.{EarlyClaims}
+use Rattle.resolver.specs.Resolve.{takenAs, directSignal, walkedSignal, refused, plainOf, machineOf}
+use Rattle.resolver.specs.Feed.{feedOf}
+use Rattle.demands.specs.Feeding.{OneValue, EndsDirect, NeverRefused, JoinedAlike}
+
+-- a number from lo to hi
+abbrev pub Among : ℕ → ℕ → ℕ → Type 0
+Among lo hi n = (lo ≤ n) × (n ≤ hi)
+
+-- the numbers that may be given, 0 for accepted: by the question about a value, by that about an entry, by that about a table,
+-- by the plain resolver and by the early question, by the machine resolver, for one of several values, by the builder and by the checker
+abbrev pub ValueNumber : ℕ → Type 0
+ValueNumber n = (n ≡ 0) ⊎ Among 1 3 n
+
+abbrev pub EntryNumber : ℕ → Type 0
+EntryNumber n = (n ≡ 0) ⊎ (Among 1 3 n ⊎ (n ≡ 18))
+
+abbrev pub TableNumber : ℕ → Type 0
+TableNumber n = (n ≡ 0) ⊎ Among 4 12 n
+
+abbrev pub PlainNumber : ℕ → Type 0
+PlainNumber n = (n ≡ 0) ⊎ Among 1 12 n
+
+abbrev pub MachineNumber : ℕ → Type 0
+MachineNumber n = (n ≡ 0) ⊎ (Among 1 12 n ⊎ (n ≡ 15))
+
+abbrev pub FeedNumber : ℕ → Type 0
+FeedNumber n = (n ≡ 0) ⊎ (Among 1 12 n ⊎ ((n ≡ 19) ⊎ (n ≡ 28)))
+
+abbrev pub BuildNumber : ℕ → Type 0
+BuildNumber n = (n ≡ 0) ⊎ Among 4 14 n
+
+abbrev pub CheckNumber : ℕ → Type 0
+CheckNumber n = (n ≡ 0) ⊎ (Among 4 12 n ⊎ Among 15 17 n)
+
+-- Demand 1: bad input is refused by a number, and nothing else comes of it. That every function answers for all bytes, with no
+-- condition on the caller, is seen from the functions' contracts: none has a `requires`.
+pub record Demand1 (t : List ℕ) : Type 0 where
+  -- each answer is 0 or one of the numbers that are due there
+  pub value-number : (v : List ℕ) → ValueNumber (refusalOf v)
+  pub entry-number : (v : List ℕ) (k : ℕ) → EntryNumber (entryRefusalOf v k)
+  pub table-number : TableNumber (tableRefusal t)
+  pub plain-number : (v : List ℕ) → PlainNumber (plainOf t v .refusal)
+  pub machine-number : (im v : List ℕ) → MachineNumber (machineOf t im v .refusal)
+  pub feed-number : (r : Carried) (v : List ℕ) → FeedNumber (feedOf t r v .answer .refusal)
+  pub early-number : (v : List ℕ) → PlainNumber (earlyOf t v .refusal)
+  pub build-number : (room : ℕ) → BuildNumber (builtFrom t room .refusal)
+  pub check-number : (im : List ℕ) → CheckNumber (checkFrom t im)
+  -- an entry is refused exactly if its part is empty
+  pub entry-refused : (v : List ℕ) (k : ℕ) → (entryRefusalOf v k ≡ 0 → ⊥) ↔ (entryOf v k ≡ [])
+  -- a refused resolution is signal 0 with both counts 0
+  pub plain-refused : (v : List ℕ) → (plainOf t v .refusal ≡ 0 → ⊥) → plainOf t v ≡ refused (plainOf t v .refusal)
+  pub machine-refused : (im v : List ℕ) → (machineOf t im v .refusal ≡ 0 → ⊥) → machineOf t im v ≡ refused (machineOf t im v .refusal)
+  -- a refused early question has the plain resolver's number, with signal 0 and no entries
+  pub early-refused : (v : List ℕ) → (earlyOf t v .refusal ≡ 0 → ⊥) → earlyOf t v ≡ notAnswered (plainOf t v .refusal)
+  -- of several values, what each does by its number, whatever record it is fed with; no record that feeding gave is refused with 28
+  pub one-value : (r : Carried) (v : List ℕ) → OneValue t r v
+  pub never-refused : NeverRefused t
+  -- a refused build leaves the whole buffer zero, whatever its length
+  pub build-refused : (room : ℕ) → (builtFrom t room .refusal ≡ 0 → ⊥) → (builtFrom t room .len ≡ 0) × (bufferFrom t room ≡ replicate room 0)
+
+-- Demand 2: exactly
+pub record Demand2 (t : List ℕ) : Type 0 where
+  -- a value's number is the one that the grammar and the limits give it, both ways; 0 is accepted
+  pub values : RefusedExactly
+  -- the plain resolver gives direct resolution's signal
+  pub plain-signal : (v : List ℕ) → refusalOf v ≡ 0 → tableRefusal t ≡ 0 → plainOf t v .signal ≡ directSignal t (urisOf v)
+  -- so does the early answer, for every value that the plain resolver accepts
+  pub early-signal : (v : List ℕ) → plainOf t v .refusal ≡ 0 → (earlyOf t v .refusal ≡ 0) × (earlyOf t v .signal ≡ plainOf t v .signal)
+  -- and which entries it needs is told in the words of the grammar and of the theory, both ways
+  pub early : (v : List ℕ) → EarlyClaims t v
+  -- feeding several values one after another gives it too, over the URNs of the accepted ones in order
+  pub ends-direct : EndsDirect t
+  -- and it gives what the values joined by commas give
+  pub joined-alike : JoinedAlike t
+  -- wherever the build succeeds, it has written the machine of the table
+  pub image-written : (room : ℕ) → builtFrom t room .refusal ≡ 0 → take (builtFrom t room .len) (bufferFrom t room) ≡ machineImage (tableOf t)
+  -- the checker accepts exactly the right machines
+  pub checked : (im : List ℕ) → checkFrom t im ≡ 0 ↔ RightImage t im
+
+-- an image walked over URIs as bytes, used and skipped, at the point between before and after
+pub record WalkClaim (t im : List ℕ) (before after : List (List ℕ)) : Type 0 where
+  -- its signal is direct resolution's: at the start, where before is empty, and after each URI
+  pub agrees : walkedSignal t im before ≡ directSignal t before
+  -- it says only given URNs or their ancestors
+  pub only-given : (c : ℕ) (p : Parts) → Says (tableOf t) (walkedSignal t im before) c p → Given (usedOf (takenAs t before)) c p
+  -- what it said at this point it still says at every later one
+  pub still-says : (c : ℕ) (p : Parts) → Says (tableOf t) (walkedSignal t im before) c p → Says (tableOf t) (walkedSignal t im (before ++ after)) c p
+  -- over the list it changes at most as often as the largest number of parts that one signal names in all its URNs
+  pub few-changes : changes (signalIn (tableOf t .cats) im) (λ j uri. stepUri (stepIn (tableOf t) im) j (usedUrn (categoryNames t) uri)) 0 (before ++ after)
+      ≤ mostParts (tableOf t .signals)
+
+-- Demand 3, for a well-formed table with at most 256 reachable states
+pub record Demand3 (t : List ℕ) : Type 0 where
+  -- the build succeeds in every buffer that holds the image, and the checker accepts what it leaves there
+  pub builds : (room : ℕ) → length (machineImage (tableOf t)) ≤ room
+      → (builtFrom t room .refusal ≡ 0) × (checkFrom t (take (builtFrom t room .len) (bufferFrom t room)) ≡ 0)
+  -- for that image or any other that the checker accepts, over every list of URIs
+  pub walks : (im : List ℕ) → checkFrom t im ≡ 0 → (before after : List (List ℕ)) → WalkClaim t im before after
+  -- for all bytes as a value both resolvers answer alike, in all four numbers
+  pub alike : (im : List ℕ) → checkFrom t im ≡ 0 → (v : List ℕ) → machineOf t im v ≡ plainOf t v
+  -- for an accepted value these are the walk's signal over the value's list, the numbers of its used and skipped entries, and 0
+  pub answers : (im : List ℕ) → checkFrom t im ≡ 0 → (v : List ℕ) → refusalOf v ≡ 0
+      → plainOf t v
+      ≡ record {
+        refusal = 0;
+        signal = walkedSignal t im (urisOf v);
+        used = usedCount (takenAs t (urisOf v));
+        skipped = skippedCount (takenAs t (urisOf v));
+      }
+
+-- what is proved: demands 1 and 2 for all bytes, demand 3 for every well-formed table with at most 256 reachable states
+abbrev pub DemandOne : Type 0
+DemandOne = (t : List ℕ) → Demand1 t
+
+abbrev pub DemandTwo : Type 0
+DemandTwo = (t : List ℕ) → Demand2 t
+
+abbrev pub DemandThree : Type 0
+DemandThree = (t : List ℕ) → tableRefusal t ≡ 0 → (ReachableOver (tableOf t) 256 → ⊥) → Demand3 t

@@ -1,0 +1,9 @@
+-- what a reader has to believe
+pub mod Demands
+pub mod Feeding
+pub mod Tried
+-- the examples
+pub mod Examples
+pub mod DemandExample
+pub mod FieldsExample
+pub mod EarlyExample

@@ -1,0 +1,28 @@
+-- What holds of the plain resolver's tries, for every table and every value.
+use Prim.Native.Nat.{ℕ, _*_, _≤_}
+use mathlib.Core.Path.{_≡_}
+use mathlib.Core.List.{List}
+use Rattle.alert_info.specs.Value.{refusalOf, urisOf}
+use Rattle.resolution.specs.Table.{Urn}
+use Rattle.resolution.specs.Nodes.{nodes}
+use Rattle.resolution.specs.Direct.{State, envOf}
+use Rattle.resolution.specs.Tries.{tries, TriesLaw}
+use Rattle.stored_table.specs.Tables.{tableRefusal, tableOf}
+use Rattle.entry_run.specs.declared.Resolution.{Resolution}
+use Rattle.resolver.specs.declared.PlainResolution.{PlainResolution}
+use Rattle.resolver.specs.Resolve.{plainOf, triesIn, plainWith}
+
+-- an answer without its tries
+abbrev pub untried : PlainResolution → Resolution
+untried r = record { refusal = r .refusal; signal = r .signal; used = r .used; skipped = r .skipped }
+
+pub record Tried (t : List ℕ) : Type 0 where
+  -- the other four numbers are what they are without tries
+  pub same : (v : List ℕ) → untried (plainWith t v) ≡ plainOf t v
+  -- the tries are direct resolution's over the value's list; a refused resolution has none
+  pub counted : (v : List ℕ) → plainOf t v .refusal ≡ 0 → plainWith t v .tries ≡ triesIn t (urisOf v)
+  pub none : (v : List ℕ) → (plainOf t v .refusal ≡ 0 → ⊥) → plainWith t v .tries ≡ 0
+  -- at most 9 tries for one URN, in any state
+  pub few : tableRefusal t ≡ 0 → (st : State) (u : Urn) → tries (envOf (tableOf t)) (nodes (tableOf t)) st u ≤ 9
+  -- what is deeper than the deepest node need not be looked up: no search changes, and what is counted is what is looked up
+  pub law : tableRefusal t ≡ 0 → TriesLaw (tableOf t)

@@ -1,0 +1,5 @@
+pub mod TakenLaws
+pub mod RunLaws
+pub mod FoldLaws
+pub mod AnswerLaws
+pub mod DirectLaws

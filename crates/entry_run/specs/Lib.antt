@@ -1,0 +1,4 @@
+-- what a reader has to believe
+pub mod Answers
+-- what only the code's inner promises use
+pub mod Run

@@ -1,0 +1,94 @@
+-- Laws of the marks of nodes: which have nodes under them, and how many bytes a path shares with the one before it.
+use Prim.Native.Nat.{ℕ, zero, suc, _+_, _-_, _≤_, _<_}
+use mathlib.Core.Path.{_≡_, refl, ap, ap₂, sym, _∙_}
+use mathlib.Core.Bool.{Bool, true, false, not, _&&_, _||_}
+use mathlib.Core.List.{List, []}
+use native.Mathlib.Omega.{arith}
+use native.Mathlib.Decide.{ℕ-discrete}
+use native.Mathlib.Numerals.{add-one}
+use native.Mathlib.Nat.{zero-add}
+use lib.Dec.{eqb}
+use lib.ListN.{length, getD, set, take, drop, replicate}
+use lib.Seq.{getD-set-same, getD-set-other}
+use borrow.Author.Tests.{eq-eqb, ne-eqb}
+use Rattle.alert_urn.specs.Text.{common}
+use Rattle.node_search.specs.Arrays.{stretch, lastPath, SharedIn, childless}
+
+or-false : (b : Bool) → b || false ≡ b
+or-false true = refl
+or-false false = refl
+
+or-true : (b : Bool) → b || true ≡ true
+or-true true = refl
+or-true false = refl
+
+-- no node is marked yet
+pub unmarked : (n k : ℕ) → getD (replicate n false) k false ≡ false
+unmarked zero k = refl
+unmarked (suc n) zero = refl
+unmarked (suc n) (suc k) = unmarked n k
+
+-- a number that is no node's
+pub mark-other : (l : List Bool) (p k : ℕ) → (p ≡ k + 1 → ⊥) → getD l k false ≡ (getD l k false || eqb p (k + 1))
+mark-other l p k h = sym (ap (λ b. getD l k false || b) (ne-eqb p (k + 1) h) ∙ or-false (getD l k false))
+
+-- a node's
+pub mark-node : (l : List Bool) (p i k : ℕ) → length l ≡ 64 → i ≡ p - 1 → (p ≡ 0 → ⊥) → p ≤ 64 → getD (set l i true) k false ≡ (getD l k false || eqb p (k + 1))
+mark-node l p i k n e z h = go (ℕ-discrete i k)
+  where
+    go : Dec (i ≡ k) → getD (set l i true) k false ≡ (getD l k false || eqb p (k + 1))
+    go (yes j) =
+        ap (λ m. getD (set l i true) m false) (sym j) ∙ getD-set-same l i true false (omega arith)
+        ∙ sym (ap (λ b. getD l k false || b) (eq-eqb p (k + 1) (omega arith)) ∙ or-true (getD l k false))
+    go (no j) = getD-set-other l i k true false (λ q. j (sym q)) ∙ mark-other l p k (λ q. omega arith)
+
+-- one parent more
+pub marks-more : (ps : List ℕ) (n k : ℕ) {a b : Bool} → a ≡ not (childless ps (k + 1) n) → b ≡ (a || eqb (getD ps n 0) (k + 1)) → b ≡ not (childless ps (k + 1) (n + 1))
+unfolding childless
+marks-more ps n k e f =
+    f ∙ ap (λ z. z || eqb (getD ps n 0) (k + 1)) e ∙ sym (rw (add-one n) (go (childless ps (k + 1) n) (eqb (getD ps n 0) (k + 1))))
+  where
+    go : (x y : Bool) → not (x && not y) ≡ (not x || y)
+    go true true = refl
+    go true false = refl
+    go false y = refl
+
+-- before the first
+pub marks-start : (ps : List ℕ) (k : ℕ) → false ≡ not (childless ps (k + 1) 0)
+unfolding childless
+marks-start ps k = refl
+
+-- the last node of a category, one node further down
+module _ (t ca pos len : List ℕ) (c n i : ℕ) (v : lastPath t ca pos len c n ≡ lastPath t ca pos len c i) where
+  pub before-found : {p : List ℕ} → 0 < i → getD ca (i - 1) 0 ≡ c → p ≡ stretch t pos len (i - 1) → p ≡ lastPath t ca pos len c n
+  unfolding lastPath
+  before-found h e f =
+      let m : i ≡ suc (i - 1) = omega arith in
+      f ∙ sym (v ∙ ap (lastPath t ca pos len c) m ∙ rw (eq-eqb (getD ca (i - 1) 0) c e))
+
+  pub before-more : 0 < i → (getD ca (i - 1) 0 ≡ c → ⊥) → lastPath t ca pos len c n ≡ lastPath t ca pos len c (i - 1)
+  unfolding lastPath
+  before-more h e =
+      let m : i ≡ suc (i - 1) = omega arith in
+      v ∙ ap (lastPath t ca pos len c) m ∙ rw (ne-eqb (getD ca (i - 1) 0) c e)
+
+  pub before-none : {p : List ℕ} → i ≤ 0 → p ≡ take 0 (drop 0 t) → p ≡ lastPath t ca pos len c n
+  unfolding lastPath
+  before-none h e = let m : i ≡ 0 = omega arith in e ∙ sym (v ∙ ap (lastPath t ca pos len c) m)
+
+-- one node's shared bytes more
+abbrev sharedBy : List ℕ → List ℕ → List ℕ → List ℕ → ℕ → ℕ
+sharedBy t ca pos len j = common (lastPath t ca pos len (getD ca j 0) j) (stretch t pos len j)
+
+pub shared-more : (t ca pos len sh : List ℕ) (i : ℕ) {x y : List ℕ} {k r : ℕ} → SharedIn t ca pos len sh i → i < length sh
+    → x ≡ lastPath t ca pos len (getD ca i 0) i → y ≡ stretch t pos len i → k ≡ 0 + common x y → r ≡ k → SharedIn t ca pos len (set sh i r) (i + 1)
+shared-more t ca pos len sh i {x} {y} {k} {r} v h e f g d s l = go (ℕ-discrete s i)
+  where
+    go : Dec (s ≡ i) → getD (set sh i r) s 0 ≡ sharedBy t ca pos len s
+    go (yes q) =
+        ap (λ j. getD (set sh i r) j 0) q ∙ getD-set-same sh i r 0 h ∙ d ∙ g ∙ zero-add (common x y) ∙ ap₂ common e f ∙ ap (sharedBy t ca pos len) (sym q)
+    go (no q) = getD-set-other sh i s r 0 q ∙ v s (omega arith)
+
+-- as many nodes
+pub shared-of : (t ca pos len sh : List ℕ) {n m : ℕ} → n ≡ m → SharedIn t ca pos len sh n → SharedIn t ca pos len sh m
+shared-of t ca pos len sh e v i h = v i (omega arith)

@@ -1,0 +1,32 @@
+use native.Mathlib.Omega.{arith}
+use mathlib.Core.Path.{ap, _∙_}
+use Prim.Native.Nat.{ℕ, _-_}
+use lib.ListN.{length-set}
+use mathlib.Core.Bool.{true}
+use Rattle.node_search.proofs.MarkLaws.{mark-other, mark-node}
+use borrow.Author.Needs.{needs}
+use Rattle.node_search.proofs.marks.mark.Statement.{statement}
+use Rattle.node_search.proofs.marks.mark.Tie as tie
+
+returns : tie.Need-returns
+returns c = (c .before .pre, λ k h. mark-other (c .before .args .inner .now) (c .before .args .p) k (λ q. omega (arith, c .if1 .taken)))
+
+wide8-requires : tie.Need-wide8-requires
+wide8-requires c κs = search needs
+
+sub-i : tie.Need-sub-i
+sub-i c = search needs
+
+element-write-inner : tie.Need-element-write-inner
+element-write-inner c = search needs
+
+returns-2 : tie.Need-returns-2
+returns-2 c = let a = c .before .before .before .args in
+    (length-set (a .inner .now) (c .wide8 .result - 1) true ∙ c .before .before .before .pre, λ k h. mark-node (a .inner .now) (a .p) (c .wide8 .result - 1) k (c .before .before .before .pre) (ap (λ (x : ℕ). x - 1) (c .wide8 .ensures .0)) (c .before .before .if1 .left) (c .before .if2 .taken))
+
+returns-3 : tie.Need-returns-3
+returns-3 c = (c .before .before .pre, λ k h. mark-other (c .before .before .args .inner .now) (c .before .before .args .p) k (λ q. omega (arith, c .if2 .left)))
+
+pub mark-spec : {M : Type 1} → statement M
+mark-spec =
+    tie.close (tie.spec returns wide8-requires sub-i element-write-inner returns-2 returns-3)

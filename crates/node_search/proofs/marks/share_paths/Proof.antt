@@ -1,0 +1,69 @@
+use native.Mathlib.Omega.{arith}
+use Prim.Native.Nat.{_-_, _≤_}
+use mathlib.Core.Path.{_≡_, _∙_}
+use lib.ListN.{length, length-set}
+use Rattle.alert_urn.proofs.Turns.{common-le}
+use Rattle.node_search.specs.Arrays.{SharedIn}
+use Rattle.node_search.proofs.MarkLaws.{shared-more}
+use borrow.Author.Needs.{needs}
+use Rattle.node_search.proofs.marks.share_paths.Statement.{statement}
+use Rattle.node_search.proofs.marks.share_paths.Tie as tie
+
+abbrev Inv-loop : tie.InvT-loop
+Inv-loop t n cats at len shared₀ i₀ shared i = (i ≤ n) × (length shared ≡ 64) × SharedIn t cats at len shared i
+
+abbrev μ-loop : tie.MeasureT-loop
+μ-loop t n cats at len shared₀ i₀ shared i = n - i
+
+loop-holds : tie.Need-loop-holds Inv-loop μ-loop
+loop-holds c = (omega arith, c .before .pre .1, λ j h. absurd (omega arith))
+
+element-copy-out-path-before : tie.Need-element-copy-out-path-before Inv-loop μ-loop
+element-copy-out-path-before c = search needs
+
+path-before-requires : tie.Need-path-before-requires Inv-loop μ-loop
+path-before-requires c κs = search needs
+
+path-at-requires : tie.Need-path-at-requires Inv-loop μ-loop
+path-at-requires c κs = search needs
+
+common-from-requires : tie.Need-common-from-requires Inv-loop μ-loop
+common-from-requires c κs = search needs
+
+small-requires : tie.Need-small-requires Inv-loop μ-loop
+small-requires c κs = omega (arith, c .common-from .ensures, common-le (c .before .before .path-before .result .now) (c .before .path-at .result .now), c .before .path-at .ensures .1)
+
+element-write-shared : tie.Need-element-write-shared Inv-loop μ-loop
+element-write-shared c = search needs
+
+add-i : tie.Need-add-i Inv-loop μ-loop
+add-i c = search needs
+
+loop-less : tie.Need-loop-less Inv-loop μ-loop
+loop-less c = omega arith
+
+loop-again : tie.Need-loop-again Inv-loop μ-loop
+loop-again c = let a = c .before .before .before .before .before .before .before .before .args in
+    let l = c .before .before .before .before .before .before .loop in
+    (omega arith, length-set (l .shared) (l .i) (c .small .result) ∙ l .inv .1, shared-more (a .t .now) (a .category .now) (a .at .now) (a .len .now) (l .shared) (l .i) (l .inv .2) (omega (arith, l .inv .1, c .before .before .before .before .before .before .before .before .pre .0)) (c .before .before .before .path-before .ensures) (c .before .before .path-at .ensures .0) (c .before .common-from .ensures) (c .small .ensures))
+
+returns : tie.Need-returns Inv-loop μ-loop
+returns c = λ j h. c .before .loop .inv .2 j (omega (arith, c .loop-test .left))
+
+pub share-paths-spec : {M : Type 1} → statement M
+share-paths-spec =
+    tie.close
+    (tie.spec
+    Inv-loop
+    μ-loop
+    loop-holds
+    element-copy-out-path-before
+    path-before-requires
+    path-at-requires
+    common-from-requires
+    small-requires
+    element-write-shared
+    add-i
+    loop-less
+    loop-again
+    returns)

@@ -1,0 +1,17 @@
+use Rattle.alert_urn.specs.Urn.{lowered}
+use Rattle.node_search.proofs.UseLaws.{departs-there, departs-not}
+use borrow.Author.Needs.{needs}
+use Rattle.node_search.proofs.uses.departs.Statement.{statement}
+use Rattle.node_search.proofs.uses.departs.Tie as tie
+
+differ-at-requires : tie.Need-differ-at-requires
+differ-at-requires c κs = search needs
+
+returns : tie.Need-returns
+returns c = let a = c .before .before .before .before .args in departs-there (a .p .now) (lowered (a .w .now)) (a .same) (a .l) (c .before .if1 .taken) (c .differ-at .ensures)
+
+returns-2 : tie.Need-returns-2
+returns-2 c = let a = c .before .before .before .args in departs-not (a .p .now) (lowered (a .w .now)) (a .same) (a .l) (c .if1 .left)
+
+pub departs-spec : {M : Type 1} → statement M
+departs-spec = tie.close (tie.spec differ-at-requires returns returns-2)

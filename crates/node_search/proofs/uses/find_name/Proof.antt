@@ -1,0 +1,91 @@
+use Rattle.alert_urn.specs.Urn.{lowered}
+use native.Mathlib.Omega.{arith}
+use Prim.Native.Nat.{ℕ, _≤_, _-_}
+use mathlib.Core.Path.{_≡_, ap, ap₂, sym, _∙_}
+use native.Mathlib.Nat.{sub-zero}
+use lib.ListN.{take, drop}
+use Rattle.resolution.specs.Names.{sameName}
+use Rattle.node_search.specs.Uses.{findName}
+use Rattle.node_search.proofs.UseLaws.{name-found, name-more, name-none}
+use borrow.Author.Needs.{needs}
+use Rattle.node_search.proofs.uses.find_name.Statement.{statement}
+use Rattle.node_search.proofs.uses.find_name.Tie as tie
+
+abbrev Inv-loop : tie.InvT-loop
+Inv-loop t name-at name-len s n i₀ i = (i ≤ n) × (findName t name-at name-len (lowered s) 0 n ≡ findName t name-at name-len (lowered s) i (n - i))
+
+abbrev μ-loop : tie.MeasureT-loop
+μ-loop t name-at name-len s n i₀ i = n - i
+
+loop-holds : tie.Need-loop-holds Inv-loop μ-loop
+loop-holds c = let a = c .before .before .args in
+    (omega arith, ap (findName (a .t .now) (a .name-at .now) (a .name-len .now) (lowered (a .s .now)) 0) (sym (sub-zero (a .n))))
+
+mul-wide16 : tie.Need-mul-wide16 Inv-loop μ-loop
+mul-wide16 c = search needs
+
+element-copy-out-wide16 : tie.Need-element-copy-out-wide16 Inv-loop μ-loop
+element-copy-out-wide16 c = search needs
+
+wide16-requires : tie.Need-wide16-requires Inv-loop μ-loop
+wide16-requires c κs = search needs
+
+element-copy-out-wide8 : tie.Need-element-copy-out-wide8 Inv-loop μ-loop
+element-copy-out-wide8 c = search needs
+
+wide8-requires : tie.Need-wide8-requires Inv-loop μ-loop
+wide8-requires c κs = search needs
+
+part-requires : tie.Need-part-requires Inv-loop μ-loop
+part-requires c κs = search needs
+
+same-lowered-requires : tie.Need-same-lowered-requires Inv-loop μ-loop
+same-lowered-requires c κs = search needs
+
+returns : tie.Need-returns Inv-loop μ-loop
+returns c = let a = c .before .before .before .before .before .before .before .before .before .before .before .args in
+    let l = c .before .before .before .before .before .before .before .before .loop in
+    name-found (a .t .now) (lowered (a .s .now)) (a .name-at .now) (a .name-len .now) (a .n) (l .i) (l .inv .1) (c .before .before .before .before .before .before .before .loop-test .taken)
+    (c .before .same-lowered .ensures ∙ ap (sameName (lowered (a .s .now)))
+    (c .before .before .part .ensures ∙ ap₂ (λ (x : ℕ) (y : ℕ). take y (drop x (a .t .now))) (c .before .before .before .before .before .wide16 .ensures) (c .before .before .before .wide8 .ensures .0)))
+    (c .if1 .taken)
+
+add-i : tie.Need-add-i Inv-loop μ-loop
+add-i c = search needs
+
+loop-less : tie.Need-loop-less Inv-loop μ-loop
+loop-less c = omega arith
+
+loop-again : tie.Need-loop-again Inv-loop μ-loop
+loop-again c = let a = c .before .before .before .before .before .before .before .before .before .before .before .args in
+    let l = c .before .before .before .before .before .before .before .before .loop in (
+      omega arith,
+      name-more (a .t .now) (lowered (a .s .now)) (a .name-at .now) (a .name-len .now) (a .n) (l .i) (l .inv .1) (c .before .before .before .before .before .before .before .loop-test .taken)
+          (c .before .same-lowered .ensures ∙ ap (sameName (lowered (a .s .now)))
+          (c .before .before .part .ensures ∙ ap₂ (λ (x : ℕ) (y : ℕ). take y (drop x (a .t .now))) (c .before .before .before .before .before .wide16 .ensures) (c .before .before .before .wide8 .ensures .0)))
+          (c .if1 .left),
+    )
+
+returns-2 : tie.Need-returns-2 Inv-loop μ-loop
+returns-2 c = let a = c .before .before .before .before .args in
+    name-none (a .t .now) (lowered (a .s .now)) (a .name-at .now) (a .name-len .now) (a .n) (c .before .loop .i) (c .before .loop .inv .1) (c .loop-test .left)
+
+pub find-name-spec : {M : Type 1} → statement M
+find-name-spec =
+    tie.close
+    (tie.spec
+    Inv-loop
+    μ-loop
+    loop-holds
+    mul-wide16
+    element-copy-out-wide16
+    wide16-requires
+    element-copy-out-wide8
+    wide8-requires
+    part-requires
+    same-lowered-requires
+    returns
+    add-i
+    loop-less
+    loop-again
+    returns-2)

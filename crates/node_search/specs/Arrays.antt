@@ -1,0 +1,47 @@
+-- What lent arrays must hold to stand for a table's names and nodes. Node k of the table stands at k - 1 in each array of nodes; 0 is
+-- the root.
+use Prim.Native.Nat.{ℕ, zero, suc, _≤_, _<_}
+use mathlib.Core.Path.{_≡_}
+use mathlib.Core.Bool.{Bool, true, false, cond, not, _&&_}
+use mathlib.Core.List.{List, []}
+use lib.Dec.{eqb}
+use lib.ListN.{getD, length, take, drop}
+use Rattle.resolution.specs.Names.{Name}
+use Rattle.resolution.specs.Table.{Table}
+use Rattle.resolution.specs.Nodes.{nodes, nodeAt, hasUnder}
+use Rattle.alert_urn.specs.Text.{fields, common}
+
+-- the bytes of t at the i-th of the places in `at`, as many as `len` says
+abbrev pub stretch : List ℕ → List ℕ → List ℕ → ℕ → List ℕ
+stretch t at len i = take (getD len i 0) (drop (getD at i 0) t)
+
+-- the names of the categories, in order
+pub record NamesIn (t nameAt nameLen : List ℕ) (k : ℕ) (names : List Name) : Type 0 where
+  pub all-names : length names ≡ k
+  pub few-names : k ≤ 8
+  pub name-at : (i : ℕ) → i < k → stretch t nameAt nameLen i ≡ getD names i []
+
+-- the nodes in order: each one's category, and its path's bytes with colons between the parts
+pub record NodesIn (t category at len : List ℕ) (n : ℕ) (T : Table) : Type 0 where
+  pub all-nodes : length (nodes T) ≡ n
+  pub few-nodes : n ≤ 64
+  pub cat-at : (i : ℕ) → i < n → getD category i 0 ≡ nodeAt (nodes T) i .cat
+  pub path-at : (i : ℕ) → i < n → fields 58 (stretch t at len i) ≡ nodeAt (nodes T) i .path
+
+-- the path of the last of the first i nodes that is of category c, as bytes; none if there is no such node
+unfoldable pub lastPath : List ℕ → List ℕ → List ℕ → List ℕ → ℕ → ℕ → List ℕ
+lastPath t category at len c zero = []
+lastPath t category at len c (suc i) = cond (eqb (getD category i 0) c) (stretch t at len i) (lastPath t category at len c i)
+
+-- how many bytes the path of each node has in common with the one before it in its category
+abbrev pub SharedIn : List ℕ → List ℕ → List ℕ → List ℕ → List ℕ → ℕ → Type 0
+SharedIn t category at len shared n = (i : ℕ) → i < n → getD shared i 0 ≡ common (lastPath t category at len (getD category i 0) i) (stretch t at len i)
+
+-- none of the first n nodes has the parent d
+unfoldable pub childless : List ℕ → ℕ → ℕ → Bool
+childless ps d zero = true
+childless ps d (suc n) = childless ps d n && not (eqb (getD ps n 0) d)
+
+-- which nodes have nodes under them; the others are the leaves
+abbrev pub InnerIn : List Bool → Table → Type 0
+InnerIn inner T = (i : ℕ) → i < length (nodes T) → getD inner i false ≡ hasUnder (nodes T) (nodeAt (nodes T) i .cat) (nodeAt (nodes T) i .path)

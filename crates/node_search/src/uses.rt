@@ -1,0 +1,284 @@
+ghost use mathlib.Core.Path.{_≡_};
+ghost use mathlib.Core.Bool.{cond, _&&_};
+ghost use Prim.Native.Nat.{_+_, _*_, _≤_, _<_, min};
+ghost use lib.Dec.{eqb, leb};
+ghost use lib.ListN.{length};
+ghost use Rattle.alert_urn.specs.Text.{differAt, endsAt};
+ghost use Rattle.alert_urn.specs.Urn.{lowered};
+ghost use Rattle.node_search.specs.Arrays.{stretch};
+ghost use Rattle.node_search.specs.Uses.{findName, nothing, metWith, countedIn, lookBy, searchFrom, fewer, usesOf};
+
+// What a URI is to the table: skipped, or used, with its deepest node, or the root, whether it is that node, and the
+// bytes compared to find it.
+pub enum Use {
+    Skipped,
+    Used {
+        category: u8,
+        node: u8,
+        whole: bool,
+        compared: u32,
+    },
+}
+
+// A search for a path: the deepest node met that is the path or above it, whether it is the path, and the bytes compared;
+// how many bytes the last node met has in common with the path; and whether the search ends there, at a leaf.
+struct Search {
+    ends: bool,
+    node: u8,
+    whole: bool,
+    same: usize,
+    compared: u32,
+}
+
+// A number as an index.
+pub(crate) fn wide8(x: u8) -> usize
+    ensures { λ r. ⌜ (r ≡ x) × (r ≤ 255) ⌝ }
+{
+    x as usize
+}
+
+fn wide16(x: u16) -> usize
+    ensures { λ r. ⌜ r ≡ x ⌝ }
+{
+    x as usize
+}
+
+// The number of the first of the n categories that has the name s, whatever its letter case, or 8.
+fn find_name<'a>(
+    t: &[u8],
+    name_at: &'a [u16; 8],
+    name_len: &'a [u8; 8],
+    s: &[u8],
+    n: usize,
+) -> usize
+    requires { ⌜ n ≤ 8 ⌝ }
+    ensures { λ r. ⌜ r ≡ findName (now (t .entry)) (now («name_at» .entry)) (now («name_len» .entry)) (lowered (now (s .entry))) 0 n ⌝ }
+{
+    let mut i = 0;
+    while i < n {
+        let from = wide16(name_at[i]);
+        let size = wide8(name_len[i]);
+        if alert_urn::urn::same_lowered(s, alert_urn::text::part(t, from, size)) {
+            return i;
+        }
+        i += 1;
+    }
+    8
+}
+
+// The path of the node at i, in the table's bytes.
+pub(crate) fn path_at<'a, 'b>(
+    t: &'a [u8],
+    at: &'b [u16; 64],
+    len: &'b [u8; 64],
+    i: usize,
+) -> &'a [u8]
+    requires { ⌜ i < 64 ⌝ }
+    ensures { λ r. ⌜ now r ≡ stretch (now (t .entry)) (now (at .entry)) (now (len .entry)) i ⌝ }
+    ensures short { λ r. ⌜ length (now r) ≤ 255 ⌝ }
+{
+    let from = wide16(at[i]);
+    let size = wide8(len[i]);
+    alert_urn::text::part(t, from, size)
+}
+
+// A path of so many bytes, n of them in common with w, is w or above it.
+fn covers_by(all: usize, w: &[u8], n: usize) -> bool
+    ensures { λ r. ⌜ r ≡ (leb all n && endsAt (now (w .entry)) all) ⌝ }
+{
+    if n < all {
+        return false;
+    }
+    alert_urn::text::ends_at(w, all)
+}
+
+// How many bytes are compared of a path of so many bytes, n of them in common with another.
+fn looked(all: usize, n: usize) -> u32
+    requires { ⌜ all ≤ 255 ⌝ }
+    ensures { λ r. ⌜ (r ≡ min all (n + 1)) × (r ≤ 255) ⌝ }
+{
+    if all <= n {
+        return all as u32;
+    }
+    n as u32 + 1
+}
+
+// x if so, else y.
+fn pick(b: bool, x: u8, y: u8) -> u8
+    ensures { λ r. ⌜ r ≡ cond b x y ⌝ }
+{
+    if b {
+        return x;
+    }
+    y
+}
+
+fn pick_bool(b: bool, x: bool, y: bool) -> bool
+    ensures { λ r. ⌜ r ≡ cond b x y ⌝ }
+{
+    if b {
+        return x;
+    }
+    y
+}
+
+// The search for w at node k with the path p, which has n bytes in common with w, and has nodes under it or none.
+fn met(p: &[u8], w: &[u8], inner: bool, k: u8, n: usize, s: Search) -> Search
+    requires { ⌜ (length (now p) ≤ 255) × (s .compared ≤ 65535) ⌝ }
+    ensures { λ r. ⌜ r ≡ metWith (now (p .entry)) (lowered (now (w .entry))) inner k n s ⌝ }
+    ensures { λ r. ⌜ r .compared ≤ s .compared + 255 ⌝ }
+{
+    let all = p.len();
+    let above = covers_by(all, w, n);
+    let whole = all == w.len();
+    let leaf = !inner;
+    Search {
+        ends: pick_bool(above, leaf, false),
+        node: pick(above, k, s.node),
+        whole: pick_bool(above, whole, s.whole),
+        same: n,
+        compared: s.compared + looked(all, n),
+    }
+}
+
+// The search at a path that differs from w where the last one did.
+fn counted(s: Search) -> Search
+    requires { ⌜ (s .same ≤ 255) × (s .compared ≤ 65535) ⌝ }
+    ensures { λ r. ⌜ r ≡ countedIn s ⌝ }
+{
+    let more = s.same as u32 + 1;
+    Search {
+        ends: false,
+        node: s.node,
+        whole: s.whole,
+        same: s.same,
+        compared: s.compared + more,
+    }
+}
+
+// The path p, which shares with the one before just what that has in common with w, differs from w right after it.
+fn departs(p: &[u8], w: &[u8], same: usize, l: usize) -> bool
+    ensures { λ r. ⌜ r ≡ (eqb same l && differAt (now (p .entry)) (lowered (now (w .entry))) l) ⌝ }
+{
+    if same == l {
+        return alert_urn::urn::differ_at(p, w, l);
+    }
+    false
+}
+
+// The search for w, whatever its letter case, at the node at i, whose path shares l bytes with the one before it.
+fn look<'a>(
+    t: &[u8],
+    at: &'a [u16; 64],
+    len: &'a [u8; 64],
+    inner: &'a [bool; 64],
+    w: &[u8],
+    i: usize,
+    l: usize,
+    s: Search,
+) -> Search
+    requires { ⌜ (i < 64) × (l ≤ 255) × (s .compared ≤ 255 * i) ⌝ }
+    ensures { λ r. ⌜ r ≡ lookBy (now (t .entry)) (now (at .entry)) (now (len .entry)) (now (inner .entry)) (lowered (now (w .entry))) i l s ⌝ }
+    ensures { λ r. ⌜ r .compared ≤ 255 * (i + 1) ⌝ }
+{
+    if s.same < l {
+        return counted(s);
+    }
+    let p = path_at(t, at, len, i);
+    if departs(p, w, s.same, l) {
+        return counted(s);
+    }
+    let n = alert_urn::urn::common_lowered_next(p, w, s.same, l);
+    let k = i as u8 + 1;
+    met(p, w, inner[i], k, n, s)
+}
+
+// The search for w in category c, over the n nodes in their order.
+fn search_nodes<'a>(
+    t: &[u8],
+    category: &'a [u8; 64],
+    at: &'a [u16; 64],
+    len: &'a [u8; 64],
+    shared: &'a [u8; 64],
+    inner: &'a [bool; 64],
+    c: u8,
+    w: &[u8],
+    n: usize,
+) -> Search
+    requires { ⌜ n ≤ 64 ⌝ }
+    ensures { λ r. ⌜
+        r ≡ searchFrom (now (t .entry)) (now (category .entry)) (now (at .entry)) (now (len .entry)) (now (shared .entry)) (now (inner .entry))
+        c (lowered (now (w .entry))) 0 n nothing
+        ⌝ }
+{
+    let mut s = Search {
+        ends: false,
+        node: 0,
+        whole: false,
+        same: 0,
+        compared: 0,
+    };
+    let mut i = 0;
+    while i < n {
+        if category[i] == c {
+            s = look(t, at, len, inner, w, i, wide8(shared[i]), s);
+            if s.ends {
+                return s;
+            }
+        }
+        i += 1;
+    }
+    s
+}
+
+// n, or m if that is less.
+pub fn at_most(n: usize, m: usize) -> usize
+    ensures { λ r. ⌜ (r ≡ fewer n m) × (r ≤ m) ⌝ }
+{
+    if n <= m {
+        return n;
+    }
+    m
+}
+
+// What a URI is to the table t, whose names and nodes the arrays hold.
+pub fn uses<'a>(
+    t: &[u8],
+    name_at: &'a [u16; 8],
+    name_len: &'a [u8; 8],
+    categories: usize,
+    category: &'a [u8; 64],
+    at: &'a [u16; 64],
+    len: &'a [u8; 64],
+    shared: &'a [u8; 64],
+    inner: &'a [bool; 64],
+    nodes: usize,
+    uri: &[u8],
+) -> Use
+    ensures { λ r. ⌜
+        r ≡ usesOf (now (t .entry)) (now («name_at» .entry)) (now («name_len» .entry)) categories
+        (now (category .entry)) (now (at .entry)) (now (len .entry)) (now (shared .entry)) (now (inner .entry)) nodes (now (uri .entry))
+        ⌝ }
+{
+    if alert_urn::urn::is_alert_urn(uri) {
+        let n = uri.len();
+        let s = alert_urn::text::part(uri, 10, n);
+        let colon = alert_urn::text::find(s, 58);
+        let name = alert_urn::text::part(s, 0, colon);
+        let c = find_name(t, name_at, name_len, name, at_most(categories, 8));
+        if c < 8 {
+            let found = c as u8;
+            let path = colon + 1;
+            let w = alert_urn::text::part(s, path, n);
+            let most = at_most(nodes, 64);
+            let e = search_nodes(t, category, at, len, shared, inner, found, w, most);
+            return Use::Used {
+                category: found,
+                node: e.node,
+                whole: e.whole,
+                compared: e.compared,
+            };
+        }
+    }
+    Use::Skipped
+}
