@@ -13,14 +13,17 @@
 //! | `feed T RECORD V` | refusal, signal, used, skipped, the record after it; a record is `signal/status,../values` |
 //! | `early T V` | refusal, signal, entries needed |
 //! | `match T URI` | refusal, category (-1 if the URI is skipped), node, whole, bytes compared |
+//! | `newtable N` | refusal |
+//! | `tonew T ROOM` | refusal, length, tree form (the rest of the buffer of ROOM bytes is 0) |
+//! | `toold N ROOM` | refusal, length, table (the same) |
 //! | `tally T RECORDS REFUSALS V` | refusal, records and refusal counts after it; `chosen:used:skipped` and counts, `;` between |
-use crate::{Early, Match, Reader, Record, Resolution, Resolvers, Tables, Tallies, Tally};
+use crate::{Converted, Early, Match, Reader, Record, Resolution, Resolvers, Tables, Tallies, Tally, Trees};
 use std::fmt::Write;
 use std::path::{Path, PathBuf};
 
 /// One file for each command, the draft's worked examples, values with folded lines, messages of
 /// several fields, and URNs that a category holds.
-pub const FILES: [&str; 16] = [
+pub const FILES: [&str; 17] = [
     "value.txt",
     "entry.txt",
     "table.txt",
@@ -37,6 +40,7 @@ pub const FILES: [&str; 16] = [
     "held_machine.txt",
     "early.txt",
     "tries.txt",
+    "trees.txt",
 ];
 
 /// Where the cases are.
@@ -49,6 +53,7 @@ pub fn folder() -> PathBuf {
 pub enum Layer {
     Reader,
     Tables,
+    Trees,
     Resolvers,
     Tallies,
 }
@@ -65,6 +70,7 @@ impl Case {
         match self.words[0].as_str() {
             "value" | "entry" => Layer::Reader,
             "table" | "match" | "build" | "check" => Layer::Tables,
+            "newtable" | "tonew" | "toold" => Layer::Trees,
             "plain" | "walk" | "feed" | "early" => Layer::Resolvers,
             "tally" => Layer::Tallies,
             other => panic!("{}: unknown command {other}", self.place),
@@ -177,6 +183,23 @@ pub fn ask_tables<I: Tables>(case: &Case) -> String {
         "check" => I::check(&table, &case.bytes(2)).to_string(),
         other => panic!("{}: {other} is not the tables'", case.place),
     }
+}
+
+/// What an implementation answers to a case of tables with the tree written once.
+pub fn ask_trees<I: Trees>(case: &Case) -> String {
+    let bytes = case.bytes(1);
+    let convert = match case.words[0].as_str() {
+        "newtable" => return I::tree_refusal(&bytes).to_string(),
+        "tonew" => I::from_table,
+        "toold" => I::to_table,
+        other => panic!("{}: {other} is not the trees'", case.place),
+    };
+    let mut buffer = vec![0xA5; case.number(2)];
+    let Converted { refusal, len } = convert(&bytes, &mut buffer);
+    if buffer[len..].iter().any(|&b| b != 0) {
+        return "bytes past the form are not 0".to_string();
+    }
+    format!("{refusal} {len} {}", to_hex(&buffer[..len]))
 }
 
 /// A record as a case has it.

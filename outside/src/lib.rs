@@ -20,6 +20,14 @@ pub struct Built {
     pub len: usize,
 }
 
+/// What a conversion answers: its refusal number, and how long the form is, which is 0 after a refusal.
+#[repr(C)]
+#[derive(Clone, Copy, Debug, PartialEq, Eq)]
+pub struct Converted {
+    pub refusal: u8,
+    pub len: usize,
+}
+
 /// What a URI is to a table: the table's refusal number, whether the URI is used, its category, the deepest node that is
 /// the URN or above it, whether it is the URN, and how many bytes were compared to find it. All 0 for a skipped URI.
 #[repr(C)]
@@ -116,6 +124,16 @@ pub trait Tables {
     fn matched(table: &[u8], uri: &[u8]) -> Match;
     fn build(table: &[u8], buffer: &mut [u8]) -> Built;
     fn check(table: &[u8], image: &[u8]) -> u8;
+}
+
+/// Tables with the tree written once: what the library tree_table answers. A buffer is zero past the form, and all of it
+/// after a refusal.
+pub trait Trees {
+    fn tree_refusal(tree: &[u8]) -> u8;
+    /// The tree form of a table.
+    fn from_table(table: &[u8], buffer: &mut [u8]) -> Converted;
+    /// The table that a tree form says.
+    fn to_table(tree: &[u8], buffer: &mut [u8]) -> Converted;
 }
 
 /// What is carried between the values of one message: the signal, a status for each of 8 categories, and how many values

@@ -3,12 +3,14 @@
 use crate::Reader;
 #[cfg(any(feature = "resolver", feature = "tally"))]
 use crate::Resolution;
-#[cfg(feature = "resolver")]
-use crate::{Plain, Resolvers};
 #[cfg(feature = "signal_table")]
 use crate::{Built, Match, Tables};
+#[cfg(feature = "tree_table")]
+use crate::{Converted, Trees};
 #[cfg(feature = "resolver")]
 use crate::{Early, Record};
+#[cfg(feature = "resolver")]
+use crate::{Plain, Resolvers};
 #[cfg(feature = "tally")]
 use crate::{Tallies, Tally};
 
@@ -37,6 +39,13 @@ extern "C" {
     fn signal_table_match(table: *const u8, len: usize, uri: *const u8, uri_len: usize) -> Match;
     fn machine_build(table: *const u8, len: usize, buf: *mut u8, room: usize) -> Built;
     fn machine_check(table: *const u8, len: usize, image: *const u8, image_len: usize) -> u8;
+}
+
+#[cfg(feature = "tree_table")]
+extern "C" {
+    fn tree_table_refusal(tree: *const u8, len: usize) -> u8;
+    fn tree_table_from_signal_table(table: *const u8, len: usize, buf: *mut u8, room: usize) -> Converted;
+    fn tree_table_to_signal_table(tree: *const u8, len: usize, buf: *mut u8, room: usize) -> Converted;
 }
 
 #[cfg(feature = "resolver")]
@@ -113,6 +122,21 @@ impl Tables for Ours {
 
     fn check(table: &[u8], image: &[u8]) -> u8 {
         unsafe { machine_check(table.as_ptr(), table.len(), image.as_ptr(), image.len()) }
+    }
+}
+
+#[cfg(feature = "tree_table")]
+impl Trees for Ours {
+    fn tree_refusal(tree: &[u8]) -> u8 {
+        unsafe { tree_table_refusal(tree.as_ptr(), tree.len()) }
+    }
+
+    fn from_table(table: &[u8], buffer: &mut [u8]) -> Converted {
+        unsafe { tree_table_from_signal_table(table.as_ptr(), table.len(), buffer.as_mut_ptr(), buffer.len()) }
+    }
+
+    fn to_table(tree: &[u8], buffer: &mut [u8]) -> Converted {
+        unsafe { tree_table_to_signal_table(tree.as_ptr(), tree.len(), buffer.as_mut_ptr(), buffer.len()) }
     }
 }
 

@@ -1,6 +1,6 @@
 //! Every case with a known answer, against each implementation.
 use outside::baseline::Baseline;
-use outside::cases::{all, ask_reader, ask_resolvers, ask_tables, ask_tallies, Case, Layer};
+use outside::cases::{all, ask_reader, ask_resolvers, ask_tables, ask_tallies, ask_trees, Case, Layer};
 use outside::reference::Reference;
 
 fn hold(layer: Layer, ask: impl Fn(&Case) -> String) {
@@ -32,6 +32,11 @@ macro_rules! hold_to_cases {
             }
 
             #[test]
+            fn trees() {
+                hold(Layer::Trees, ask_trees::<$implementation>);
+            }
+
+            #[test]
             fn resolvers() {
                 hold(Layer::Resolvers, ask_resolvers::<$implementation>);
             }
@@ -48,7 +53,13 @@ hold_to_cases!(reference, Reference);
 hold_to_cases!(baseline, Baseline);
 
 mod ours {
-    #[cfg(any(feature = "alert_info", feature = "signal_table", feature = "resolver", feature = "tally"))]
+    #[cfg(any(
+        feature = "alert_info",
+        feature = "signal_table",
+        feature = "tree_table",
+        feature = "resolver",
+        feature = "tally"
+    ))]
     use super::*;
 
     #[cfg(feature = "alert_info")]
@@ -61,6 +72,12 @@ mod ours {
     #[test]
     fn tables() {
         hold(Layer::Tables, ask_tables::<outside::ours::Ours>);
+    }
+
+    #[cfg(feature = "tree_table")]
+    #[test]
+    fn trees() {
+        hold(Layer::Trees, ask_trees::<outside::ours::Ours>);
     }
 
     #[cfg(feature = "resolver")]

@@ -1,9 +1,10 @@
 //! What is known of the tables at the limits and of the example tables.
 use outside::random::tables::limits;
+use outside::random::trees;
 use outside::reference::machine::discover;
 use outside::reference::table::Table;
 use outside::reference::Reference;
-use outside::Tables;
+use outside::{Tables, Trees};
 use std::path::Path;
 
 const LONGEST: usize = 35_459;
@@ -20,6 +21,17 @@ fn limits_are_met() {
             "a URN of 255 bytes" => assert!(limit.table.contains(&255)),
             "257 states" => assert_eq!(states(&limit.table), 257),
             _ => {}
+        }
+    }
+}
+
+#[test]
+fn tree_limits_are_met() {
+    for limit in trees::limits() {
+        let converted = Reference::to_table(&limit.tree, &mut vec![0; 10_000]);
+        assert_eq!(converted.refusal, limit.refusal, "{}", limit.what);
+        if limit.what == "a table of 8,192 bytes" {
+            assert_eq!(converted.len, 8192);
         }
     }
 }

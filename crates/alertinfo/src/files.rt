@@ -49,7 +49,8 @@ fn read(path: &[u8], buf: &mut [u8]) -> Got
     Got { ok: true, n }
 }
 
-// The start of the file that argument i names. A file that cannot be read is named on standard error.
+// The start of the file that argument i names. A file that cannot be read is named on standard error, with the system's
+// reason, which the next call of the system would replace.
 pub fn file(i: usize, buf: &mut [u8]) -> Got
     ensures { λ r. ⌜ Counts (r .n) (now (buf .exit)) ⌝ }
 {
@@ -60,6 +61,14 @@ pub fn file(i: usize, buf: &mut [u8]) -> Got
         os::fail(&name[..n]);
     }
     got
+}
+
+// The file that argument i names is told on standard error, with a reason of our own.
+fn complain(i: usize, reason: &[u8]) {
+    let mut name = io::buffer();
+    let n = os::arg(i, &mut name);
+    io::write_all(STDERR_FILENO, &name[..n]);
+    io::write_all(STDERR_FILENO, reason);
 }
 
 // The file that argument i names, opened. One that cannot be is named on standard error.
@@ -75,13 +84,10 @@ pub fn opened(i: usize) -> i32 {
 
 // The file that argument i names could not be read to its end.
 pub fn failed(i: usize) {
-    let mut name = io::buffer();
-    let n = os::arg(i, &mut name);
-    io::write_all(STDERR_FILENO, &name[..n]);
-    io::write_all(STDERR_FILENO, b": it cannot be read to its end\n");
+    complain(i, b": it cannot be read to its end\n");
 }
 
-// The same of an argument that may also be a value, and is none.
+// The start of the file that argument i names, which may also be a value, and is none.
 fn file_for_value(i: usize, buf: &mut [u8]) -> Got
     ensures { λ r. ⌜ Counts (r .n) (now (buf .exit)) ⌝ }
 {
@@ -89,9 +95,8 @@ fn file_for_value(i: usize, buf: &mut [u8]) -> Got
     let n = os::arg(i, &mut name);
     let got = read(&name[..n], buf);
     if !got.ok {
-        io::write_all(STDERR_FILENO, &name[..n]);
-        io::write_all(
-            STDERR_FILENO,
+        complain(
+            i,
             b": neither a file that can be read nor a value, which begins with '<'\n",
         );
     }
@@ -137,22 +142,36 @@ pub fn value(i: usize, buf: &mut [u8]) -> Got
     Got { ok: got.ok, n: k }
 }
 
-// The first n bytes go to the file that argument i names.
+// The file that argument i names, made or emptied. One that cannot be is named on standard error.
+fn overwritten(i: usize) -> i32 {
+    let mut name = io::buffer();
+    let n = os::arg(i, &mut name);
+    let fd = os::open_overwrite(&name[..n]);
+    if fd < 0 {
+        os::fail(&name[..n]);
+    }
+    fd
+}
+
+// The bytes go to the file that argument i names.
+fn write_all(i: usize, bytes: &[u8]) -> bool {
+    let fd = overwritten(i);
+    if fd < 0 {
+        return false;
+    }
+    let ok = io::write_all(fd, bytes);
+    libc::close(fd);
+    if !ok {
+        complain(i, b": it cannot be written to its end\n");
+    }
+    ok
+}
+
+// The same of the first n bytes.
 pub fn write(i: usize, bytes: &[u8], n: usize) -> bool {
     if bytes.len() < n {
         return false;
     }
-    let mut name = io::buffer();
-    let k = os::arg(i, &mut name);
-    let fd = os::open_overwrite(&name[..k]);
-    if fd < 0 {
-        os::fail(&name[..k]);
-        return false;
-    }
-    let ok = io::write_all(fd, &bytes[..n]);
-    libc::close(fd);
-    if !ok {
-        os::fail(&name[..k]);
-    }
-    ok
+    let a = 0;
+    write_all(i, &bytes[a..n])
 }

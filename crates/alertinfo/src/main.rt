@@ -1,6 +1,6 @@
 // Picks a ring from the command line: the libraries' answers, in plain words. Files are read up to 65,536 bytes, more
 // than the libraries take, so that a longer one is refused by its number.
-mod early_answer;
+mod answers;
 mod fields;
 mod files;
 mod month;
@@ -10,26 +10,38 @@ mod words;
 use libc::STDERR_FILENO;
 use libc::STDOUT_FILENO;
 
+// What is asked of a table, which is argument 2.
+enum Command {
+    Build,
+    Check,
+    Match,
+    Tally,
+    Tree,
+    Untree,
+    Resolve,
+    Walk,
+    Early,
+    Feed,
+    None,
+}
+
 fn usage(to: i32) {
-    io::write_all(to, b"usage: alertinfo entries VALUE\n");
-    io::write_all(to, b"       alertinfo build TABLE MACHINE\n");
-    io::write_all(to, b"       alertinfo check TABLE MACHINE\n");
-    io::write_all(to, b"       alertinfo resolve TABLE VALUE [MACHINE]\n");
-    io::write_all(to, b"       alertinfo early TABLE VALUE\n");
-    io::write_all(to, b"       alertinfo match TABLE URI\n");
-    io::write_all(to, b"       alertinfo feed TABLE VALUE [VALUE ..]\n");
-    io::write_all(to, b"       alertinfo tally TABLE FILE\n");
     io::write_all(
         to,
-        b"TABLE and MACHINE are files. VALUE is a file, or the value itself if it begins with '<'.\n",
-    );
-    io::write_all(
-        to,
-        b"FILE has one value a line; empty lines are no values.\n",
-    );
-    io::write_all(
-        to,
-        b"A file that is read may be -, standard input. Status: 0 an answer, 1 refused, 2 no answer.\n",
+        b"usage: alertinfo entries VALUE
+       alertinfo build TABLE MACHINE
+       alertinfo check TABLE MACHINE
+       alertinfo resolve TABLE VALUE [MACHINE]
+       alertinfo early TABLE VALUE
+       alertinfo match TABLE URI
+       alertinfo tree TABLE TREE
+       alertinfo untree TREE TABLE
+       alertinfo feed TABLE VALUE [VALUE ..]
+       alertinfo tally TABLE FILE
+TABLE, TREE and MACHINE are files. VALUE is a file, or the value itself if it begins with '<'.
+FILE has one value a line; empty lines are no values.
+A file that is read may be -, standard input. Status: 0 an answer, 1 refused, 2 no answer.
+",
     );
 }
 
@@ -61,235 +73,92 @@ fn entries() {
     list(&value[..n]);
 }
 
-fn build() {
-    let mut table = io::large_buffer();
-    let t = files::file(2, &mut table);
-    if !t.ok {
-        return;
+// A command on a table and one more word.
+fn of_one_more() -> Command {
+    if files::is(1, b"build") {
+        return Command::Build;
     }
-    let n = t.n;
-    let mut image = io::large_buffer();
-    let b = signal_table::build(&table[..n], &mut image);
-    if b.refusal != 0 {
-        words::refused(b.refusal);
-        return;
+    if files::is(1, b"check") {
+        return Command::Check;
     }
-    if files::write(3, &image, b.len) {
-        words::count(b.len as u64, b" bytes written\n");
+    if files::is(1, b"match") {
+        return Command::Match;
     }
+    if files::is(1, b"tally") {
+        return Command::Tally;
+    }
+    if files::is(1, b"tree") {
+        return Command::Tree;
+    }
+    if files::is(1, b"untree") {
+        return Command::Untree;
+    }
+    if files::is(1, b"resolve") {
+        return Command::Resolve;
+    }
+    if files::is(1, b"early") {
+        return Command::Early;
+    }
+    Command::None
 }
 
-fn check() {
-    let mut table = io::large_buffer();
-    let t = files::file(2, &mut table);
-    if !t.ok {
-        return;
+// A command on a table and two more words.
+fn of_two_more() -> Command {
+    if files::is(1, b"resolve") {
+        return Command::Walk;
     }
-    let n = t.n;
-    let mut image = io::large_buffer();
-    let m = files::file(3, &mut image);
-    if !m.ok {
-        return;
-    }
-    let k = m.n;
-    let r = signal_table::check(&table[..n], &image[..k]);
-    if r != 0 {
-        words::refused(r);
-        return;
-    }
-    io::write_all(STDOUT_FILENO, b"accepted\n");
+    Command::None
 }
 
-fn accepted(signal: u8, used: usize, skipped: usize) {
-    io::write_all(STDOUT_FILENO, b"signal ");
-    words::count(signal as u64, b", ");
-    words::count(used as u64, b" used, ");
-    words::count(skipped as u64, b" skipped\n");
+fn asked(n: usize) -> Command {
+    if n == 4 {
+        return of_one_more();
+    }
+    if n == 5 {
+        return of_two_more();
+    }
+    Command::None
 }
 
-fn answer(r: entry_run::Resolution) {
-    if r.refusal != 0 {
-        words::refused(r.refusal);
-        return;
-    }
-    accepted(r.signal, r.used as usize, r.skipped as usize);
-}
-
-// The plain resolver's answer, with its tries.
-fn tried(r: resolver::PlainResolution) {
-    if r.refusal != 0 {
-        words::refused(r.refusal);
-        return;
-    }
-    io::write_all(STDOUT_FILENO, b"signal ");
-    words::count(r.signal as u64, b", ");
-    words::count(r.used as u64, b" used, ");
-    words::count(r.skipped as u64, b" skipped, ");
-    words::counted(r.tries as u64, b" try\n", b" tries\n");
-}
-
-fn follow(t: &[u8], v: &[u8]) {
-    let mut image = io::large_buffer();
-    let m = files::file(4, &mut image);
-    if !m.ok {
-        return;
-    }
-    let n = m.n;
-    answer(resolver::machine(t, &image[..n], v));
-}
-
-fn resolve(by_machine: bool) {
-    let mut table = io::large_buffer();
-    let t = files::file(2, &mut table);
-    if !t.ok {
-        return;
-    }
-    let n = t.n;
+// The commands with a value, which is argument 3.
+fn by_value(c: Command, t: &[u8]) {
     let mut value = io::large_buffer();
     let v = files::value(3, &mut value);
     if !v.ok {
         return;
     }
-    let k = v.n;
-    if by_machine {
-        follow(&table[..n], &value[..k]);
-    } else {
-        tried(resolver::plain(&table[..n], &value[..k]));
+    let n = v.n;
+    match c {
+        Command::Walk => answers::walk(t, &value[..n]),
+        Command::Early => answers::early(t, &value[..n]),
+        _ => answers::plain(t, &value[..n]),
     }
 }
 
-fn found(m: signal_table::Match) {
-    if m.refusal != 0 {
-        words::refused(m.refusal);
-        return;
-    }
-    if m.used == 0 {
-        io::write_all(STDOUT_FILENO, b"skipped\n");
-        return;
-    }
-    io::write_all(STDOUT_FILENO, b"category ");
-    words::count(m.category as u64, b", node ");
-    if m.whole == 1 {
-        words::count(m.node as u64, b", whole, ");
-    } else {
-        words::count(m.node as u64, b", not whole, ");
-    }
-    words::counted(m.compared as u64, b" byte compared\n", b" bytes compared\n");
-}
-
-// What the URI that argument 3 is means to the table.
-fn match_uri() {
+fn by_table(c: Command, n: usize) {
     let mut table = io::large_buffer();
     let t = files::file(2, &mut table);
     if !t.ok {
         return;
     }
-    let n = t.n;
-    let mut uri = io::large_buffer();
-    let k = os::arg(3, &mut uri);
-    found(signal_table::match_urn(&table[..n], &uri[..k]));
+    let k = t.n;
+    match c {
+        Command::Build => answers::build(&table[..k]),
+        Command::Check => answers::check(&table[..k]),
+        Command::Match => answers::match_uri(&table[..k]),
+        Command::Tally => answers::tally_file(&table[..k]),
+        Command::Tree => answers::tree(&table[..k]),
+        Command::Untree => answers::untree(&table[..k]),
+        Command::Feed => answers::feed(&table[..k], n),
+        _ => by_value(c, &table[..k]),
+    }
 }
 
-// The values of one message: the signal at the end and the counts of all, or the last refusal if no value is accepted.
-fn feed(arguments: usize) {
-    let mut table = io::large_buffer();
-    let t = files::file(2, &mut table);
-    if !t.ok {
-        return;
-    }
-    let n = t.n;
-    let m = fields::all_of(&table[..n], arguments);
-    if !m.ok {
-        return;
-    }
-    if !m.accepted {
-        words::refused(m.refusal);
-        return;
-    }
-    let end = m.carried;
-    accepted(end.signal, m.used, m.skipped);
-}
-
-// The month of the values in a file, one a line.
-fn tally_file() {
-    let mut table = io::large_buffer();
-    let t = files::file(2, &mut table);
-    if !t.ok {
-        return;
-    }
-    let n = t.n;
-    let k = signal_table::refusal(&table[..n]);
-    if k != 0 {
-        words::refused(k);
-        return;
-    }
-    let fd = files::opened(3);
-    if fd < 0 {
-        return;
-    }
-    let r = month::of_file(fd, &table[..n]);
-    libc::close(fd);
-    if r.failed {
-        files::failed(3);
-        return;
-    }
-    let m = r.month;
-    report::month(m, tally::month::needed(&table[..n]));
-}
-
-// The commands on a table and something that is no value; whether it was one of them.
-fn table_and_other() -> bool {
-    if files::is(1, b"build") {
-        build();
-        return true;
-    }
-    if files::is(1, b"check") {
-        check();
-        return true;
-    }
-    if files::is(1, b"match") {
-        match_uri();
-        return true;
-    }
-    if files::is(1, b"tally") {
-        tally_file();
-        return true;
-    }
-    false
-}
-
-fn main() {
-    let n = os::arg_count();
-    if files::is(1, b"entries") {
-        if n == 3 {
+// A call that asks nothing of a table.
+fn without_table(n: usize) {
+    if n == 3 {
+        if files::is(1, b"entries") {
             entries();
-            return;
-        }
-    }
-    if n == 4 {
-        if table_and_other() {
-            return;
-        }
-    }
-    if files::is(1, b"resolve") {
-        if n == 4 {
-            resolve(false);
-            return;
-        }
-        if n == 5 {
-            resolve(true);
-            return;
-        }
-    }
-    if files::is(1, b"early") {
-        if n == 4 {
-            early_answer::ask();
-            return;
-        }
-    }
-    if files::is(1, b"feed") {
-        if 3 < n {
-            feed(n);
             return;
         }
     }
@@ -298,4 +167,19 @@ fn main() {
         return;
     }
     usage(STDERR_FILENO);
+}
+
+fn main() {
+    let n = os::arg_count();
+    if 3 < n {
+        if files::is(1, b"feed") {
+            by_table(Command::Feed, n);
+            return;
+        }
+    }
+    let c = asked(n);
+    match c {
+        Command::None => without_table(n),
+        _ => by_table(c, n),
+    }
 }

@@ -57,8 +57,8 @@ fn signal(records: [Tally; 32], i: usize, all: u64) {
     words::count(i as u64, b": ");
     times(r.chosen, all);
     io::write_all(STDOUT_FILENO, b", ");
-    words::count(r.used as u64, b" used, ");
-    words::count(r.skipped as u64, b" skipped\n");
+    words::used_skipped(r.used as u64, r.skipped as u64);
+    io::write_all(STDOUT_FILENO, b"\n");
 }
 
 fn signals(records: [Tally; 32], n: usize, all: u64) {

@@ -16,6 +16,18 @@ pub fn counted(n: u64, one: &[u8], many: &[u8]) {
     }
 }
 
+// A resolution without the line's end.
+pub fn resolved(signal: u8, used: usize, skipped: usize) {
+    io::write_all(STDOUT_FILENO, b"signal ");
+    count(signal as u64, b", ");
+    used_skipped(used as u64, skipped as u64);
+}
+
+pub fn used_skipped(used: u64, skipped: u64) {
+    count(used, b" used, ");
+    count(skipped, b" skipped");
+}
+
 // A refusal number with what it says.
 pub fn refused(k: u8) {
     refusal(STDOUT_FILENO, k);
@@ -30,60 +42,31 @@ pub fn refusal(to: i32, k: u8) {
     io::write_all(to, b"\n");
 }
 
-// What a refusal number says.
+// What a refusal number says: its line of these, counted from 0.
 pub fn reason(to: i32, k: u8) {
-    if k <= 3 {
-        of_value(to, k);
-    } else if k <= 12 {
-        of_table(to, k);
-    } else {
-        of_others(to, k);
-    }
-}
-
-fn of_value(to: i32, k: u8) {
-    match k {
-        1 => io::write_all(to, b"the value is longer than 4,096 bytes"),
-        2 => io::write_all(to, b"the value is not of the field's form"),
-        _ => io::write_all(to, b"the value has more than 64 entries"),
-    }
-    ;
-}
-
-fn of_table(to: i32, k: u8) {
-    match k {
-        4 => io::write_all(to, b"the table is longer than 8,192 bytes"),
-        5 => io::write_all(
-            to,
-            b"the table stops early, or goes on after its last signal",
-        ),
-        6 => io::write_all(to, b"a count or a length in the table is out of range"),
-        7 => io::write_all(
-            to,
-            b"a name or a URN in the table is of wrong form, has a capital letter, or has more than 8 parts",
-        ),
-        8 => io::write_all(
-            to,
-            b"a category stands twice, or no signal uses it, or a URN names one that is not listed",
-        ),
-        9 => io::write_all(to, b"one signal has two URNs of the same category"),
-        10 => io::write_all(to, b"signal 0 names a URN"),
-        11 => io::write_all(to, b"two signals have equal places"),
-        _ => io::write_all(to, b"the table has more than 64 nodes"),
-    }
-    ;
-}
-
-fn of_others(to: i32, k: u8) {
-    match k {
-        13 => io::write_all(to, b"the machine would have more than 256 states"),
-        14 => io::write_all(to, b"the image does not fit the buffer"),
-        15 => io::write_all(to, b"the image is not of the form that this table asks for"),
-        16 => io::write_all(to, b"state 0 is not the start"),
-        17 => io::write_all(to, b"a row leads to a state with the wrong pair"),
-        18 => io::write_all(to, b"the value has no such entry"),
-        19 => io::write_all(to, b"the message has more than 16 values"),
-        _ => io::write_all(to, b"what is carried is none of this table"),
-    }
-    ;
+    let lines = b"nothing is wrong
+the value is longer than 4,096 bytes
+the value is not of the field's form
+the value has more than 64 entries
+the table is longer than 8,192 bytes
+the table stops early, or goes on after its last signal
+a count or a length in the table is out of range
+a name or a URN in the table is of wrong form, has a capital letter, or has more than 8 parts
+a category stands twice, or no signal uses it, or a URN names one that is not listed
+one signal has two URNs of the same category
+signal 0 names a URN
+two signals have equal places
+the table has more than 64 nodes
+the machine would have more than 256 states
+the image does not fit the buffer
+the image is not of the form that this table asks for
+state 0 is not the start
+a row leads to a state with the wrong pair
+the value has no such entry
+the message has more than 16 values
+the tally cannot take the value
+the tree's nodes are not those of its signals, each once and in order, or a number leads nowhere
+the other form does not fit, or would be longer than 8,192 bytes
+";
+    io::write_all(to, cases::part(lines, b'\n', k as usize));
 }

@@ -10,7 +10,7 @@ use lib.Dec.{eqb}
 use lib.ListN.{length, getD, take, drop, drop-of-length-le, length-drop}
 use lib.Seq.{drop-cons, take-all}
 use borrow.Author.Tests.{eq-eqb, ne-eqb}
-use Rattle.cases.specs.Lines.{takeTo, dropPast, wordOf}
+use Rattle.cases.specs.Lines.{takeTo, dropPast, partOf}
 
 -- the bytes before the first mark are no more than all
 pub short : (m : ℕ) (l : List ℕ) → length (takeTo m l) ≤ length l
@@ -60,18 +60,18 @@ module _ (m : ℕ) (s : List ℕ) (at : ℕ) where
   unfolding takeTo
   find-none h = rw (drop-of-length-le s) (omega arith)
 
--- words
-pub word-zero : (l r : List ℕ) (k : ℕ) → r ≡ takeTo 32 l → k ≡ 0 → r ≡ wordOf k l
-unfolding wordOf
-word-zero l r k e z = e ∙ ap (λ (n : ℕ). wordOf n l) (sym z)
+-- parts
+pub part-zero : (m : ℕ) (l r : List ℕ) (k : ℕ) → r ≡ takeTo m l → k ≡ 0 → r ≡ partOf m k l
+unfolding partOf
+part-zero m l r k e z = e ∙ ap (λ (n : ℕ). partOf m n l) (sym z)
 
-word-suc : (l : List ℕ) (k : ℕ) → wordOf (suc k - 1) (dropPast 32 l) ≡ wordOf (suc k) l
-unfolding wordOf
-word-suc l k = let e : suc k - 1 ≡ k = omega arith in ap (λ (n : ℕ). wordOf n (dropPast 32 l)) e
+part-suc : (m : ℕ) (l : List ℕ) (k : ℕ) → partOf m (suc k - 1) (dropPast m l) ≡ partOf m (suc k) l
+unfolding partOf
+part-suc m l k = let e : suc k - 1 ≡ k = omega arith in ap (λ (n : ℕ). partOf m n (dropPast m l)) e
 
-pub word-next : (l m r : List ℕ) (k : ℕ) → m ≡ dropPast 32 l → r ≡ wordOf (k - 1) m → (k ≡ 0 → ⊥) → r ≡ wordOf k l
-word-next l m r zero e f n = absurd (n refl)
-word-next l m r (suc k) e f n = f ∙ ap (wordOf (suc k - 1)) e ∙ word-suc l k
+pub part-next : (m : ℕ) (l rest r : List ℕ) (k : ℕ) → rest ≡ dropPast m l → r ≡ partOf m (k - 1) rest → (k ≡ 0 → ⊥) → r ≡ partOf m k l
+part-next m l rest r zero e f n = absurd (n refl)
+part-next m l rest r (suc k) e f n = f ∙ ap (partOf m (suc k - 1)) e ∙ part-suc m l k
 
 pub after-found : (m : ℕ) (l : List ℕ) (at : ℕ) → at ≡ length (takeTo m l) → at < length l → take (length l - (at + 1)) (drop (at + 1) l) ≡ dropPast m l
 after-found m l at e h =

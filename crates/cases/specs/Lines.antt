@@ -15,7 +15,7 @@ unfoldable pub dropPast : ℕ → List ℕ → List ℕ
 dropPast m [] = []
 dropPast m (b ∷ l) = cond (eqb b m) l (dropPast m l)
 
--- word k, with a space (32) after each; empty if there is none
-unfoldable pub wordOf : ℕ → List ℕ → List ℕ
-wordOf zero l = takeTo 32 l
-wordOf (suc k) l = wordOf k (dropPast 32 l)
+-- part k, with an m after each; empty if there is none
+unfoldable pub partOf : ℕ → ℕ → List ℕ → List ℕ
+partOf m zero l = takeTo m l
+partOf m (suc k) l = partOf m k (dropPast m l)

@@ -2,7 +2,7 @@
 ghost use mathlib.Core.Path.{_≡_};
 ghost use Prim.Native.Nat.{_≤_, _<_, _/_, min};
 ghost use lib.ListN.{length, getD, take};
-ghost use Rattle.cases.specs.Lines.{takeTo, dropPast, wordOf};
+ghost use Rattle.cases.specs.Lines.{takeTo, dropPast, partOf};
 ghost use Rattle.cases.specs.Numbers.{digitOf, moreDigits, numberOf, hexDigit, hexPair, tab, over};
 
 // The first byte, 0 if there is none.
@@ -47,14 +47,21 @@ pub fn after<'a>(s: &'a [u8], mark: u8) -> &'a [u8]
     &s[next..end]
 }
 
-// Word k of a line, counted from 0; empty if there is none.
-pub fn word<'a>(line: &'a [u8], k: usize) -> &'a [u8]
-    ensures { λ r. ⌜ now r ≡ wordOf k (now (line .entry)) ⌝ }
+// Part k, counted from 0, where parts end at `mark`; empty if there is none.
+pub fn part<'a>(s: &'a [u8], mark: u8, k: usize) -> &'a [u8]
+    ensures { λ r. ⌜ now r ≡ partOf mark k (now (s .entry)) ⌝ }
 {
     if k == 0 {
-        return before(line, b' ');
+        return before(s, mark);
     }
-    word(after(line, b' '), k - 1)
+    part(after(s, mark), mark, k - 1)
+}
+
+// Word k of a line, counted from 0; empty if there is none.
+pub fn word<'a>(line: &'a [u8], k: usize) -> &'a [u8]
+    ensures { λ r. ⌜ now r ≡ partOf 32 k (now (line .entry)) ⌝ }
+{
+    part(line, b' ', k)
 }
 
 // What a decimal digit stands for; 0 for any other byte.

@@ -4,6 +4,9 @@
 //   table T          refusal number
 //   plain T V        refusal number, signal, used, skipped, tries
 //   build T ROOM     refusal number, length, image; the bytes after it are told only if one is not 0
+//   newtable N       refusal number of a table with the tree written once
+//   tonew T ROOM     refusal number, length, tree form; the bytes after it as above
+//   toold N ROOM     refusal number, length, table; the same
 //   check T M        refusal number
 //   walk T M V       refusal number, signal, used, skipped of the machine resolver
 //   early T V        refusal number, signal, entries needed
@@ -13,7 +16,6 @@ use alert_info::Cursor;
 use alert_info::Found;
 use alert_info::Span;
 use entry_run::Resolution;
-use resolver::PlainResolution;
 use signal_table::Match;
 
 fn span(p: Span) {
@@ -48,24 +50,22 @@ fn entries_of(v: &[u8]) {
     }
 }
 
-pub fn value(line: &[u8]) {
-    let mut v = [0u8; 8192];
-    let n = cases::decode(cases::word(line, 1), &mut v);
-    entries_of(&v[..n]);
+pub fn value(v: &[u8]) {
+    entries_of(v);
 }
 
-pub fn entry(line: &[u8]) {
-    let mut v = [0u8; 8192];
-    let n = cases::decode(cases::word(line, 1), &mut v);
+pub fn entry(line: &[u8], v: &[u8]) {
     let k = cases::number(cases::word(line, 2));
-    print::number(alert_info::entry_refusal(&v[..n], k) as usize);
-    print::bytes(alert_info::entry(&v[..n], k));
+    print::number(alert_info::entry_refusal(v, k) as usize);
+    print::bytes(alert_info::entry(v, k));
 }
 
-pub fn table(line: &[u8]) {
-    let mut t = [0u8; 16384];
-    let n = cases::decode(cases::word(line, 1), &mut t);
-    print::number(signal_table::refusal(&t[..n]) as usize);
+pub fn table(t: &[u8]) {
+    print::number(signal_table::refusal(t) as usize);
+}
+
+pub fn tree(t: &[u8]) {
+    print::number(tree_table::refusal(t) as usize);
 }
 
 fn matched(m: Match) {
@@ -80,64 +80,33 @@ fn matched(m: Match) {
     print::next(m.compared as usize);
 }
 
-pub fn match_urn(line: &[u8]) {
-    let mut t = [0u8; 16384];
-    let n = cases::decode(cases::word(line, 1), &mut t);
-    let mut uri = [0u8; 8192];
-    let k = cases::decode(cases::word(line, 2), &mut uri);
-    matched(signal_table::match_urn(&t[..n], &uri[..k]));
+pub fn match_urn(t: &[u8], uri: &[u8]) {
+    matched(signal_table::match_urn(t, uri));
 }
 
 pub fn resolution(r: Resolution) {
-    print::number(r.refusal as usize);
-    print::next(r.signal as usize);
-    print::next(r.used as usize);
+    print::three(r.refusal, r.signal, r.used);
     print::next(r.skipped as usize);
 }
 
-fn tried(r: PlainResolution) {
-    print::number(r.refusal as usize);
-    print::next(r.signal as usize);
-    print::next(r.used as usize);
+pub fn plain(t: &[u8], v: &[u8]) {
+    let r = resolver::plain(t, v);
+    print::three(r.refusal, r.signal, r.used);
     print::next(r.skipped as usize);
     print::next(r.tries as usize);
 }
 
-pub fn plain(line: &[u8]) {
-    let mut t = [0u8; 16384];
-    let n = cases::decode(cases::word(line, 1), &mut t);
-    let mut v = [0u8; 8192];
-    let k = cases::decode(cases::word(line, 2), &mut v);
-    tried(resolver::plain(&t[..n], &v[..k]));
+pub fn early(t: &[u8], v: &[u8]) {
+    let r = early::resolve(t, v);
+    print::three(r.refusal, r.signal, r.entries);
 }
 
-pub fn early(line: &[u8]) {
-    let mut t = [0u8; 16384];
-    let n = cases::decode(cases::word(line, 1), &mut t);
-    let mut v = [0u8; 8192];
-    let k = cases::decode(cases::word(line, 2), &mut v);
-    let r = early::resolve(&t[..n], &v[..k]);
-    print::number(r.refusal as usize);
-    print::next(r.signal as usize);
-    print::next(r.entries as usize);
+pub fn walk(t: &[u8], m: &[u8], v: &[u8]) {
+    resolution(resolver::machine(t, m, v));
 }
 
-pub fn walk(line: &[u8]) {
-    let mut t = [0u8; 16384];
-    let n = cases::decode(cases::word(line, 1), &mut t);
-    let mut m = [0u8; 65536];
-    let i = cases::decode(cases::word(line, 2), &mut m);
-    let mut v = [0u8; 8192];
-    let k = cases::decode(cases::word(line, 3), &mut v);
-    resolution(resolver::machine(&t[..n], &m[..i], &v[..k]));
-}
-
-pub fn check(line: &[u8]) {
-    let mut t = [0u8; 16384];
-    let n = cases::decode(cases::word(line, 1), &mut t);
-    let mut m = [0u8; 65536];
-    let i = cases::decode(cases::word(line, 2), &mut m);
-    print::number(signal_table::check(&t[..n], &m[..i]) as usize);
+pub fn check(t: &[u8], m: &[u8]) {
+    print::number(signal_table::check(t, m) as usize);
 }
 
 fn all_zero(s: &[u8]) -> bool {
@@ -149,8 +118,10 @@ fn all_zero(s: &[u8]) -> bool {
     true
 }
 
-// The first n bytes of a buffer, and whether the others are 0.
-fn image(buf: &[u8], n: usize) {
+// What was written to a buffer: the refusal number, the length, so many bytes, and whether the others are 0.
+fn written(refusal: u8, n: usize, buf: &[u8]) {
+    print::number(refusal as usize);
+    print::next(n);
     if buf.len() < n {
         print::text(b" longer than the buffer");
         return;
@@ -163,23 +134,43 @@ fn image(buf: &[u8], n: usize) {
     }
 }
 
-fn built(t: &[u8], buf: &mut [u8]) {
-    let b = signal_table::build(t, buf);
-    print::number(b.refusal as usize);
-    print::next(b.len);
-    image(buf, b.len);
+// Room for any form or image, and not zero before.
+fn room() -> [u8; 70000] {
+    [170u8; 70000]
 }
 
-// The buffer is not zero before.
-pub fn build(line: &[u8]) {
-    let mut t = [0u8; 16384];
-    let n = cases::decode(cases::word(line, 1), &mut t);
-    let mut buf = [170u8; 65536];
-    let room = cases::number(cases::word(line, 2));
-    if 65536 < room {
+fn built(t: &[u8], buf: &mut [u8]) {
+    let b = signal_table::build(t, buf);
+    written(b.refusal, b.len, buf);
+}
+
+fn in_tree_form(t: &[u8], buf: &mut [u8]) {
+    let c = tree_table::to_tree(t, buf);
+    written(c.refusal, c.len, buf);
+}
+
+fn in_old_form(t: &[u8], buf: &mut [u8]) {
+    let c = tree_table::from_tree(t, buf);
+    written(c.refusal, c.len, buf);
+}
+
+// A build, or a conversion to the new form or the old one, by its letter.
+fn filled(t: &[u8], buf: &mut [u8], what: u8) {
+    match what {
+        b'b' => built(t, buf),
+        b'n' => in_tree_form(t, buf),
+        _ => in_old_form(t, buf),
+    }
+}
+
+// The same into a buffer with so much room as the line's word 2 says.
+pub fn fill(line: &[u8], t: &[u8], what: u8) {
+    let mut buf = room();
+    let n = cases::number(cases::word(line, 2));
+    if 70000 < n {
         print::text(b"no such room");
         return;
     }
     let a = 0;
-    built(&t[..n], &mut buf[a..room]);
+    filled(t, &mut buf[a..n], what);
 }

@@ -62,13 +62,8 @@ fn print_record(r: Carried) {
     print::number(r.values as usize);
 }
 
-pub fn feed(line: &[u8]) {
-    let mut t = [0u8; 16384];
-    let n = cases::decode(cases::word(line, 1), &mut t);
-    let r = record(cases::word(line, 2));
-    let mut v = [0u8; 8192];
-    let k = cases::decode(cases::word(line, 3), &mut v);
-    let f = resolver::feed(&t[..n], r, &v[..k]);
+pub fn feed(line: &[u8], t: &[u8], v: &[u8]) {
+    let f = resolver::feed(t, record(cases::word(line, 2)), v);
     commands::resolution(f.answer);
     print_record(f.carried);
 }

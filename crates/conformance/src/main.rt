@@ -1,46 +1,68 @@
-// Answers the cases of data/, one line each. A case is a line `COMMAND = ANSWER`, bytes in hex, `-` for none; what stands
-// after the equals sign is not read here. Lines that begin with `#`, and empty ones, are no cases.
+// Answers the cases of the files that are named on the command line, one line each. A case is a line `COMMAND = ANSWER`,
+// bytes in hex, `-` for none; what stands after the equals sign is not read here. Lines that begin with `#`, and empty
+// ones, are no cases.
 mod commands;
 mod fields;
 mod print;
 mod tally_cases;
 
 // `table` and `tally` begin alike.
-fn table_or_tally(line: &[u8]) {
+fn table_or_tally(line: &[u8], a: &[u8]) {
     let third = cases::first(cases::after(line, b'a'));
     if third == b'l' {
-        tally_cases::tally(line);
+        tally_cases::tally(line, a);
         return;
     }
-    commands::table(line);
+    commands::table(a);
+}
+
+// So do `tonew` and `toold`.
+fn with_t(line: &[u8], a: &[u8]) {
+    let second = cases::first(cases::after(line, b't'));
+    if second == b'o' {
+        commands::fill(line, a, cases::first(cases::after(line, b'o')));
+        return;
+    }
+    table_or_tally(line, a);
 }
 
 // `entry` and `early` begin alike.
-fn entry_or_early(line: &[u8]) {
+fn entry_or_early(line: &[u8], a: &[u8], b: &[u8]) {
     let second = cases::first(cases::after(line, b'e'));
     if second == b'a' {
-        commands::early(line);
+        commands::early(a, b);
         return;
     }
-    commands::entry(line);
+    commands::entry(line, a);
 }
 
-// The answer to one line.
-fn answer(line: &[u8]) {
-    let c = cases::first(line);
-    match c {
-        b'v' => commands::value(line),
-        b'e' => entry_or_early(line),
-        b't' => table_or_tally(line),
-        b'p' => commands::plain(line),
-        b'b' => commands::build(line),
-        b'c' => commands::check(line),
-        b'w' => commands::walk(line),
-        b'm' => commands::match_urn(line),
-        b'f' => fields::feed(line),
+// The answer to one line, whose words after the first are these bytes where they are bytes.
+fn answer(line: &[u8], a: &[u8], b: &[u8], c: &[u8]) {
+    let letter = cases::first(line);
+    match letter {
+        b'v' => commands::value(a),
+        b'e' => entry_or_early(line, a, b),
+        b't' => with_t(line, a),
+        b'p' => commands::plain(a, b),
+        b'b' => commands::fill(line, a, b'b'),
+        b'n' => commands::tree(a),
+        b'c' => commands::check(a, b),
+        b'w' => commands::walk(a, b, c),
+        b'm' => commands::match_urn(a, b),
+        b'f' => fields::feed(line, a, c),
         _ => return,
     }
     print::text(b"\n");
+}
+
+fn decoded(line: &[u8]) {
+    let mut a = io::large_buffer();
+    let n = cases::decode(cases::word(line, 1), &mut a);
+    let mut b = io::large_buffer();
+    let k = cases::decode(cases::word(line, 2), &mut b);
+    let mut c = io::large_buffer();
+    let m = cases::decode(cases::word(line, 3), &mut c);
+    answer(line, &a[..n], &b[..k], &c[..m]);
 }
 
 // The answers to all lines of a text.
@@ -49,38 +71,34 @@ fn answer_all(text: &[u8]) {
     let mut at = 0;
     while at < end {
         let line = cases::before(&text[at..end], b'\n');
-        answer(line);
+        decoded(line);
         at = at + line.len() + 1;
     }
 }
 
-fn answer_file(path: &[u8]) {
-    let fd = os::open_read(path);
+// Room for the longest file.
+fn room() -> [u8; 524288] {
+    [0u8; 524288]
+}
+
+// The file that argument i names.
+fn answer_file(i: usize) {
+    let mut name = io::buffer();
+    let k = os::arg(i, &mut name);
+    let fd = os::open_read(&name[..k]);
     if fd < 0 {
-        os::fail(path);
+        os::fail(&name[..k]);
         return;
     }
-    let mut text = [0u8; 524288];
+    let mut text = room();
     let n = io::read_full(fd, &mut text);
     libc::close(fd);
     answer_all(&text[..n]);
 }
 
 fn main() {
-    answer_file(b"value.txt");
-    answer_file(b"entry.txt");
-    answer_file(b"table.txt");
-    answer_file(b"build.txt");
-    answer_file(b"check.txt");
-    answer_file(b"plain.txt");
-    answer_file(b"walk.txt");
-    answer_file(b"match.txt");
-    answer_file(b"draft.txt");
-    answer_file(b"folded.txt");
-    answer_file(b"fields.txt");
-    answer_file(b"tally.txt");
-    answer_file(b"held.txt");
-    answer_file(b"held_machine.txt");
-    answer_file(b"early.txt");
-    answer_file(b"tries.txt");
+    let n = os::arg_count();
+    for i in 1..n {
+        answer_file(i);
+    }
 }

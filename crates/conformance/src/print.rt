@@ -15,6 +15,13 @@ pub fn next(n: usize) {
     number(n);
 }
 
+// Three numbers with spaces between.
+pub fn three(a: u8, b: u8, c: u8) {
+    number(a as usize);
+    next(b as usize);
+    next(c as usize);
+}
+
 fn byte(b: u8) {
     io::print_hex(STDOUT_FILENO, b as u64, 2);
 }

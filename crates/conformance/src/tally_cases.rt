@@ -170,17 +170,15 @@ fn answer(t: &[u8], r: Sheet, counts: &mut [u32], v: &[u8]) {
     print_counts(counts);
 }
 
-pub fn tally(line: &[u8]) {
-    let mut t = [0u8; 16384];
-    let n = cases::decode(cases::word(line, 1), &mut t);
+pub fn tally(line: &[u8], t: &[u8]) {
     let r = records(cases::word(line, 2));
     let mut c = [0u32; 16];
     let m = counts(cases::word(line, 3), &mut c);
     if 16 < m {
         return;
     }
-    let mut v = [0u8; 8192];
+    let mut v = io::large_buffer();
     let k = cases::decode(cases::word(line, 4), &mut v);
     let a = 0;
-    answer(&t[..n], r, &mut c[a..m], &v[..k]);
+    answer(t, r, &mut c[a..m], &v[..k]);
 }

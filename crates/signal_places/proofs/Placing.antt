@@ -40,7 +40,7 @@ slot-key f s c (suc n) i e =
     (λ b. let r = slot-key f s c n i (rw b at e) in (omega (arith, r .0), r .1))
 
 -- rows, place by place
-row-all : (a b : List Urn) (c n : ℕ) → sameRow (rowFrom a c n) (rowFrom b c n) ≡ all (λ i. sameParts (placeIn a (c + i)) (placeIn b (c + i))) (tabulate (λ i. i) n)
+pub row-all : (a b : List Urn) (c n : ℕ) → sameRow (rowFrom a c n) (rowFrom b c n) ≡ all (λ i. sameParts (placeIn a (c + i)) (placeIn b (c + i))) (tabulate (λ i. i) n)
 unfolding all tabulate
 row-all a b c zero = refl
 row-all a b c (suc n) =

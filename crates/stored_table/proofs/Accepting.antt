@@ -26,7 +26,7 @@ use Rattle.table_sections.proofs.FaultLaws.{fault-some-number, stored-counts}
 use Rattle.table_sections.proofs.SectionLaws.{sections-read}
 use Rattle.stored_table.proofs.Judging.{two-distinct, map-length}
 
-all-mem : {A : Type 0} (p : A → Bool) (xs : List A) (x : A) → all p xs ≡ true → List·Memᴰ x xs → p x ≡ true
+pub all-mem : {A : Type 0} (p : A → Bool) (xs : List A) (x : A) → all p xs ≡ true → List·Memᴰ x xs → p x ≡ true
 unfolding all
 all-mem p [] x e m = absurd (List·Memᴰ·not-nil m)
 all-mem p (y ∷ xs) x e m = go (List·Memᴰ·cases-cons m) (λ k. all-mem p xs x (and-eq-true-iff (p y) (all p xs) .0 e .1) k)
@@ -35,7 +35,7 @@ all-mem p (y ∷ xs) x e m = go (List·Memᴰ·cases-cons m) (λ k. all-mem p xs
     go (inl i) ih = ap p i ∙ and-eq-true-iff (p y) (all p xs) .0 e .0
     go (inr k) ih = ih k
 
-any-mem : {A : Type 0} (p : A → Bool) (xs : List A) → any p xs ≡ true → (x : A) × List·Memᴰ x xs × (p x ≡ true)
+pub any-mem : {A : Type 0} (p : A → Bool) (xs : List A) → any p xs ≡ true → (x : A) × List·Memᴰ x xs × (p x ≡ true)
 unfolding any
 any-mem {A} p [] e = absurd (false≢true e)
 any-mem {A} p (x ∷ xs) e = go (p x) refl (λ h. any-mem p xs h)
@@ -54,14 +54,14 @@ not-true : (b : Bool) → not b ≡ true → b ≡ false
 not-true true e = absurd (false≢true e)
 not-true false e = refl
 
-two-at : {A : Type 0} (q : A → A → Bool) (xs : List A) (d : A) → noTwo q xs ≡ true → (i j : ℕ) → i < j → j < length xs → q (getD xs i d) (getD xs j d) ≡ false
+pub two-at : {A : Type 0} (q : A → A → Bool) (xs : List A) (d : A) → noTwo q xs ≡ true → (i j : ℕ) → i < j → j < length xs → q (getD xs i d) (getD xs j d) ≡ false
 unfolding noTwo
 two-at q [] d e i j h k = absurd (omega arith)
 two-at q (x ∷ xs) d e i zero h k = absurd (omega arith)
 two-at q (x ∷ xs) d e zero (suc j) h k = any-at (q x) xs j d (not-true (any (q x) xs) (and-eq-true-iff (not (any (q x) xs)) (noTwo q xs) .0 e .0)) (omega arith)
 two-at q (x ∷ xs) d e (suc i) (suc j) h k = two-at q xs d (and-eq-true-iff (not (any (q x) xs)) (noTwo q xs) .0 e .1) i j (omega arith) (omega arith)
 
-map-mem : {A B : Type 0} (f : A → B) (xs : List A) (y : B) → List·Memᴰ y (map f xs) → (x : A) × List·Memᴰ x xs × (y ≡ f x)
+pub map-mem : {A B : Type 0} (f : A → B) (xs : List A) (y : B) → List·Memᴰ y (map f xs) → (x : A) × List·Memᴰ x xs × (y ≡ f x)
 map-mem {A} f [] y m = absurd (List·Memᴰ·not-nil m)
 map-mem {A} f (x ∷ xs) y m = go (List·Memᴰ·cases-cons m) (λ k. map-mem f xs y k)
   where
@@ -69,7 +69,7 @@ map-mem {A} f (x ∷ xs) y m = go (List·Memᴰ·cases-cons m) (λ k. map-mem f 
     go (inl i) ih = (x, List·Memᴰ·head refl, i)
     go (inr k) ih = let w = ih k in (w .0, List·Memᴰ·tail (w .1), w .2)
 
-mem-map : {A B : Type 0} (f : A → B) (xs : List A) (x : A) → List·Memᴰ x xs → List·Memᴰ (f x) (map f xs)
+pub mem-map : {A B : Type 0} (f : A → B) (xs : List A) (x : A) → List·Memᴰ x xs → List·Memᴰ (f x) (map f xs)
 mem-map f [] x m = absurd (List·Memᴰ·not-nil m)
 mem-map {A} {B} f (y ∷ xs) x m = go (List·Memᴰ·cases-cons m) (λ k. mem-map f xs x k)
   where
@@ -78,7 +78,7 @@ mem-map {A} {B} f (y ∷ xs) x m = go (List·Memᴰ·cases-cons m) (λ k. mem-ma
     go (inr k) ih = List·Memᴰ·tail (ih k)
 
 -- the parts of a URN that has its form
-fields-parts : (w : List ℕ) → urnOk w ≡ true → (fields 58 w ≡ upTo 58 w ∷ fields 58 (past 58 w)) × (length (fields 58 w) ≤ 9) × (all nameOk (fields 58 w) ≡ true)
+pub fields-parts : (w : List ℕ) → urnOk w ≡ true → (fields 58 w ≡ upTo 58 w ∷ fields 58 (past 58 w)) × (length (fields 58 w) ≤ 9) × (all nameOk (fields 58 w) ≡ true)
 unfolding urnOk
 fields-parts w e =
     let a = and-eq-true-iff (noCapital w) (within 2 9 (length (fields 58 w)) && all nameOk (fields 58 w)) .0 e in
@@ -133,7 +133,7 @@ refusal-zero t e = go (sections t) refl e
 
 module _ (t : List ℕ) (s : Stored) (q : ℕ) (r : stored t ≡ got s q) (g : Passed s) where
   -- a URN of the table is a stored URN
-  from-stored : (sig : List Urn) → List·Memᴰ sig (tableIn s .signals) → (u : Urn) → List·Memᴰ u sig
+  pub from-stored : (sig : List Urn) → List·Memᴰ sig (tableIn s .signals) → (u : Urn) → List·Memᴰ u sig
       → (w : List (List ℕ)) × List·Memᴰ w (s .signals) × (v : List ℕ) × List·Memᴰ v w × (u ≡ toUrn (s .names) v)
   from-stored sig m u k =
       let a = map-mem (map (toUrn (s .names))) (s .signals) sig m in
@@ -141,20 +141,20 @@ module _ (t : List ℕ) (s : Stored) (q : ℕ) (r : stored t ≡ got s q) (g : P
       let b = map-mem (toUrn (s .names)) (a .0) u n in
       (a .0, a .1, b .0, b .1, b .2)
 
-  three : (noTwo sameName (s .names) ≡ true) × (all (λ x. any (uses x) (s .signals)) (s .names) ≡ true) × (all (all (isListed (s .names))) (s .signals) ≡ true)
+  pub three : (noTwo sameName (s .names) ≡ true) × (all (λ x. any (uses x) (s .signals)) (s .names) ≡ true) × (all (all (isListed (s .names))) (s .signals) ≡ true)
   unfolding listed
   three =
       let a = and-eq-true-iff (noTwo sameName (s .names)) (all (λ x. any (uses x) (s .signals)) (s .names) && all (all (isListed (s .names))) (s .signals)) .0 (g .lists) in
       let b = and-eq-true-iff (all (λ x. any (uses x) (s .signals)) (s .names)) (all (all (isListed (s .names))) (s .signals)) .0 (a .1) in
       (a .0, b .0, b .1)
 
-  formed-urn : (w : List (List ℕ)) → List·Memᴰ w (s .signals) → (v : List ℕ) → List·Memᴰ v w → urnOk v ≡ true
+  pub formed-urn : (w : List (List ℕ)) → List·Memᴰ w (s .signals) → (v : List ℕ) → List·Memᴰ v w → urnOk v ≡ true
   unfolding formed
   formed-urn w m v k =
       let f = and-eq-true-iff (all storedName (s .names)) (all (all urnOk) (s .signals)) .0 (g .form) in
       all-mem urnOk w v (all-mem (all urnOk) (s .signals) w (f .1) m) k
 
-  known : (sig : List Urn) → List·Memᴰ sig (tableIn s .signals) → (u : Urn) → List·Memᴰ u sig → u .cat < tableIn s .cats
+  pub known : (sig : List Urn) → List·Memᴰ sig (tableIn s .signals) → (u : Urn) → List·Memᴰ u sig → u .cat < tableIn s .cats
   unfolding isListed
   known sig m u k =
       let a = from-stored sig m u k in
@@ -162,12 +162,12 @@ module _ (t : List ℕ) (s : Stored) (q : ℕ) (r : stored t ≡ got s q) (g : P
       let w = index-member sameName name-exact [] (categoryOf (a .2)) (s .names) h in
       omega (arith, w .0, ap (λ (x : Urn). x .cat) (a .4))
 
-  some-part : (sig : List Urn) → List·Memᴰ sig (tableIn s .signals) → (u : Urn) → List·Memᴰ u sig → u .path ≢ []
+  pub some-part : (sig : List Urn) → List·Memᴰ sig (tableIn s .signals) → (u : Urn) → List·Memᴰ u sig → u .path ≢ []
   some-part sig m u k e =
       let a = from-stored sig m u k in
       omega (arith, ap length (sym (ap (λ (x : Urn). x .path) (a .4)) ∙ e), ap length (fields-first 58 (past 58 (a .2)) .1))
 
-  few-parts : (sig : List Urn) → List·Memᴰ sig (tableIn s .signals) → (u : Urn) → List·Memᴰ u sig → length (u .path) ≤ 8
+  pub few-parts : (sig : List Urn) → List·Memᴰ sig (tableIn s .signals) → (u : Urn) → List·Memᴰ u sig → length (u .path) ≤ 8
   few-parts sig m u k =
       let a = from-stored sig m u k in
       let f = fields-parts (a .2) (formed-urn (a .0) (a .1) (a .2) (a .3)) in
@@ -178,7 +178,7 @@ module _ (t : List ℕ) (s : Stored) (q : ℕ) (r : stored t ≡ got s q) (g : P
       let a = from-stored sig m u k in
       urn-names (a .2) (formed-urn (a .0) (a .1) (a .2) (a .3)) x (subst (λ (y : Urn). List·Memᴰ x (y .path)) (a .4) n)
 
-  used : (c : ℕ) → c < length (s .names) → (sig : List Urn) × List·Memᴰ sig (tableIn s .signals) × (u : Urn) × List·Memᴰ u sig × (u .cat ≡ c)
+  pub used : (c : ℕ) → c < length (s .names) → (sig : List Urn) × List·Memᴰ sig (tableIn s .signals) × (u : Urn) × List·Memᴰ u sig × (u .cat ≡ c)
   unfolding uses
   used c h =
       let x : Name = getD (s .names) c [] in
@@ -213,7 +213,7 @@ module _ (t : List ℕ) (s : Stored) (q : ℕ) (r : stored t ≡ got s q) (g : P
   unfolding plain
   silent = none (getD (tableIn s .signals) 0 []) (g .silent)
 
-  passed-accepted : Accepted (tableIn s)
+  pub passed-accepted : Accepted (tableIn s)
   unfolding single fewNodes
   passed-accepted =
       let c = stored-counts t s q r in

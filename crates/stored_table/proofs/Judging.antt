@@ -25,11 +25,11 @@ use Rattle.signal_places.specs.Slots.{urnOf}
 use Rattle.signal_places.proofs.TestLaws.{same-test}
 use Rattle.signal_places.proofs.Flat.{map-tab, whatOf, onWhat, tagged-what, tagged-map, all-joined, any-joined, all-alike, any-alike}
 use Rattle.stored_table.specs.Tables.{any, noTwo, formed, uses, isListed, listed, toUrn, tableIn, verdict, judged, judgedRead, tableRefusal, namesRead, categoryNames, tableRead, tableOf}
-use Rattle.stored_table.specs.Held.{Indexed}
+use Rattle.table_categories.specs.Categories.{Indexed}
 use Rattle.stored_table.specs.Stages.{FormedAs, ListedAs}
 use Rattle.stored_table.specs.Decoded.{refusedTable, Past, Means}
 use Rattle.stored_table.specs.declared.Decoded.{Decoded}
-use Rattle.stored_table.proofs.Indexing.{index-below}
+use Rattle.table_categories.proofs.Indexing.{index-below}
 
 -- a refused table
 past-none : (k : ℕ) → Past (refusedTable k)
@@ -44,15 +44,15 @@ pub refusal-fault : (t : List ℕ) (k : ℕ) → sections t ≡ fault k → tabl
 unfolding tableRefusal judgedRead
 refusal-fault t k e = ap judgedRead e
 
-refusal-read : (t : List ℕ) (s : Stored) (p : ℕ) → sections t ≡ got s p → tableRefusal t ≡ judged s
+pub refusal-read : (t : List ℕ) (s : Stored) (p : ℕ) → sections t ≡ got s p → tableRefusal t ≡ judged s
 unfolding tableRefusal judgedRead
 refusal-read t s p e = ap judgedRead e
 
-table-read : (t : List ℕ) (s : Stored) (p : ℕ) → sections t ≡ got s p → tableOf t ≡ tableIn s
+pub table-read : (t : List ℕ) (s : Stored) (p : ℕ) → sections t ≡ got s p → tableOf t ≡ tableIn s
 unfolding tableOf tableRead
 table-read t s p e = ap tableRead (sections-read t s p e .1)
 
-names-read : (t : List ℕ) (s : Stored) (p : ℕ) → sections t ≡ got s p → categoryNames t ≡ s .names
+pub names-read : (t : List ℕ) (s : Stored) (p : ℕ) → sections t ≡ got s p → categoryNames t ≡ s .names
 unfolding categoryNames namesRead
 names-read t s p e = ap namesRead (sections-read t s p e .1)
 

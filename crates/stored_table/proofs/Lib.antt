@@ -1,5 +1,3 @@
-pub mod NameLaws
-pub mod Indexing
 pub mod Judging
 pub mod Accepting
 pub mod Decoding

@@ -6,7 +6,6 @@ pub mod Capitals
 pub mod Limits
 pub mod Examples
 -- what only the code's inner promises use
-pub mod Held
 pub mod Stages
 pub mod Decoded
 pub mod Written

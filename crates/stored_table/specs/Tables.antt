@@ -5,7 +5,7 @@ use mathlib.Core.Logic.{_⊎_}
 use mathlib.Core.Bool.{Bool, cond, _&&_}
 use mathlib.Core.List.{List, [], map}
 use lib.ListN.{length}
-use Rattle.resolution.specs.Lists.{memberBy, indexBy}
+use Rattle.resolution.specs.Lists.{indexBy}
 use Rattle.resolution.specs.Names.{Name, sameName}
 use Rattle.resolution.specs.Table.{Urn, urn, Table}
 use Rattle.alert_urn.specs.Text.{all, fields}
@@ -13,6 +13,7 @@ use Rattle.alert_urn.specs.Urn.{storedName, urnOk, categoryOf, pathOf}
 use Rattle.table_sections.specs.Stored.{Read, fault, got, Stored, stored, sections}
 unfoldable pub use Rattle.signal_places.specs.Tests.{any, noTwo}
 unfoldable pub use Rattle.signal_places.specs.Verdict.{single, plain, distinct, fewNodes, verdict}
+unfoldable pub use Rattle.table_categories.specs.Categories.{isListed}
 
 -- 7: every category name and every URN has its form, without capital letters, and a URN 1 to 8 parts
 unfoldable pub formed : Stored → Bool
@@ -21,10 +22,6 @@ formed s = all storedName (s .names) && all (all urnOk) (s .signals)
 -- a signal has a URN of this category
 unfoldable pub uses : Name → List (List ℕ) → Bool
 uses x sig = any (λ u. sameName (categoryOf u) x) sig
-
--- the category of a URN is listed
-unfoldable pub isListed : List Name → List ℕ → Bool
-isListed names u = memberBy sameName (categoryOf u) names
 
 -- 8: no category is listed twice, each is used by a signal, and each that a URN names is listed
 unfoldable pub listed : Stored → Bool

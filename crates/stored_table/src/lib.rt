@@ -1,5 +1,4 @@
 // Stored tables: which bytes are a table, with which number the others are refused, and the table as arrays of numbers.
-mod categories;
 mod forms;
 
 use table_sections::Counts;
@@ -147,8 +146,8 @@ fn listed(
     let mut category = [0u8; 256];
     let mut path_at = [0u16; 256];
     let mut path_len = [0u8; 256];
-    if categories::names_distinct(t, l.categories, name_at, name_len) {
-        if categories::index_urns(
+    if table_categories::names_distinct(t, l.categories, name_at, name_len) {
+        if table_categories::index_urns(
             t,
             l.categories,
             name_at,
@@ -160,7 +159,7 @@ fn listed(
             &mut path_at,
             &mut path_len,
         ) {
-            if categories::all_used(&category, l.urns, l.categories) {
+            if table_categories::all_used(&category, l.urns, l.categories) {
                 return placed(
                     t,
                     l,
@@ -192,7 +191,7 @@ fn formed(
     requires { ⌜ ReadAs (now t) (now «name_at») (now «name_len») (now at) (now len) (now signal) l ⌝ }
     ensures { λ r. ⌜ Means (now (t .entry)) r ⌝ }
 {
-    if forms::names_formed(t, l.categories, name_at, name_len) {
+    if table_categories::names_formed(t, l.categories, name_at, name_len) {
         if forms::urns_formed(t, l.urns, at, len) {
             return listed(t, l, name_at, name_len, at, len, signal);
         }

@@ -12,30 +12,30 @@ use Rattle.table_sections.specs.Stored.{Read, fault, got, andThen, byteI
 use Rattle.table_sections.proofs.Readings.{after-got, byte-read, times-length}
 
 -- a fault's number is 4, 5 or 6
-abbrev Faulty : {A : Type 0} → Read A → Type 0
+abbrev pub Faulty : {A : Type 0} → Read A → Type 0
 Faulty {A} r = (k : ℕ) → r ≡ fault k → (4 ≤ k) × (k ≤ 6)
 
-fault-then : {A B : Type 0} (r : Read A) (f : A → ℕ → Read B) → Faulty r → ((x : A) (p : ℕ) → Faulty (f x p)) → Faulty (andThen r f)
+pub fault-then : {A B : Type 0} (r : Read A) (f : A → ℕ → Read B) → Faulty r → ((x : A) (p : ℕ) → Faulty (f x p)) → Faulty (andThen r f)
 unfolding andThen
 fault-then (fault j) f a b k e = a k (let z : j ≡ k = cc in ap fault z)
 fault-then (got x p) f a b k e = b x p k e
 
-fault-got : {A : Type 0} (x : A) (p : ℕ) → Faulty (got x p)
+pub fault-got : {A : Type 0} (x : A) (p : ℕ) → Faulty (got x p)
 fault-got x p k e = let z : _≡_ {A = ℕ} 0 1 = cc in absurd (omega arith)
 
-fault-some : {A : Type 0} (j : ℕ) → (4 ≤ j) × (j ≤ 6) → (k : ℕ) → _≡_ {A = Read A} (fault j) (fault k) → (4 ≤ k) × (k ≤ 6)
+pub fault-some : {A : Type 0} (j : ℕ) → (4 ≤ j) × (j ≤ 6) → (k : ℕ) → _≡_ {A = Read A} (fault j) (fault k) → (4 ≤ k) × (k ≤ 6)
 fault-some j n k e = let y : j ≡ k = cc in (omega (arith, y, n .0), omega (arith, y, n .1))
 
-fault-if : {A : Type 0} (b : Bool) (x y : Read A) → Faulty x → Faulty y → Faulty (cond b x y)
+pub fault-if : {A : Type 0} (b : Bool) (x y : Read A) → Faulty x → Faulty y → Faulty (cond b x y)
 fault-if true x y f g = f
 fault-if false x y f g = g
 
-fault-byte : (lo hi : ℕ) (t : List ℕ) (at : ℕ) → Faulty (byteIn lo hi t at)
+pub fault-byte : (lo hi : ℕ) (t : List ℕ) (at : ℕ) → Faulty (byteIn lo hi t at)
 unfolding byteIn
 fault-byte lo hi t at =
     fault-if (ltb at (length t)) _ _ (fault-if (within lo hi (getD t at 0)) _ _ (fault-got (getD t at 0) (at + 1)) (fault-some 6 (omega arith, omega arith))) (fault-some 5 (omega arith, omega arith))
 
-fault-text : (hi : ℕ) (t : List ℕ) (at : ℕ) → Faulty (text hi t at)
+pub fault-text : (hi : ℕ) (t : List ℕ) (at : ℕ) → Faulty (text hi t at)
 unfolding text
 fault-text hi t at = fault-then (byteIn 1 hi t at) _ (fault-byte 1 hi t at) (λ n p. fault-if (leb n (length t - p)) _ _ (fault-got _ (p + n)) (fault-some 5 (omega arith, omega arith)))
 
@@ -44,7 +44,7 @@ unfolding times
 fault-times rd f zero at = fault-got [] at
 fault-times rd f (suc n) at = fault-then (rd at) _ (f at) (λ x p. fault-then (times rd n p) _ (fault-times rd f n p) (λ xs q. fault-got (x ∷ xs) q))
 
-fault-counted : {A : Type 0} (lo hi : ℕ) (rd : ℕ → Read A) (t : List ℕ) → ((at : ℕ) → Faulty (rd at)) → (at : ℕ) → Faulty (counted lo hi rd t at)
+pub fault-counted : {A : Type 0} (lo hi : ℕ) (rd : ℕ → Read A) (t : List ℕ) → ((at : ℕ) → Faulty (rd at)) → (at : ℕ) → Faulty (counted lo hi rd t at)
 unfolding counted
 fault-counted lo hi rd t f at = fault-then (byteIn lo hi t at) _ (fault-byte lo hi t at) (λ n p. fault-times rd f n p)
 

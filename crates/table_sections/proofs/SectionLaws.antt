@@ -40,12 +40,12 @@ pub at-most-got : {r : Reading} {m : ℕ} (n p : ℕ) → readAtMost r m → r �
 at-most-got {r} {m} n p h e = subst (λ (z : Reading). readAtMost z m) e h
 
 -- a reading that was changed
-map-got : {A B : Type 0} (g : A → B) (r : Read A) (y : B) (q : ℕ) → mapRead g r ≡ got y q → (x : A) × (r ≡ got x q) × (g x ≡ y)
+pub map-got : {A B : Type 0} (g : A → B) (r : Read A) (y : B) (q : ℕ) → mapRead g r ≡ got y q → (x : A) × (r ≡ got x q) × (g x ≡ y)
 unfolding mapRead
 map-got g (fault k) y q e = let z : _≡_ {A = ℕ} 0 1 = cc in absurd (omega arith)
 map-got g (got x p) y q e = let z : g x ≡ y = cc in let w : p ≡ q = cc in (x, ap (got x) w, z)
 
-map-fault : {A B : Type 0} (g : A → B) (r : Read A) (k : ℕ) → mapRead g r ≡ fault k → r ≡ fault k
+pub map-fault : {A B : Type 0} (g : A → B) (r : Read A) (k : ℕ) → mapRead g r ≡ fault k → r ≡ fault k
 unfolding mapRead
 map-fault g (fault j) k e = let z : j ≡ k = cc in ap fault z
 map-fault g (got x p) k e = let z : _≡_ {A = ℕ} 0 1 = cc in absurd (omega arith)

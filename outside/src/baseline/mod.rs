@@ -4,10 +4,12 @@ mod machine;
 mod resolve;
 mod table;
 mod tally;
+mod tree;
 mod urn;
 mod value;
 
-use crate::{Built, Early, Match, Plain, Reader, Record, Resolution, Resolvers, Tables, Tallies, Tally};
+use crate::{Built, Converted, Early, Match, Plain, Reader, Record};
+use crate::{Resolution, Resolvers, Tables, Tallies, Tally, Trees};
 
 pub struct Baseline;
 
@@ -80,5 +82,26 @@ impl Resolvers for Baseline {
 impl Tallies for Baseline {
     fn tally_value(table: &[u8], records: &mut [Tally], refusals: &mut [u32], value: &[u8]) -> Resolution {
         tally::value(table, records, refusals, value).unwrap_or(Resolution::refused(20))
+    }
+}
+
+/// The form with zeros behind it, or zeros alone after a refusal.
+fn converted(form: Result<usize, u8>, buffer: &mut [u8]) -> Converted {
+    let len = form.unwrap_or(0);
+    buffer[len..].fill(0);
+    Converted { refusal: form.err().unwrap_or(0), len }
+}
+
+impl Trees for Baseline {
+    fn tree_refusal(tree: &[u8]) -> u8 {
+        tree::refusal(tree)
+    }
+
+    fn from_table(table: &[u8], buffer: &mut [u8]) -> Converted {
+        converted(tree::from_table(table, buffer), buffer)
+    }
+
+    fn to_table(tree: &[u8], buffer: &mut [u8]) -> Converted {
+        converted(tree::to_table(tree, buffer), buffer)
     }
 }

@@ -8,8 +8,8 @@ pub struct Node {
     pub category: u8,
     pub parent: u8,
     pub leaf: bool,
-    name_length: u8,
-    name_start: u16,
+    pub name_length: u8,
+    pub name_start: u16,
     path_start: u16,
 }
 
@@ -17,7 +17,7 @@ const NO_NODE: Node = Node { category: 0, parent: 0, leaf: true, name_length: 0,
 
 pub struct Decoded<'a> {
     bytes: &'a [u8],
-    categories: [(u16, u8); 8],
+    pub categories: [(u16, u8); 8],
     pub category_count: usize,
     pub signal_count: usize,
     /// Each signal's places, one byte a category: the node's number, 0 for the root.
@@ -28,19 +28,27 @@ pub struct Decoded<'a> {
 }
 
 /// Where each URN stands, and how many each signal has.
-struct Urns {
+pub struct Urns {
     places: [(u16, u8); 256],
-    counts: [u8; 32],
-    total: usize,
+    pub counts: [u8; 32],
+    pub total: usize,
+    /// The number of each one's category, and the length of the category's name.
+    pub categories: [(u8, u8); 256],
 }
 
-struct Left<'a> {
-    bytes: &'a [u8],
-    at: usize,
+impl Urns {
+    pub fn none() -> Urns {
+        Urns { places: [(0, 0); 256], counts: [0; 32], total: 0, categories: [(0, 0); 256] }
+    }
+}
+
+pub struct Left<'a> {
+    pub bytes: &'a [u8],
+    pub at: usize,
 }
 
 impl Left<'_> {
-    fn number(&mut self, low: u8, high: u8) -> Result<u8, u8> {
+    pub fn number(&mut self, low: u8, high: u8) -> Result<u8, u8> {
         let number = *self.bytes.get(self.at).ok_or(5)?;
         self.at += 1;
         if number < low || number > high {
@@ -49,7 +57,7 @@ impl Left<'_> {
         Ok(number)
     }
 
-    fn text(&mut self, high: u8) -> Result<(u16, u8), u8> {
+    pub fn text(&mut self, high: u8) -> Result<(u16, u8), u8> {
         let length = self.number(1, high)?;
         let start = self.at;
         self.at += length as usize;
@@ -60,12 +68,17 @@ impl Left<'_> {
     }
 }
 
-fn text(bytes: &[u8], place: (u16, u8)) -> &[u8] {
+pub fn text(bytes: &[u8], place: (u16, u8)) -> &[u8] {
     &bytes[place.0 as usize..place.0 as usize + place.1 as usize]
 }
 
 impl<'a> Decoded<'a> {
     pub fn read(bytes: &'a [u8]) -> Result<Decoded<'a>, u8> {
+        Decoded::read_urns(bytes, &mut Urns::none())
+    }
+
+    /// The same, and the URNs as they stand.
+    pub fn read_urns(bytes: &'a [u8], urns: &mut Urns) -> Result<Decoded<'a>, u8> {
         if bytes.len() > 8192 {
             return Err(4);
         }
@@ -78,14 +91,12 @@ impl<'a> Decoded<'a> {
             nodes: [NO_NODE; 65],
             node_count: 0,
         };
-        let mut urns = Urns { places: [(0, 0); 256], counts: [0; 32], total: 0 };
-        decoded.read_sections(&mut urns)?;
-        let mut paths = [(0u8, 0u8); 256];
-        decoded.check_names(&urns, &mut paths)?;
-        decoded.check_categories(&urns, &mut paths)?;
-        decoded.check_signals(&urns, &paths)?;
-        let over = decoded.add_nodes(&urns, &paths);
-        if decoded.has_equal_signals(&urns, over) {
+        decoded.read_sections(urns)?;
+        decoded.check_names(urns)?;
+        decoded.check_categories(urns)?;
+        decoded.check_signals(urns)?;
+        let over = decoded.add_nodes(urns);
+        if decoded.has_equal_signals(urns, over) {
             return Err(11);
         }
         if over {
@@ -114,21 +125,21 @@ impl<'a> Decoded<'a> {
         Ok(())
     }
 
-    /// Leaves in `paths` the length of each URN's category name.
-    fn check_names(&self, urns: &Urns, paths: &mut [(u8, u8); 256]) -> Result<(), u8> {
+    /// Leaves the length of each URN's category name.
+    fn check_names(&self, urns: &mut Urns) -> Result<(), u8> {
         for &category in &self.categories[..self.category_count] {
             let name = text(self.bytes, category);
             if !urn::is_name(name) || name.iter().any(u8::is_ascii_uppercase) {
                 return Err(7);
             }
         }
-        for (path, &place) in paths.iter_mut().zip(&urns.places[..urns.total]) {
+        for (category, &place) in urns.categories.iter_mut().zip(&urns.places[..urns.total]) {
             let urn = text(self.bytes, place);
             if urn.iter().any(u8::is_ascii_uppercase) {
                 return Err(7);
             }
             match urn::form(urn) {
-                Some((length, parts)) if parts <= 8 => path.1 = length as u8,
+                Some((length, parts)) if parts <= 8 => category.1 = length as u8,
                 _ => return Err(7),
             }
         }
@@ -140,18 +151,18 @@ impl<'a> Decoded<'a> {
         categories.iter().position(|&place| text(self.bytes, place).eq_ignore_ascii_case(name))
     }
 
-    /// Leaves in `paths` the number of each URN's category too.
-    fn check_categories(&self, urns: &Urns, paths: &mut [(u8, u8); 256]) -> Result<(), u8> {
+    /// Leaves the number of each URN's category too.
+    fn check_categories(&self, urns: &mut Urns) -> Result<(), u8> {
         for i in 0..self.category_count {
             if self.category(text(self.bytes, self.categories[i])) != Some(i) {
                 return Err(8);
             }
         }
         let mut used = 0u32;
-        for (path, &(start, _)) in paths.iter_mut().zip(&urns.places[..urns.total]) {
-            let c = self.category(text(self.bytes, (start, path.1))).ok_or(8)?;
+        for (category, &(start, _)) in urns.categories.iter_mut().zip(&urns.places[..urns.total]) {
+            let c = self.category(text(self.bytes, (start, category.1))).ok_or(8)?;
             used |= 1 << c;
-            path.0 = c as u8;
+            category.0 = c as u8;
         }
         if used.count_ones() as usize != self.category_count {
             return Err(8);
@@ -159,15 +170,15 @@ impl<'a> Decoded<'a> {
         Ok(())
     }
 
-    fn check_signals(&self, urns: &Urns, paths: &[(u8, u8); 256]) -> Result<(), u8> {
+    fn check_signals(&self, urns: &Urns) -> Result<(), u8> {
         let mut first = 0;
         for &count in &urns.counts[..self.signal_count] {
             let mut seen = 0u32;
-            for path in &paths[first..first + count as usize] {
-                if seen >> path.0 & 1 == 1 {
+            for (category, _) in &urns.categories[first..first + count as usize] {
+                if seen >> category & 1 == 1 {
                     return Err(9);
                 }
-                seen |= 1 << path.0;
+                seen |= 1 << category;
             }
             first += count as usize;
         }
@@ -188,13 +199,13 @@ impl<'a> Decoded<'a> {
     }
 
     /// Adds the nodes and each signal's row. Whether there are over 64 nodes.
-    fn add_nodes(&mut self, urns: &Urns, paths: &[(u8, u8); 256]) -> bool {
+    fn add_nodes(&mut self, urns: &Urns) -> bool {
         let bytes = self.bytes;
         let mut i = 0;
         for signal in 0..self.signal_count {
             for _ in 0..urns.counts[signal] {
                 let (start, length) = urns.places[i];
-                let (category, category_length) = paths[i];
+                let (category, category_length) = urns.categories[i];
                 i += 1;
                 let mut node = 0;
                 let mut at = start as usize + category_length as usize + 1;

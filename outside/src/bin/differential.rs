@@ -6,22 +6,29 @@
 use outside::baseline::Baseline;
 use outside::cases::{show_counts, show_record, show_records, to_hex};
 use outside::random::tables::{self, Limit};
-use outside::random::{images, records, values, Random};
+use outside::random::{images, records, trees, values, Random};
 use outside::reference::Reference;
-use outside::{Built, Early, Match, Plain, Reader, Record, Resolution, Resolvers, Tables, Tallies, Tally as Counts};
+use outside::{Built, Converted, Early, Match, Plain, Reader, Record, Resolution};
+use outside::{Resolvers, Tables, Tallies, Tally as Counts, Trees};
 use std::collections::BTreeMap;
 use std::fmt::Debug;
 use std::process::exit;
 use std::time::{Instant, SystemTime, UNIX_EPOCH};
 
-#[cfg(any(feature = "alert_info", feature = "signal_table", feature = "resolver", feature = "tally"))]
+#[cfg(any(
+    feature = "alert_info",
+    feature = "signal_table",
+    feature = "tree_table",
+    feature = "resolver",
+    feature = "tally"
+))]
 use outside::ours::Ours;
 
 /// The longest image.
 const LONGEST: usize = 35_459;
 
 /// Every function with the refusal numbers that it may give.
-const FUNCTIONS: [(&str, &[u8]); 13] = [
+const FUNCTIONS: [(&str, &[u8]); 16] = [
     ("alert_info_refusal", &[0, 1, 2, 3]),
     ("alert_info_entries", &[0, 1, 2, 3]),
     ("alert_info_entry", &[0, 1, 2, 3, 18]),
@@ -30,6 +37,9 @@ const FUNCTIONS: [(&str, &[u8]); 13] = [
     ("signal_table_match", &[0, 4, 5, 6, 7, 8, 9, 10, 11, 12]),
     ("machine_build", &[0, 4, 5, 6, 7, 8, 9, 10, 11, 12, 13, 14]),
     ("machine_check", &[0, 4, 5, 6, 7, 8, 9, 10, 11, 12, 15, 16, 17]),
+    ("tree_table_refusal", &[0, 4, 5, 6, 7, 8, 9, 10, 11, 21]),
+    ("tree_table_from_signal_table", &[0, 4, 5, 6, 7, 8, 9, 10, 11, 12, 22]),
+    ("tree_table_to_signal_table", &[0, 4, 5, 6, 7, 8, 9, 10, 11, 21, 22]),
     ("resolve_plain", &[0, 1, 2, 3, 4, 5, 6, 7, 8, 9, 10, 11, 12]),
     ("resolve_machine", &[0, 1, 2, 3, 4, 5, 6, 7, 8, 9, 10, 11, 12, 15]),
     ("resolve_feed", &[0, 1, 2, 3, 4, 5, 6, 7, 8, 9, 10, 11, 12, 19, 28]),
@@ -71,7 +81,7 @@ impl Tally {
     fn report(&self) -> bool {
         let mut whole = true;
         for (function, numbers) in FUNCTIONS {
-            print!("{function:24}");
+            print!("{function:28}");
             for &number in numbers {
                 let count = self.counts.get(&(function, number)).copied().unwrap_or(0);
                 print!(" {number}:{count}");
@@ -142,6 +152,23 @@ fn build<I: Tables>(table: &[u8], room: usize) -> (Built, Vec<u8>) {
 
 fn check<I: Tables>(table: &[u8], image: &[u8]) -> u8 {
     I::check(table, image)
+}
+
+fn tree_refusal<I: Trees>(tree: &[u8]) -> u8 {
+    I::tree_refusal(tree)
+}
+
+/// The answer with the whole buffer, which held other bytes before; the same of `to_table`.
+fn from_table<I: Trees>(table: &[u8], room: usize) -> (Converted, Vec<u8>) {
+    let mut buffer = vec![0xA5; room];
+    let converted = I::from_table(table, &mut buffer);
+    (converted, buffer)
+}
+
+fn to_table<I: Trees>(tree: &[u8], room: usize) -> (Converted, Vec<u8>) {
+    let mut buffer = vec![0xA5; room];
+    let converted = I::to_table(tree, &mut buffer);
+    (converted, buffer)
 }
 
 fn plain<I: Resolvers>(table: &[u8], value: &[u8]) -> Plain {
@@ -257,6 +284,53 @@ fn hold_check(tally: &mut Tally, table: &[u8], image: &[u8]) {
     tally.hold("machine_check", answers[0].1, &answers, line);
 }
 
+/// Room for any form, for the form itself, or about as much.
+fn room_for(random: &mut Random, length: usize) -> usize {
+    match random.below(6) {
+        0 => 10_000,
+        1 => length.saturating_sub(1),
+        2 => random.below(length + 1),
+        3 => length + random.below(40),
+        _ => length,
+    }
+}
+
+/// The tree of a table, and back: the bytes are the same again.
+fn hold_from_table(tally: &mut Tally, random: &mut Random, table: &[u8]) {
+    let (answer, form) = from_table::<Reference>(table, 10_000);
+    let room = room_for(random, answer.len);
+    let answers = answers!("tree_table", from_table, table, room);
+    let line = || format!("tonew {} {room}", to_hex(table));
+    tally.hold("tree_table_from_signal_table", answers[0].1 .0.refusal, &answers, line);
+    if answer.refusal == 0 {
+        let tree = &form[..answer.len];
+        hold_tree(tally, random, tree);
+        let (back, bytes) = to_table::<Reference>(tree, 8192);
+        if back.refusal != 0 || bytes[..back.len] != *table {
+            println!("a table is another one after its tree: {}", line());
+            tally.wrong += 1;
+        }
+    }
+}
+
+/// The table of a tree, and back: the bytes are the same again.
+fn hold_tree(tally: &mut Tally, random: &mut Random, tree: &[u8]) {
+    let line = || format!("newtable {}", to_hex(tree));
+    tally.hold("tree_table_refusal", Reference::tree_refusal(tree), &answers!("tree_table", tree_refusal, tree), line);
+    let (answer, form) = to_table::<Reference>(tree, 10_000);
+    let room = room_for(random, answer.len);
+    let answers = answers!("tree_table", to_table, tree, room);
+    let line = || format!("toold {} {room}", to_hex(tree));
+    tally.hold("tree_table_to_signal_table", answers[0].1 .0.refusal, &answers, line);
+    if answer.refusal == 0 {
+        let (back, bytes) = from_table::<Reference>(&form[..answer.len], 8192);
+        if back.refusal != 0 || bytes[..back.len] != *tree {
+            println!("a tree is another one after its table: {}", line());
+            tally.wrong += 1;
+        }
+    }
+}
+
 fn hold_resolvers(tally: &mut Tally, table: &[u8], image: &[u8], value: &[u8]) {
     let answers = answers!("resolver", plain, table, value);
     let line = || format!("plain {} {}", to_hex(table), to_hex(value));
@@ -347,6 +421,11 @@ fn round(tally: &mut Tally, random: &mut Random, other: &mut Vec<u8>) {
     for _ in 0..3 {
         hold_check(tally, &table, &images::image(random, &table, image));
     }
+    hold_from_table(tally, random, &table);
+    for _ in 0..2 {
+        let tree = trees::stored(random, &draft);
+        hold_tree(tally, random, &tree);
+    }
     let mut message = Vec::new();
     for _ in 0..4 {
         let value = values::value(random, &draft);
@@ -374,6 +453,7 @@ fn limits(tally: &mut Tally, random: &mut Random) {
             hold_build(tally, &table, room);
         }
         hold_table(tally, random, &table, &machine);
+        hold_from_table(tally, random, &table);
         hold_check(tally, &table, &machine);
         for value in [&b"<urn:alert:c0:p0>"[..], b"<", b"<a>"] {
             hold_tally(tally, random, &table, value);
@@ -384,6 +464,15 @@ fn limits(tally: &mut Tally, random: &mut Random) {
             let value = b"<urn:alert:c0:p0>, <urn:alert:c:l1>, <urn:alert:c1:a>";
             hold_matches(tally, &table, value);
             hold_resolvers(tally, &table, &machine, value);
+        }
+    }
+}
+
+/// The trees at each limit and one past it.
+fn tree_limits(tally: &mut Tally, random: &mut Random) {
+    for trees::Limit { tree, .. } in trees::limits() {
+        for _ in 0..8 {
+            hold_tree(tally, random, &tree);
         }
     }
 }
@@ -414,10 +503,12 @@ const HOLES: [&[u8]; 22] = [
     b"<urn#alert:source:internal>",
 ];
 
-/// T1, its machine and a value, with every byte tried at every place, and images of every size that matters.
+/// T1, its tree, its machine and a value, with every byte tried at every place, and images of every size that matters.
 fn every_byte(tally: &mut Tally, random: &mut Random) {
     let table = include_bytes!("../../../examples/tables/T1.table");
     let image = built(table).expect("T1's machine");
+    let (answer, mut tree) = from_table::<Reference>(table, 100);
+    tree.truncate(answer.len);
     let value = b"<urn:alert:source:internal>;a=\"b\"";
     for states in [0, 1, 2, 255, 256, 257, 258, 511, 512, 513, 65_535] {
         let image = images::with_states(&image, states);
@@ -441,8 +532,14 @@ fn every_byte(tally: &mut Tally, random: &mut Random) {
             let mut changed = table.to_vec();
             changed[at] = byte;
             hold_table(tally, random, &changed, &image);
+            hold_from_table(tally, random, &changed);
             hold_matches(tally, &changed, value);
             hold_resolvers(tally, &changed, &image, value);
+        }
+        for at in 0..tree.len() {
+            let mut changed = tree.clone();
+            changed[at] = byte;
+            hold_tree(tally, random, &changed);
         }
         for at in 0..image.len() {
             let mut changed = image.clone();
@@ -470,6 +567,7 @@ fn main() {
     let mut random = Random(seed);
     let mut other = vec![0, 1, 0, 0, 0];
     limits(&mut tally, &mut random);
+    tree_limits(&mut tally, &mut random);
     every_byte(&mut tally, &mut random);
     let cases = cases + tally.cases;
     while tally.cases < cases {

@@ -2,6 +2,7 @@
 pub mod images;
 pub mod records;
 pub mod tables;
+pub mod trees;
 pub mod values;
 
 /// SplitMix64: the same numbers for the same seed.

@@ -98,7 +98,8 @@ fn tries(table: &Table, state: &State, urn: &Node) -> usize {
     if next == *state {
         return 0;
     }
-    let deepest = (0..=urn.path.len()).rev().find(|&length| length == 0 || table.is_node(urn.category, &urn.path[..length]));
+    let deepest =
+        (0..=urn.path.len()).rev().find(|&length| length == 0 || table.is_node(urn.category, &urn.path[..length]));
     let found = table.signals[next.signal][urn.category].len();
     deepest.expect("the root is above every URN") - found + 1
 }

@@ -6,10 +6,12 @@ pub mod fields;
 pub mod machine;
 pub mod table;
 pub mod tally;
+pub mod tree;
 pub mod urn;
 pub mod value;
 
-use crate::{Built, Early, Match, Plain, Reader, Record, Resolution, Resolvers, Tables, Tallies, Tally};
+use crate::{Built, Converted, Early, Match, Plain, Reader, Record};
+use crate::{Resolution, Resolvers, Tables, Tallies, Tally, Trees};
 use table::Table;
 
 pub struct Reference;
@@ -82,5 +84,31 @@ impl Resolvers for Reference {
 impl Tallies for Reference {
     fn tally_value(table: &[u8], records: &mut [Tally], refusals: &mut [u32], value: &[u8]) -> Resolution {
         tally::value(table, records, refusals, value).unwrap_or(Resolution::refused(20))
+    }
+}
+
+/// The buffer has the form and then zeros, or zeros alone after a refusal.
+fn converted(form: Result<Vec<u8>, u8>, buffer: &mut [u8]) -> Converted {
+    buffer.fill(0);
+    match form {
+        Ok(form) => {
+            buffer[..form.len()].copy_from_slice(&form);
+            Converted { refusal: 0, len: form.len() }
+        }
+        Err(refusal) => Converted { refusal, len: 0 },
+    }
+}
+
+impl Trees for Reference {
+    fn tree_refusal(tree: &[u8]) -> u8 {
+        tree::refusal(tree)
+    }
+
+    fn from_table(table: &[u8], buffer: &mut [u8]) -> Converted {
+        converted(tree::from_table(table, buffer.len()), buffer)
+    }
+
+    fn to_table(tree: &[u8], buffer: &mut [u8]) -> Converted {
+        converted(tree::to_table(tree, buffer.len()), buffer)
     }
 }

@@ -29,16 +29,16 @@ pub struct Table {
 }
 
 /// The two sections as texts.
-struct Stored {
-    categories: Vec<Name>,
-    signals: Vec<Vec<Vec<u8>>>,
+pub struct Stored {
+    pub categories: Vec<Name>,
+    pub signals: Vec<Vec<Vec<u8>>>,
 }
 
 /// Takes bytes from the left. Too few give 5, a count or length that is out of range gives 6.
-struct Left<'a>(&'a [u8]);
+pub struct Left<'a>(pub &'a [u8]);
 
 impl<'a> Left<'a> {
-    fn number(&mut self, low: usize, high: usize) -> Result<usize, u8> {
+    pub fn number(&mut self, low: usize, high: usize) -> Result<usize, u8> {
         let (&first, rest) = self.0.split_first().ok_or(5)?;
         self.0 = rest;
         let number = first as usize;
@@ -48,7 +48,7 @@ impl<'a> Left<'a> {
         Ok(number)
     }
 
-    fn text(&mut self, low: usize, high: usize) -> Result<Vec<u8>, u8> {
+    pub fn text(&mut self, low: usize, high: usize) -> Result<Vec<u8>, u8> {
         let length = self.number(low, high)?;
         if self.0.len() < length {
             return Err(5);
@@ -59,7 +59,7 @@ impl<'a> Left<'a> {
     }
 }
 
-fn read_stored(bytes: &[u8]) -> Result<Stored, u8> {
+pub fn read_stored(bytes: &[u8]) -> Result<Stored, u8> {
     if bytes.len() > 8192 {
         return Err(4);
     }
@@ -89,7 +89,11 @@ pub fn is_proper_ancestor(a: &[Name], b: &[Name]) -> bool {
 impl Table {
     /// The table that the bytes say, or the refusal number.
     pub fn read(bytes: &[u8]) -> Result<Table, u8> {
-        let stored = read_stored(bytes)?;
+        Table::of(read_stored(bytes)?)
+    }
+
+    /// The table that the texts say, or which of 7 to 12 is wrong.
+    pub fn of(stored: Stored) -> Result<Table, u8> {
         let urns = urns_of(&stored).ok_or(7)?;
         let numbered = number_categories(&stored.categories, &urns).ok_or(8)?;
         if numbered.iter().any(|signal| has_repeats(signal.iter().map(|urn| urn.category))) {
@@ -228,7 +232,7 @@ fn places(categories: usize, urns: &[Node]) -> Vec<Path> {
 }
 
 /// The nodes as the URNs bring them, ancestors first.
-fn nodes_of(signals: &[Vec<Node>]) -> Vec<Node> {
+pub fn nodes_of(signals: &[Vec<Node>]) -> Vec<Node> {
     let mut nodes: Vec<Node> = Vec::new();
     let mut seen = HashSet::new();
     for urn in signals.iter().flatten() {

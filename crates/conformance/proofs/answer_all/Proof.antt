@@ -25,8 +25,8 @@ part-before-end c = search needs
 before-requires : tie.Need-before-requires Inv-loop μ-loop
 before-requires c κs = search needs
 
-answer-requires : tie.Need-answer-requires Inv-loop μ-loop
-answer-requires c κs = search needs
+decoded-requires : tie.Need-decoded-requires Inv-loop μ-loop
+decoded-requires c κs = search needs
 
 add-at : tie.Need-add-at Inv-loop μ-loop
 add-at c = search needs
@@ -54,7 +54,7 @@ answer-all-spec =
     part-before-start
     part-before-end
     before-requires
-    answer-requires
+    decoded-requires
     add-at
     add-at-2
     loop-less

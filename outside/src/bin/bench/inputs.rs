@@ -1,7 +1,7 @@
 //! What the functions are timed on.
 use outside::random::tables::{limits, Draft};
 use outside::reference::Reference;
-use outside::{Reader, Tables};
+use outside::{Reader, Tables, Trees};
 use std::path::Path;
 
 type Bytes = Vec<u8>;
@@ -11,6 +11,8 @@ pub struct Inputs {
     pub values: Vec<(String, Bytes)>,
     /// Well-formed tables with their machines.
     pub tables: Vec<(String, Bytes, Bytes)>,
+    /// The same tables and one more, each with its tree.
+    pub trees: Vec<(String, Bytes, Bytes)>,
     /// For each table, a value that it uses.
     used: Vec<Bytes>,
     /// For some tables, 64 entries of which the first settles the signal.
@@ -83,6 +85,14 @@ fn machine(table: &[u8]) -> Bytes {
     buffer
 }
 
+fn tree(table: &[u8]) -> Bytes {
+    let mut buffer = vec![0; 8192];
+    let converted = Reference::from_table(table, &mut buffer);
+    assert_eq!(converted.refusal, 0);
+    buffer.truncate(converted.len);
+    buffer
+}
+
 fn urns(names: &[&str], times: usize) -> Bytes {
     let entries: Vec<String> = names.iter().map(|name| format!("<urn:alert:{name}>")).collect();
     vec![entries.join(", "); times].join(", ").into_bytes()
@@ -117,6 +127,13 @@ impl Inputs {
             table("64 nodes, 256 states, 120 symbols", limit("64 nodes, 256 states, 120 symbols")),
             table("64 nodes with long common beginnings", alike_paths()),
         ];
+        let countries = ("countries: 13 states".to_string(), example("countries.table"));
+        let well_formed = tables.iter().map(|(name, table, _)| (name.clone(), table.clone()));
+        let trees = well_formed.chain([countries]).map(|(name, table)| {
+            let tree = tree(&table);
+            (name, table, tree)
+        });
+        let trees = trees.collect();
         let used = vec![
             urns(&["source:internal"], 1),
             urns(&["source:internal", "source:unclassified", "priority:high"], 1),
@@ -136,7 +153,7 @@ impl Inputs {
             (4, urns(&["b:x6-0:x6-1:x6-2:x6-3:x6-4:x6-5:x6-6:x6-7"], 64)),
         ];
         let fields = ["source:internal", "source:unclassified", "priority:high"].map(|name| urns(&[name], 1));
-        Inputs { values, tables, used, settled, fields, refused }
+        Inputs { values, tables, trees, used, settled, fields, refused }
     }
 
     /// Each table with its machine and a value that it uses.

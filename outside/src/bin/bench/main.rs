@@ -9,10 +9,16 @@ mod time;
 use inputs::Inputs;
 use outside::baseline::Baseline;
 use outside::reference::Reference;
-use outside::{Reader, Record, Resolvers, Tables, Tallies, Tally};
+use outside::{Reader, Record, Resolvers, Tables, Tallies, Tally, Trees};
 use std::hint::black_box;
 
-#[cfg(any(feature = "alert_info", feature = "signal_table", feature = "resolver", feature = "tally"))]
+#[cfg(any(
+    feature = "alert_info",
+    feature = "signal_table",
+    feature = "tree_table",
+    feature = "resolver",
+    feature = "tally"
+))]
 use outside::ours::Ours;
 
 /// A call to measure, which is lent a buffer for an image.
@@ -80,6 +86,23 @@ fn table_rows<'a>(inputs: &'a Inputs, rows: &mut Vec<Row<'a>>) {
     for (name, table, image) in &inputs.tables {
         rows.push(row!("signal_table", "machine_check", name.clone(), |I, _| {
             I::check(black_box(table), black_box(image))
+        }));
+    }
+}
+
+/// Judging trees, and both conversions.
+fn tree_rows<'a>(inputs: &'a Inputs, rows: &mut Vec<Row<'a>>) {
+    for (name, _, tree) in &inputs.trees {
+        rows.push(row!("tree_table", "tree_table_refusal", name.clone(), |I, _| I::tree_refusal(black_box(tree))));
+    }
+    for (name, table, tree) in &inputs.trees {
+        rows.push(row!("tree_table", "tree_table_from_signal_table", name.clone(), |I, buffer| {
+            I::from_table(black_box(table), &mut buffer[..tree.len()])
+        }));
+    }
+    for (name, table, tree) in &inputs.trees {
+        rows.push(row!("tree_table", "tree_table_to_signal_table", name.clone(), |I, buffer| {
+            I::to_table(black_box(tree), &mut buffer[..table.len()])
         }));
     }
 }
@@ -154,12 +177,23 @@ fn print_stacks(rows: &[Row]) {
     }
 }
 
+/// Both stored forms of each table.
+fn print_flash(inputs: &Inputs) {
+    println!("| table | two sections | tree once | saved |");
+    println!("|---|---:|---:|---:|");
+    for (name, table, tree) in &inputs.trees {
+        let saved = 100.0 * (1.0 - tree.len() as f64 / table.len() as f64);
+        println!("| {name} | {} | {} | {saved:.0}% |", table.len(), tree.len());
+    }
+}
+
 fn main() {
     let runs = std::env::args().nth(1).map_or(100, |word| word.parse().expect("a number of runs"));
     let inputs = Inputs::new();
     let mut rows = Vec::new();
     reader_rows(&inputs, &mut rows);
     table_rows(&inputs, &mut rows);
+    tree_rows(&inputs, &mut rows);
     resolver_rows(&inputs, &mut rows);
     early_rows(&inputs, &mut rows);
     feed_rows(&inputs, &mut rows);
@@ -169,6 +203,8 @@ fn main() {
     print_times(&rows, runs);
     println!("\n## Stack that one call takes at most, bytes\n");
     print_stacks(&rows);
+    println!("\n## Flash that a table takes, bytes\n");
+    print_flash(&inputs);
     println!("\n## Code and constants of the libraries, bytes\n");
     size::print();
 }

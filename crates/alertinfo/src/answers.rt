@@ -1,0 +1,161 @@
+// The commands' answers, each for a table that was read and the arguments after it.
+use crate::fields;
+use crate::files;
+use crate::month;
+use crate::report;
+use crate::words;
+use libc::STDOUT_FILENO;
+
+// A form or an image goes to the file that argument 3 names.
+fn written(refusal: u8, n: usize, bytes: &[u8]) {
+    if refusal != 0 {
+        words::refused(refusal);
+        return;
+    }
+    if files::write(3, bytes, n) {
+        words::count(n as u64, b" bytes written\n");
+    }
+}
+
+pub fn build(t: &[u8]) {
+    let mut image = io::large_buffer();
+    let b = signal_table::build(t, &mut image);
+    written(b.refusal, b.len, &image);
+}
+
+// The table with its tree written once.
+pub fn tree(t: &[u8]) {
+    let mut form = io::large_buffer();
+    let c = tree_table::to_tree(t, &mut form);
+    written(c.refusal, c.len, &form);
+}
+
+// The table of such a tree.
+pub fn untree(t: &[u8]) {
+    let mut form = io::large_buffer();
+    let c = tree_table::from_tree(t, &mut form);
+    written(c.refusal, c.len, &form);
+}
+
+pub fn check(t: &[u8]) {
+    let mut image = io::large_buffer();
+    let m = files::file(3, &mut image);
+    if !m.ok {
+        return;
+    }
+    let n = m.n;
+    let r = signal_table::check(t, &image[..n]);
+    if r != 0 {
+        words::refused(r);
+        return;
+    }
+    io::write_all(STDOUT_FILENO, b"accepted\n");
+}
+
+// The plain resolver's answer, with its tries.
+pub fn plain(t: &[u8], v: &[u8]) {
+    let r = resolver::plain(t, v);
+    if r.refusal != 0 {
+        words::refused(r.refusal);
+        return;
+    }
+    words::resolved(r.signal, r.used as usize, r.skipped as usize);
+    io::write_all(STDOUT_FILENO, b", ");
+    words::counted(r.tries as u64, b" try\n", b" tries\n");
+}
+
+fn resolution(r: entry_run::Resolution) {
+    if r.refusal != 0 {
+        words::refused(r.refusal);
+        return;
+    }
+    words::resolved(r.signal, r.used as usize, r.skipped as usize);
+    io::write_all(STDOUT_FILENO, b"\n");
+}
+
+// By the machine that argument 4 names.
+pub fn walk(t: &[u8], v: &[u8]) {
+    let mut image = io::large_buffer();
+    let m = files::file(4, &mut image);
+    if !m.ok {
+        return;
+    }
+    let n = m.n;
+    resolution(resolver::machine(t, &image[..n], v));
+}
+
+// The signal, and how many entries it needed.
+pub fn early(t: &[u8], v: &[u8]) {
+    let r = early::resolve(t, v);
+    if r.refusal != 0 {
+        words::refused(r.refusal);
+        return;
+    }
+    io::write_all(STDOUT_FILENO, b"signal ");
+    words::count(r.signal as u64, b" after ");
+    words::counted(r.entries as u64, b" entry\n", b" entries\n");
+}
+
+fn found(m: signal_table::Match) {
+    io::write_all(STDOUT_FILENO, b"category ");
+    words::count(m.category as u64, b", node ");
+    if m.whole == 1 {
+        words::count(m.node as u64, b", whole, ");
+    } else {
+        words::count(m.node as u64, b", not whole, ");
+    }
+    words::counted(m.compared as u64, b" byte compared\n", b" bytes compared\n");
+}
+
+// What the URI that argument 3 is means to the table.
+pub fn match_uri(t: &[u8]) {
+    let mut uri = io::large_buffer();
+    let n = os::arg(3, &mut uri);
+    let m = signal_table::match_urn(t, &uri[..n]);
+    if m.refusal != 0 {
+        words::refused(m.refusal);
+        return;
+    }
+    if m.used == 0 {
+        io::write_all(STDOUT_FILENO, b"skipped\n");
+        return;
+    }
+    found(m);
+}
+
+// The values of one message, from argument 3 on: the signal at the end and the counts of all, or the last refusal if no
+// value is accepted.
+pub fn feed(t: &[u8], arguments: usize) {
+    let m = fields::all_of(t, arguments);
+    if !m.ok {
+        return;
+    }
+    if !m.accepted {
+        words::refused(m.refusal);
+        return;
+    }
+    let end = m.carried;
+    words::resolved(end.signal, m.used, m.skipped);
+    io::write_all(STDOUT_FILENO, b"\n");
+}
+
+// The month of the values in the file that argument 3 names, one a line.
+pub fn tally_file(t: &[u8]) {
+    let k = signal_table::refusal(t);
+    if k != 0 {
+        words::refused(k);
+        return;
+    }
+    let fd = files::opened(3);
+    if fd < 0 {
+        return;
+    }
+    let r = month::of_file(fd, t);
+    libc::close(fd);
+    if r.failed {
+        files::failed(3);
+        return;
+    }
+    let m = r.month;
+    report::month(m, tally::month::needed(t));
+}

@@ -1,0 +1,59 @@
+use crate::put;
+use table_sections::bytes::small;
+use table_sections::bytes::wide;
+use table_sections::bytes::wider;
+ghost use mathlib.Core.Path.{_≡_};
+ghost use Prim.Native.Nat.{_≤_};
+ghost use lib.ListN.{length, take, drop};
+ghost use Rattle.resolution.specs.Lists.{tabulate};
+ghost use Rattle.node_search.specs.Arrays.{stretch};
+ghost use Rattle.table_forms.specs.Bytes.{textBytes, section};
+ghost use Rattle.tree_sections.specs.Held.{numberAt};
+ghost use Rattle.form_bytes.specs.Laid.{Puts, ofSignal};
+
+// The n bytes from a on.
+pub fn text_in(t: &[u8], a: u16, n: u8) -> &[u8]
+    ensures { λ r. ⌜ now r ≡ take n (drop a (now (t .entry))) ⌝ }
+    ensures short { λ r. ⌜ length (now r) ≤ 255 ⌝ }
+{
+    let x = wider(a);
+    let k = wide(n);
+    alert_urn::text::part(t, x, k)
+}
+
+// The section of the categories, at the front.
+pub fn names(t: &[u8], n: usize, name_at: &[u16; 8], name_len: &[u8; 8], buf: &mut [u8]) -> usize
+    ensures { λ r. ⌜ (n ≤ 8 → Puts (now (buf .entry)) (now (buf .exit)) 0 (section textBytes (tabulate (stretch (now (t .entry)) (now («name_at» .entry)) (now («name_len» .entry))) n)) r) ⌝ }
+    ensures few { λ r. ⌜ (n ≤ 8 → r ≤ 4000) ⌝ }
+{
+    if 8 < n {
+        return 0;
+    }
+    let mut p = put::byte(buf, 0, small(n));
+    let mut i = 0;
+    while i < n {
+        p = put::text(buf, p, text_in(t, name_at[i], name_len[i]));
+        i += 1;
+    }
+    p
+}
+
+// How many of the first m are of signal s.
+pub fn count_of(m: usize, signal: &[u8; 256], s: usize, number: &[u8; 256]) -> usize
+    ensures { λ r. ⌜ (m ≤ 256 → r ≡ length (ofSignal s (tabulate (numberAt (now (signal .entry)) (now (number .entry))) m))) ⌝ }
+{
+    if 256 < m {
+        return 0;
+    }
+    let mut n: usize = 0;
+    let mut i = 0;
+    while i < m {
+        if wide(signal[i]) == s {
+            n += 1;
+            i += 1;
+        } else {
+            i += 1;
+        }
+    }
+    n
+}

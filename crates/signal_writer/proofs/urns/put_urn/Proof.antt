@@ -1,0 +1,92 @@
+use Rattle.table_sections.proofs.Padding.{one-byte}
+use native.Mathlib.Omega.{arith}
+use Rattle.signal_writer.proofs.Ancestry.{puts-urn}
+use mathlib.Core.Path.{_∙_}
+use borrow.Author.Needs.{needs}
+use Rattle.signal_writer.proofs.urns.put_urn.Statement.{statement}
+use Rattle.signal_writer.proofs.urns.put_urn.Tie as tie
+
+sub-i : tie.Need-sub-i
+sub-i c = search needs
+
+mul-z : tie.Need-mul-z
+mul-z c = search needs
+
+element-copy-out-z : tie.Need-element-copy-out-z
+element-copy-out-z c = search needs
+
+mul-n : tie.Need-mul-n
+mul-n c = search needs
+
+element-copy-out-n : tie.Need-element-copy-out-n
+element-copy-out-n c = search needs
+
+element-copy-out-wide : tie.Need-element-copy-out-wide
+element-copy-out-wide c = search needs
+
+wide-requires : tie.Need-wide-requires
+wide-requires c κs = search needs
+
+small-requires : tie.Need-small-requires
+small-requires c κs = search needs
+
+byte-requires : tie.Need-byte-requires
+byte-requires c κs = search needs
+
+mul-text-in : tie.Need-mul-text-in
+mul-text-in c = omega (arith, c .before .before .before .before .before .before .wide .ensures .0, c .before .before .before .before .before .before .before .before .before .before .before .before .pre .2)
+
+element-copy-out-text-in : tie.Need-element-copy-out-text-in
+element-copy-out-text-in c = omega (arith, c .before .before .before .before .before .before .wide .ensures .0, c .before .before .before .before .before .before .before .before .before .before .before .before .pre .2)
+
+element-copy-out-text-in-2 : tie.Need-element-copy-out-text-in-2
+element-copy-out-text-in-2 c = omega (arith, c .before .before .before .before .before .before .before .wide .ensures .0, c .before .before .before .before .before .before .before .before .before .before .before .before .before .pre .2)
+
+text-in-requires : tie.Need-text-in-requires
+text-in-requires c κs = search needs
+
+all-requires : tie.Need-all-requires
+all-requires c κs = search needs
+
+put-path-requires : tie.Need-put-path-requires
+put-path-requires c κs = let g = c .before .before .before .before .before .before .before .before .before .before .before .before .before .before .before .before .before .before .before .pre in
+    let w = c .before .before .before .before .text-in .ensures .1 in
+    let F = c .before .before .before .before .before .before .before .before .before .before .byte .ensures (omega (arith, g .5)) in
+    let H = c .before .before .before .all .ensures (omega (arith, w, F .end, g .5)) in
+    (g .4, omega (arith, w, F .end, H .end, g .5))
+
+same-length : tie.Need-same-length
+same-length c = let g = c .before .before .before .before .before .before .before .before .before .before .before .before .before .before .before .before .before .before .before .before .before .before .pre in
+    let w = c .before .before .before .before .before .before .before .text-in .ensures .1 in
+    let F = c .before .before .before .before .before .before .before .before .before .before .before .before .before .byte .ensures (omega (arith, g .5)) in
+    c .before .before .put-path .ensures .0 .long ∙ c .before .before .before .before .before .before .all .ensures (omega (arith, w, F .end, g .5)) .long ∙ F .long
+
+returns : tie.Need-returns
+returns c = let a = c .before .before .before .before .before .before .before .before .before .before .before .before .before .before .before .before .before .before .before .before .before .before .args in
+    let g = c .before .before .before .before .before .before .before .before .before .before .before .before .before .before .before .before .before .before .before .before .before .before .pre in
+    let w = c .before .before .before .before .before .before .before .text-in .ensures in
+    let F = c .before .before .before .before .before .before .before .before .before .before .before .before .before .byte .ensures (omega (arith, g .5)) in
+    let H = c .before .before .before .before .before .before .all .ensures (omega (arith, w .1, F .end, g .5)) in
+    (puts-urn (a .t .now) (a .name-at .now) (a .name-len .now) (a .category .now) (a .parent .now) (a .at .now) (a .len .now) (a .size .now) (a .depth .now) (a .k) (one-byte (c .before .before .before .before .before .before .before .before .before .before .before .before .before .before .small .ensures) (omega (arith, g .3))) (c .before .before .before .before .before .before .before .before .before .before .before .before .before .before .before .before .wide .ensures .0) (w .0) F H (c .before .before .put-path .ensures .0), omega (arith, F .end, H .end, w .1, c .before .before .put-path .ensures .1))
+
+pub put-urn-spec : {M : Type 1} → statement M
+put-urn-spec =
+    tie.close
+    (tie.spec
+    sub-i
+    mul-z
+    element-copy-out-z
+    mul-n
+    element-copy-out-n
+    element-copy-out-wide
+    wide-requires
+    small-requires
+    byte-requires
+    mul-text-in
+    element-copy-out-text-in
+    element-copy-out-text-in-2
+    text-in-requires
+    all-requires
+    put-path-requires
+    same-length
+    returns)

@@ -1,0 +1,4 @@
+pub mod Directly
+pub mod Filling
+pub mod Measures
+pub mod Composed

@@ -1,0 +1,25 @@
+-- Which category a URN has, and how the arrays hold the categories and the paths of the URNs.
+use Prim.Native.Nat.{ℕ, _≤_, _<_}
+use mathlib.Core.Path.{_≡_}
+use mathlib.Core.Bool.{Bool}
+use mathlib.Core.List.{List}
+use lib.ListN.{length, getD}
+use Rattle.resolution.specs.Lists.{memberBy, indexBy}
+use Rattle.resolution.specs.Names.{Name, sameName}
+use Rattle.alert_urn.specs.Urn.{categoryOf, pathOf}
+use Rattle.node_search.specs.Arrays.{stretch}
+
+-- the category of a URN is listed
+unfoldable pub isListed : List Name → List ℕ → Bool
+isListed names u = memberBy sameName (categoryOf u) names
+
+-- n categories and m URNs such as a table can have, with arrays for them
+abbrev pub Fits : (t : List ℕ) (n m : ℕ) (category pathAt pathLen : List ℕ) → Type 0
+Fits t n m category pathAt pathLen =
+    (length t ≤ 8192) × (n ≤ 8) × (m ≤ 256) × (length category ≡ 256) × (length pathAt ≡ 256) × (length pathLen ≡ 256)
+
+-- the arrays have the category's number and the path of every URN
+pub record Indexed (t : List ℕ) (names : List (List ℕ)) (at len : List ℕ) (m : ℕ) (category pathAt pathLen : List ℕ) : Type 0 where
+  pub cat-at : (j : ℕ) → j < m → getD category j 0 ≡ indexBy sameName (categoryOf (stretch t at len j)) names
+  pub cat-below : (j : ℕ) → j < m → getD category j 0 < length names
+  pub path-at : (j : ℕ) → j < m → stretch t pathAt pathLen j ≡ pathOf (stretch t at len j)

@@ -1,0 +1,148 @@
+// The names of a table's categories: their form, that none is listed twice, and the category of each URN.
+use table_sections::bytes::short;
+use table_sections::bytes::small;
+use table_sections::bytes::wide;
+use table_sections::bytes::wider;
+use table_sections::texts::name_text;
+use table_sections::texts::urn_text;
+ghost use mathlib.Core.Path.{_≡_};
+ghost use mathlib.Core.Bool.{true};
+ghost use Prim.Native.Nat.{_≤_, _<_, _+_};
+ghost use lib.ListN.{length, getD};
+ghost use lib.Dec.{eqb};
+ghost use Rattle.resolution.specs.Lists.{tabulate, indexBy};
+ghost use Rattle.resolution.specs.Names.{sameName};
+ghost use Rattle.alert_urn.specs.Text.{all};
+ghost use Rattle.alert_urn.specs.Urn.{storedName};
+ghost use Rattle.node_search.specs.Arrays.{stretch};
+ghost use Rattle.signal_places.specs.Tests.{any, noTwo};
+ghost use Rattle.table_categories.specs.Categories.{isListed, Fits, Indexed};
+
+// Every name has its form.
+pub fn names_formed(t: &[u8], n: usize, at: &[u16; 8], len: &[u8; 8]) -> bool
+    ensures { λ r. ⌜ (n ≤ 8 → r ≡ all storedName (tabulate (stretch (now (t .entry)) (now (at .entry)) (now (len .entry))) n)) ⌝ }
+{
+    let mut i = 0;
+    while i < n {
+        if alert_urn::urn::stored_name(name_text(t, at, len, i)) {
+            i += 1;
+        } else {
+            return false;
+        }
+    }
+    true
+}
+
+// The number of the first of n categories that has the name s, or n.
+fn name_index(t: &[u8], s: &[u8], n: usize, at: &[u16; 8], len: &[u8; 8]) -> usize
+    ensures { λ r. ⌜ (n ≤ 8 → r ≡ indexBy sameName (now (s .entry)) (tabulate (stretch (now (t .entry)) (now (at .entry)) (now (len .entry))) n)) ⌝ }
+    ensures few { λ r. ⌜ r ≤ n ⌝ }
+{
+    let mut i = 0;
+    while i < n {
+        if alert_urn::text::same(s, name_text(t, at, len, i)) {
+            return i;
+        }
+        i += 1;
+    }
+    i
+}
+
+// No category is listed twice.
+pub fn names_distinct(t: &[u8], n: usize, at: &[u16; 8], len: &[u8; 8]) -> bool
+    ensures { λ r. ⌜ (n ≤ 8 → r ≡ noTwo sameName (tabulate (stretch (now (t .entry)) (now (at .entry)) (now (len .entry))) n)) ⌝ }
+{
+    let mut i = 0;
+    while i < n {
+        if name_index(t, name_text(t, at, len, i), i, at, len) < i {
+            return false;
+        }
+        i += 1;
+    }
+    true
+}
+
+// Where the path of a URN begins: after its first colon, k bytes in, or at its end if it has none.
+fn path_start(n: usize, k: usize) -> usize
+    ensures { λ r. ⌜ (r ≤ n) × (k < n → r ≡ k + 1) × (n ≤ k → r ≡ n) ⌝ }
+{
+    if k < n {
+        return k + 1;
+    }
+    n
+}
+
+// The category and the path of every URN, as far as its category is listed.
+pub fn index_urns(
+    t: &[u8],
+    n: usize,
+    name_at: &[u16; 8],
+    name_len: &[u8; 8],
+    m: usize,
+    at: &[u16; 256],
+    len: &[u8; 256],
+    category: &mut [u8; 256],
+    path_at: &mut [u16; 256],
+    path_len: &mut [u8; 256],
+) -> bool
+    ensures { λ r. ⌜ (Fits (now (t .entry)) n m (now (category .entry)) (now («path_at» .entry)) (now («path_len» .entry))
+        → r ≡ all (isListed (tabulate (stretch (now (t .entry)) (now («name_at» .entry)) (now («name_len» .entry))) n))
+        (tabulate (stretch (now (t .entry)) (now (at .entry)) (now (len .entry))) m)) ⌝ }
+    ensures indexed { λ r. ⌜ (Fits (now (t .entry)) n m (now (category .entry)) (now («path_at» .entry)) (now («path_len» .entry)) → r ≡ true
+        → Indexed (now (t .entry)) (tabulate (stretch (now (t .entry)) (now («name_at» .entry)) (now («name_len» .entry))) n) (now (at .entry)) (now (len .entry)) m
+        (now (category .exit)) (now («path_at» .exit)) (now («path_len» .exit))) ⌝ }
+{
+    if 256 < m {
+        return false;
+    }
+    let mut i = 0;
+    while i < m {
+        let u = urn_text(t, at, len, i);
+        let a = 0;
+        let k = alert_urn::text::find(u, 58);
+        let c = name_index(t, &u[a..k], n, name_at, name_len);
+        if c < n {
+            let e = path_start(u.len(), k);
+            category[i] = small(c);
+            path_at[i] = short(wider(at[i]) + e);
+            path_len[i] = small(u.len() - e);
+            i += 1;
+        } else {
+            return false;
+        }
+    }
+    true
+}
+
+// Some URN is of category c.
+fn has_category(category: &[u8; 256], m: usize, c: usize) -> bool
+    requires { ⌜ m ≤ 256 ⌝ }
+    ensures { λ r. ⌜ r ≡ any (λ x. eqb x c) (tabulate (λ j. getD (now (category .entry)) j 0) m) ⌝ }
+{
+    let mut i = 0;
+    while i < m {
+        if wide(category[i]) == c {
+            return true;
+        }
+        i += 1;
+    }
+    false
+}
+
+// Every one of n categories has a URN.
+pub fn all_used(category: &[u8; 256], m: usize, n: usize) -> bool
+    ensures { λ r. ⌜ (m ≤ 256 → r ≡ all (λ c. any (λ x. eqb x c) (tabulate (λ j. getD (now (category .entry)) j 0) m)) (tabulate (λ c. c) n)) ⌝ }
+{
+    if 256 < m {
+        return false;
+    }
+    let mut c = 0;
+    while c < n {
+        if has_category(category, m, c) {
+            c += 1;
+        } else {
+            return false;
+        }
+    }
+    true
+}

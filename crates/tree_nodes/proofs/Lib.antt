@@ -1,0 +1,3 @@
+pub mod Scanning
+pub mod Tests
+pub mod ByArrays

@@ -1,0 +1,50 @@
+use native.Mathlib.Omega.{arith}
+use Rattle.tree_nodes.proofs.Tests.{not-category, not-parent, by-name}
+use borrow.Author.Needs.{needs}
+use Rattle.tree_nodes.proofs.repeats.alike.Statement.{statement}
+use Rattle.tree_nodes.proofs.repeats.alike.Tie as tie
+
+element-copy-out-c : tie.Need-element-copy-out-c
+element-copy-out-c c = search needs
+
+element-copy-out-d : tie.Need-element-copy-out-d
+element-copy-out-d c = search needs
+
+element-copy-out-p : tie.Need-element-copy-out-p
+element-copy-out-p c = search needs
+
+element-copy-out-q : tie.Need-element-copy-out-q
+element-copy-out-q c = search needs
+
+last-text-requires : tie.Need-last-text-requires
+last-text-requires c κs = search needs
+
+last-text-requires-2 : tie.Need-last-text-requires-2
+last-text-requires-2 c κs = search needs
+
+same-requires : tie.Need-same-requires
+same-requires c κs = search needs
+
+returns : tie.Need-returns
+returns c = let a = c .before .before .before .before .before .before .before .before .before .before .args in by-name (a .t .now) (a .category .now) (a .parent .now) (a .at .now) (a .len .now) (a .i) (a .j) (c .before .before .before .before .before .before .if1 .taken) (c .before .before .before .if2 .taken) (c .same .ensures) (c .before .before .last-text .ensures .0 (omega arith)) (c .before .last-text2 .ensures .0 (omega arith))
+
+returns-2 : tie.Need-returns-2
+returns-2 c = let a = c .before .before .before .before .before .before .before .args in not-parent (a .t .now) (a .category .now) (a .parent .now) (a .at .now) (a .len .now) (a .i) (a .j) (c .before .before .before .if1 .taken) (c .if2 .left)
+
+returns-3 : tie.Need-returns-3
+returns-3 c = let a = c .before .before .before .before .args in not-category (a .t .now) (a .category .now) (a .parent .now) (a .at .now) (a .len .now) (a .i) (a .j) (c .if1 .left)
+
+pub alike-spec : {M : Type 1} → statement M
+alike-spec =
+    tie.close
+    (tie.spec
+    element-copy-out-c
+    element-copy-out-d
+    element-copy-out-p
+    element-copy-out-q
+    last-text-requires
+    last-text-requires-2
+    same-requires
+    returns
+    returns-2
+    returns-3)

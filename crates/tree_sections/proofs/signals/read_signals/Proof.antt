@@ -1,0 +1,74 @@
+use native.Mathlib.Omega.{arith}
+use Prim.Native.Nat.{_≤_, _-_, _*_}
+use mathlib.Core.Path.{_≡_}
+use mathlib.Core.List.{_++_}
+use lib.ListN.{length}
+use Rattle.resolution.specs.Lists.{tabulate}
+use Rattle.table_sections.specs.Stored.{times, counted}
+use Rattle.table_sections.specs.Held.{taggedFrom, mapRead}
+use Rattle.table_sections.proofs.Padding.{one-byte}
+use Rattle.table_sections.proofs.SectionLaws.{signals-start, signals-more, signals-stop, signals-done, at-most-got}
+use Rattle.tree_sections.specs.Held.{numberAt}
+use Rattle.tree_sections.specs.Tree.{anyByte}
+use borrow.Author.Needs.{needs}
+use Rattle.tree_sections.proofs.signals.read_signals.Statement.{statement}
+use Rattle.tree_sections.proofs.signals.read_signals.Tie as tie
+
+abbrev Inv-loop : tie.InvT-loop
+Inv-loop t from n number₀ signal₀ s₀ m₀ p₀ number signal s m p = (s ≤ n) × (m ≤ 8 * s) × (length number ≡ 256) × (length signal ≡ 256) × (mapRead (taggedFrom 0) (times (counted 0 8 (anyByte t) t) n from) ≡ mapRead (λ ss. tabulate (numberAt signal number) m ++ taggedFrom s ss) (times (counted 0 8 (anyByte t) t) (n - s) p))
+
+abbrev μ-loop : tie.MeasureT-loop
+μ-loop t from n number₀ signal₀ s₀ m₀ p₀ number signal s m p = n - s
+
+loop-holds : tie.Need-loop-holds Inv-loop μ-loop
+loop-holds c = (omega arith, omega arith, omega arith, omega arith, signals-start _ _ _ _)
+
+small-requires : tie.Need-small-requires Inv-loop μ-loop
+small-requires c κs = search needs
+
+read-signal-requires : tie.Need-read-signal-requires Inv-loop μ-loop
+read-signal-requires c κs = (omega arith, c .before .before .before .before .loop .inv .2, c .before .before .before .before .loop .inv .3)
+
+enum-known-got : tie.Need-enum-known-got Inv-loop μ-loop
+enum-known-got c = search needs
+
+returns : tie.Need-returns Inv-loop μ-loop
+returns c = (signals-stop _ _ _ _ _ _ _ (c .before .before .before .before .before .before .before .before .loop .inv .4) _ _ _ (c .before .before .before .before .before .before .before .loop-test .taken) (c .before .before .before .read-signal .ensures .0) (c .before .got .given .1), tt)
+
+enum-known-got-2 : tie.Need-enum-known-got-2 Inv-loop μ-loop
+enum-known-got-2 c = search needs
+
+add-s : tie.Need-add-s Inv-loop μ-loop
+add-s c = search needs
+
+loop-less : tie.Need-loop-less Inv-loop μ-loop
+loop-less c = omega arith
+
+loop-again : tie.Need-loop-again Inv-loop μ-loop
+loop-again c = let k = at-most-got _ _ (c .before .before .before .read-signal .ensures .1 .0) (c .before .got2 .given .1) in (
+  omega arith,
+  omega (arith, k),
+  c .before .before .before .read-signal .ensures .1 .1,
+  c .before .before .before .read-signal .ensures .1 .2,
+  signals-more _ _ _ _ _ _ _ (c .before .before .before .before .before .before .before .before .loop .inv .4) _ _ _ (c .before .before .before .before .before .before .before .loop-test .taken) (one-byte (c .before .before .before .before .before .before .small .ensures) (omega arith)) (c .before .before .before .read-signal .ensures .0) (c .before .got2 .given .1),
+)
+
+returns-2 : tie.Need-returns-2 Inv-loop μ-loop
+returns-2 c = (signals-done _ _ _ _ _ _ _ (c .before .loop .inv .4) (c .loop-test .left), omega arith)
+
+pub read-signals-spec : {M : Type 1} → statement M
+read-signals-spec =
+    tie.close
+    (tie.spec
+    Inv-loop
+    μ-loop
+    loop-holds
+    small-requires
+    read-signal-requires
+    enum-known-got
+    returns
+    enum-known-got-2
+    add-s
+    loop-less
+    loop-again
+    returns-2)

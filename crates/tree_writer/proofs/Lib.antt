@@ -1,0 +1,2 @@
+pub mod LastNames
+pub mod Numbering
