@@ -71,6 +71,13 @@ typedef struct alert_early {
  * signal. Where the entries that can be read are not enough, refused as by resolve_plain, with 1 to 12. */
 alert_early resolve_early(const uint8_t *table, size_t len, const uint8_t *value, size_t value_len);
 
+/* The signal for a value among those that can be given just now: bit s of `available` for signal s. Signal 0 always can,
+ * whatever bit 0 says. Only the search for a signal leaves the others out: categories, nodes and the numbers of signals
+ * stay the table's. Refused with 1 to 12 as by resolve_plain; then with 23: a bit is set at or above the table's number
+ * of signals. With the bits of all its signals the answer is that of resolve_plain, without the tries. */
+alert_resolution resolve_available(const uint8_t *table, size_t len, uint32_t available, const uint8_t *value,
+                                   size_t value_len);
+
 #ifdef __cplusplus
 }
 #endif

@@ -12,6 +12,7 @@
 //! | `walk T M V` | refusal, signal, used, skipped of the machine resolver |
 //! | `feed T RECORD V` | refusal, signal, used, skipped, the record after it; a record is `signal/status,../values` |
 //! | `early T V` | refusal, signal, entries needed |
+//! | `available T SET V` | refusal, signal, used, skipped; SET is a number, bit s for signal s |
 //! | `match T URI` | refusal, category (-1 if the URI is skipped), node, whole, bytes compared |
 //! | `newtable N` | refusal |
 //! | `tonew T ROOM` | refusal, length, tree form (the rest of the buffer of ROOM bytes is 0) |
@@ -23,7 +24,7 @@ use std::path::{Path, PathBuf};
 
 /// One file for each command, the draft's worked examples, values with folded lines, messages of
 /// several fields, and URNs that a category holds.
-pub const FILES: [&str; 17] = [
+pub const FILES: [&str; 18] = [
     "value.txt",
     "entry.txt",
     "table.txt",
@@ -41,6 +42,7 @@ pub const FILES: [&str; 17] = [
     "early.txt",
     "tries.txt",
     "trees.txt",
+    "available.txt",
 ];
 
 /// Where the cases are.
@@ -71,7 +73,7 @@ impl Case {
             "value" | "entry" => Layer::Reader,
             "table" | "match" | "build" | "check" => Layer::Tables,
             "newtable" | "tonew" | "toold" => Layer::Trees,
-            "plain" | "walk" | "feed" | "early" => Layer::Resolvers,
+            "plain" | "walk" | "feed" | "early" | "available" => Layer::Resolvers,
             "tally" => Layer::Tallies,
             other => panic!("{}: unknown command {other}", self.place),
         }
@@ -230,6 +232,10 @@ pub fn ask_resolvers<I: Resolvers>(case: &Case) -> String {
         "early" => {
             let Early { refusal, signal, entries } = I::early(&table, &case.bytes(2));
             format!("{refusal} {signal} {entries}")
+        }
+        "available" => {
+            let available = case.number(2).try_into().unwrap_or_else(|_| panic!("{}: too large a set", case.place));
+            show(I::available(&table, available, &case.bytes(3)))
         }
         other => panic!("{}: {other} is not the resolvers'", case.place),
     }

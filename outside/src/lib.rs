@@ -157,6 +157,8 @@ pub trait Resolvers {
     fn feed(table: &[u8], record: &mut Record, value: &[u8]) -> Resolution;
     /// The signal, as soon as no further URN could change it.
     fn early(table: &[u8], value: &[u8]) -> Early;
+    /// The plain resolution where only some signals can be given: bit s of `available` for signal s.
+    fn available(table: &[u8], available: u32, value: &[u8]) -> Resolution;
 }
 
 /// The monthly count: what the library tally answers and leaves in the records and refusal counts.

@@ -67,6 +67,13 @@ extern "C" {
         value_len: usize,
     ) -> Resolution;
     fn resolve_early(table: *const u8, len: usize, value: *const u8, value_len: usize) -> Early;
+    fn resolve_available(
+        table: *const u8,
+        len: usize,
+        available: u32,
+        value: *const u8,
+        value_len: usize,
+    ) -> Resolution;
 }
 
 #[cfg(feature = "tally")]
@@ -158,6 +165,10 @@ impl Resolvers for Ours {
 
     fn early(table: &[u8], value: &[u8]) -> Early {
         unsafe { resolve_early(table.as_ptr(), table.len(), value.as_ptr(), value.len()) }
+    }
+
+    fn available(table: &[u8], available: u32, value: &[u8]) -> Resolution {
+        unsafe { resolve_available(table.as_ptr(), table.len(), available, value.as_ptr(), value.len()) }
     }
 }
 

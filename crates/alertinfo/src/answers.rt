@@ -3,7 +3,9 @@ use crate::fields;
 use crate::files;
 use crate::month;
 use crate::report;
+use crate::signals;
 use crate::words;
+use libc::STDERR_FILENO;
 use libc::STDOUT_FILENO;
 
 // A form or an image goes to the file that argument 3 names.
@@ -26,14 +28,14 @@ pub fn build(t: &[u8]) {
 // The table with its tree written once.
 pub fn tree(t: &[u8]) {
     let mut form = io::large_buffer();
-    let c = tree_table::to_tree(t, &mut form);
+    let c = tree_table::from_signal_table(t, &mut form);
     written(c.refusal, c.len, &form);
 }
 
 // The table of such a tree.
 pub fn untree(t: &[u8]) {
     let mut form = io::large_buffer();
-    let c = tree_table::from_tree(t, &mut form);
+    let c = tree_table::to_signal_table(t, &mut form);
     written(c.refusal, c.len, &form);
 }
 
@@ -64,12 +66,12 @@ pub fn plain(t: &[u8], v: &[u8]) {
     words::counted(r.tries as u64, b" try\n", b" tries\n");
 }
 
-fn resolution(r: entry_run::Resolution) {
-    if r.refusal != 0 {
-        words::refused(r.refusal);
+fn resolution(refusal: u8, signal: u8, used: usize, skipped: usize) {
+    if refusal != 0 {
+        words::refused(refusal);
         return;
     }
-    words::resolved(r.signal, r.used as usize, r.skipped as usize);
+    words::resolved(signal, used, skipped);
     io::write_all(STDOUT_FILENO, b"\n");
 }
 
@@ -81,7 +83,24 @@ pub fn walk(t: &[u8], v: &[u8]) {
         return;
     }
     let n = m.n;
-    resolution(resolver::machine(t, &image[..n], v));
+    let r = resolver::machine(t, &image[..n], v);
+    resolution(r.refusal, r.signal, r.used as usize, r.skipped as usize);
+}
+
+// With only the signals that argument 3 lists.
+pub fn available(t: &[u8], v: &[u8]) {
+    let mut text = io::buffer();
+    let n = os::arg(3, &mut text);
+    let s = signals::read(&text[..n]);
+    if !s.ok {
+        io::write_all(
+            STDERR_FILENO,
+            b"SIGNALS are numbers from 0 to 31 with commas between\n",
+        );
+        return;
+    }
+    let r = available::resolve(t, s.bits, v);
+    resolution(r.refusal, r.signal, r.used as usize, r.skipped as usize);
 }
 
 // The signal, and how many entries it needed.
@@ -135,8 +154,7 @@ pub fn feed(t: &[u8], arguments: usize) {
         return;
     }
     let end = m.carried;
-    words::resolved(end.signal, m.used, m.skipped);
-    io::write_all(STDOUT_FILENO, b"\n");
+    resolution(0, end.signal, m.used, m.skipped);
 }
 
 // The month of the values in the file that argument 3 names, one a line.

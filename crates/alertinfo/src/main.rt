@@ -5,6 +5,7 @@ mod fields;
 mod files;
 mod month;
 mod report;
+mod signals;
 mod words;
 
 use libc::STDERR_FILENO;
@@ -21,6 +22,7 @@ enum Command {
     Resolve,
     Walk,
     Early,
+    Available,
     Feed,
     None,
 }
@@ -33,13 +35,14 @@ fn usage(to: i32) {
        alertinfo check TABLE MACHINE
        alertinfo resolve TABLE VALUE [MACHINE]
        alertinfo early TABLE VALUE
+       alertinfo available TABLE SIGNALS VALUE
        alertinfo match TABLE URI
        alertinfo tree TABLE TREE
        alertinfo untree TREE TABLE
        alertinfo feed TABLE VALUE [VALUE ..]
        alertinfo tally TABLE FILE
 TABLE, TREE and MACHINE are files. VALUE is a file, or the value itself if it begins with '<'.
-FILE has one value a line; empty lines are no values.
+FILE has one value a line; empty lines are no values. SIGNALS are numbers with commas between, as 0,2,5.
 A file that is read may be -, standard input. Status: 0 an answer, 1 refused, 2 no answer.
 ",
     );
@@ -107,6 +110,9 @@ fn of_two_more() -> Command {
     if files::is(1, b"resolve") {
         return Command::Walk;
     }
+    if files::is(1, b"available") {
+        return Command::Available;
+    }
     Command::None
 }
 
@@ -120,10 +126,18 @@ fn asked(n: usize) -> Command {
     Command::None
 }
 
-// The commands with a value, which is argument 3.
+// Which argument the value is.
+fn value_at(c: Command) -> usize {
+    match c {
+        Command::Available => 4,
+        _ => 3,
+    }
+}
+
+// The commands with a value.
 fn by_value(c: Command, t: &[u8]) {
     let mut value = io::large_buffer();
-    let v = files::value(3, &mut value);
+    let v = files::value(value_at(c), &mut value);
     if !v.ok {
         return;
     }
@@ -131,6 +145,7 @@ fn by_value(c: Command, t: &[u8]) {
     match c {
         Command::Walk => answers::walk(t, &value[..n]),
         Command::Early => answers::early(t, &value[..n]),
+        Command::Available => answers::available(t, &value[..n]),
         _ => answers::plain(t, &value[..n]),
     }
 }

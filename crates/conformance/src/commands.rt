@@ -10,7 +10,9 @@
 //   check T M        refusal number
 //   walk T M V       refusal number, signal, used, skipped of the machine resolver
 //   early T V        refusal number, signal, entries needed
+//   available T SET V  refusal number, signal, used, skipped; SET is a number, bit s for signal s
 //   match T URI      refusal number, category (-1 if the URI is skipped), node, whole, bytes compared
+use crate::numbers;
 use crate::print;
 use alert_info::Cursor;
 use alert_info::Found;
@@ -101,6 +103,11 @@ pub fn early(t: &[u8], v: &[u8]) {
     print::three(r.refusal, r.signal, r.entries);
 }
 
+pub fn available(line: &[u8], t: &[u8], v: &[u8]) {
+    let set = numbers::number(cases::word(line, 2));
+    resolution(available::resolve(t, set, v));
+}
+
 pub fn walk(t: &[u8], m: &[u8], v: &[u8]) {
     resolution(resolver::machine(t, m, v));
 }
@@ -145,12 +152,12 @@ fn built(t: &[u8], buf: &mut [u8]) {
 }
 
 fn in_tree_form(t: &[u8], buf: &mut [u8]) {
-    let c = tree_table::to_tree(t, buf);
+    let c = tree_table::from_signal_table(t, buf);
     written(c.refusal, c.len, buf);
 }
 
 fn in_old_form(t: &[u8], buf: &mut [u8]) {
-    let c = tree_table::from_tree(t, buf);
+    let c = tree_table::to_signal_table(t, buf);
     written(c.refusal, c.len, buf);
 }
 

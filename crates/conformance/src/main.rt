@@ -3,6 +3,7 @@
 // ones, are no cases.
 mod commands;
 mod fields;
+mod numbers;
 mod print;
 mod tally_cases;
 
@@ -49,6 +50,7 @@ fn answer(line: &[u8], a: &[u8], b: &[u8], c: &[u8]) {
         b'c' => commands::check(a, b),
         b'w' => commands::walk(a, b, c),
         b'm' => commands::match_urn(a, b),
+        b'a' => commands::available(line, a, c),
         b'f' => fields::feed(line, a, c),
         _ => return,
     }

@@ -1,5 +1,6 @@
 // The command `tally T RECORDS REFUSALS V`: refusal number, and the records and refusal counts after the value. A record is
 // `chosen:used:skipped`; `;` stands between records and between counts, `-` for none.
+use crate::numbers;
 use crate::print;
 use tally::Tally;
 
@@ -9,40 +10,12 @@ struct Sheet {
     n: usize,
 }
 
-// One more digit of a number up to 4,294,967,295.
-fn more(n: u64, b: u8) -> u64 {
-    if b < b'0' {
-        return n;
-    }
-    if b'9' < b {
-        return n;
-    }
-    if 429496729 < n {
-        return n;
-    }
-    let digit = b - b'0';
-    n * 10 + digit as u64
-}
-
-fn number(s: &[u8]) -> u32 {
-    let mut n = 0;
-    let mut i = 0;
-    while i < s.len() {
-        n = more(n, s[i]);
-        i += 1;
-    }
-    if 4294967295 < n {
-        return 0;
-    }
-    n as u32
-}
-
 fn record(word: &[u8]) -> Tally {
     let rest = cases::after(word, b':');
     Tally {
-        chosen: number(cases::before(word, b':')),
-        used: number(cases::before(rest, b':')),
-        skipped: number(cases::after(rest, b':')),
+        chosen: numbers::number(cases::before(word, b':')),
+        used: numbers::number(cases::before(rest, b':')),
+        skipped: numbers::number(cases::after(rest, b':')),
     }
 }
 
@@ -104,7 +77,7 @@ fn counts(text: &[u8], out: &mut [u32]) -> usize {
     let mut at = 0;
     while at < end {
         let word = cases::before(&text[at..end], b';');
-        n = put(out, n, number(word));
+        n = put(out, n, numbers::number(word));
         at = at + word.len() + 1;
     }
     n

@@ -32,6 +32,7 @@ use Rattle.entry_run.proofs.TakenLaws.{taken-used}
 use Rattle.early.proofs.Claims.{early-claim}
 use Rattle.resolver.proofs.TableLaws.{taken-append}
 use Rattle.demands.proofs.EarlyLaws.{plain-signal, early-number, early-refused, early-signal}
+use Rattle.demands.proofs.AvailableLaws.{beside-plain, available-number, available-refused, available-signal}
 use Rattle.demands.proofs.RefusalLaws.{value-number, entry-number, plain-number, machine-number, build-number, check-number}
 use Rattle.demands.proofs.OneValueLaws.{feed-number, one-value}
 use Rattle.demands.proofs.FeedingLaws.{ends-direct, never-refused, joined-alike}
@@ -75,6 +76,7 @@ demand-one t =
       table-number = refusal-numbers t;
       plain-number = plain-number t;
       machine-number = machine-number t;
+      available-number = λ set v. available-number t v set;
       feed-number = feed-number t;
       early-number = early-number t;
       build-number = build-number t;
@@ -82,6 +84,7 @@ demand-one t =
       entry-refused = refused-entry;
       plain-refused = plain-refused t;
       machine-refused = machine-refused t;
+      available-refused = λ set v. available-refused t v set;
       early-refused = early-refused t;
       one-value = one-value t;
       never-refused = never-refused t;
@@ -107,6 +110,8 @@ demand-two t =
       plain-signal = plain-signal t;
       early-signal = early-signal t;
       early = early-claim t;
+      available-signal = λ set v. available-signal t v set;
+      available = λ set v. beside-plain t v set;
       ends-direct = ends-direct t;
       joined-alike = joined-alike t;
       image-written = image-written t;

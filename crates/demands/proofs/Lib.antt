@@ -3,6 +3,7 @@ pub mod OneValueLaws
 pub mod Join
 pub mod FeedingLaws
 pub mod EarlyLaws
+pub mod AvailableLaws
 pub mod DemandLaws
 pub mod Examples
 pub mod DemandExample

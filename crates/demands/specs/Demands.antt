@@ -20,16 +20,19 @@ use Rattle.signal_table.specs.Built.{builtFrom, bufferFrom, checkFrom}
 use Rattle.signal_table.specs.Claims.{RightImage}
 use Rattle.early.specs.Early.{refused as notAnswered, earlyOf}
 use Rattle.early.specs.Claims.{EarlyClaims}
+use Rattle.available.specs.Available.{availableSignal, availableOf}
 use Rattle.resolver.specs.Resolve.{takenAs, directSignal, walkedSignal, refused, plainOf, machineOf}
 use Rattle.resolver.specs.Feed.{feedOf}
 use Rattle.demands.specs.Feeding.{OneValue, EndsDirect, NeverRefused, JoinedAlike}
+use Rattle.demands.specs.BesidePlain.{BesidePlain}
 
 -- a number from lo to hi
 abbrev pub Among : ℕ → ℕ → ℕ → Type 0
 Among lo hi n = (lo ≤ n) × (n ≤ hi)
 
 -- the numbers that may be given, 0 for accepted: by the question about a value, by that about an entry, by that about a table,
--- by the plain resolver and by the early question, by the machine resolver, for one of several values, by the builder and by the checker
+-- by the plain resolver and by the early question, by the machine resolver, among the available signals, for one of several values, by the
+-- builder and by the checker
 abbrev pub ValueNumber : ℕ → Type 0
 ValueNumber n = (n ≡ 0) ⊎ Among 1 3 n
 
@@ -44,6 +47,9 @@ PlainNumber n = (n ≡ 0) ⊎ Among 1 12 n
 
 abbrev pub MachineNumber : ℕ → Type 0
 MachineNumber n = (n ≡ 0) ⊎ (Among 1 12 n ⊎ (n ≡ 15))
+
+abbrev pub AvailableNumber : ℕ → Type 0
+AvailableNumber n = (n ≡ 0) ⊎ (Among 1 12 n ⊎ (n ≡ 23))
 
 abbrev pub FeedNumber : ℕ → Type 0
 FeedNumber n = (n ≡ 0) ⊎ (Among 1 12 n ⊎ ((n ≡ 19) ⊎ (n ≡ 28)))
@@ -63,6 +69,7 @@ pub record Demand1 (t : List ℕ) : Type 0 where
   pub table-number : TableNumber (tableRefusal t)
   pub plain-number : (v : List ℕ) → PlainNumber (plainOf t v .refusal)
   pub machine-number : (im v : List ℕ) → MachineNumber (machineOf t im v .refusal)
+  pub available-number : (set : ℕ) (v : List ℕ) → AvailableNumber (availableOf t set v .refusal)
   pub feed-number : (r : Carried) (v : List ℕ) → FeedNumber (feedOf t r v .answer .refusal)
   pub early-number : (v : List ℕ) → PlainNumber (earlyOf t v .refusal)
   pub build-number : (room : ℕ) → BuildNumber (builtFrom t room .refusal)
@@ -72,6 +79,7 @@ pub record Demand1 (t : List ℕ) : Type 0 where
   -- a refused resolution is signal 0 with both counts 0
   pub plain-refused : (v : List ℕ) → (plainOf t v .refusal ≡ 0 → ⊥) → plainOf t v ≡ refused (plainOf t v .refusal)
   pub machine-refused : (im v : List ℕ) → (machineOf t im v .refusal ≡ 0 → ⊥) → machineOf t im v ≡ refused (machineOf t im v .refusal)
+  pub available-refused : (set : ℕ) (v : List ℕ) → (availableOf t set v .refusal ≡ 0 → ⊥) → availableOf t set v ≡ refused (availableOf t set v .refusal)
   -- a refused early question has the plain resolver's number, with signal 0 and no entries
   pub early-refused : (v : List ℕ) → (earlyOf t v .refusal ≡ 0 → ⊥) → earlyOf t v ≡ notAnswered (plainOf t v .refusal)
   -- of several values, what each does by its number, whatever record it is fed with; no record that feeding gave is refused with 28
@@ -90,6 +98,10 @@ pub record Demand2 (t : List ℕ) : Type 0 where
   pub early-signal : (v : List ℕ) → plainOf t v .refusal ≡ 0 → (earlyOf t v .refusal ≡ 0) × (earlyOf t v .signal ≡ plainOf t v .signal)
   -- and which entries it needs is told in the words of the grammar and of the theory, both ways
   pub early : (v : List ℕ) → EarlyClaims t v
+  -- among the available signals, direct resolution with the others absent from the search
+  pub available-signal : (set : ℕ) (v : List ℕ) → availableOf t set v .refusal ≡ 0 → availableOf t set v .signal ≡ availableSignal t set (urisOf v)
+  -- with all of them the plain resolver's answer, and 23 exactly for a bit that is no signal's
+  pub available : (set : ℕ) (v : List ℕ) → BesidePlain t set v
   -- feeding several values one after another gives it too, over the URNs of the accepted ones in order
   pub ends-direct : EndsDirect t
   -- and it gives what the values joined by commas give

@@ -2,6 +2,7 @@
 pub mod Demands
 pub mod Feeding
 pub mod Tried
+pub mod BesidePlain
 -- the examples
 pub mod Examples
 pub mod DemandExample

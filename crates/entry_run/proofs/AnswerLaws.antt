@@ -20,7 +20,7 @@ use Rattle.entry_run.specs.declared.run.Current.{Current}
 use Rattle.entry_run.specs.declared.run.Point.{Point}
 use Rattle.entry_run.specs.declared.run.Outcome.{Outcome}
 use Rattle.entry_run.specs.declared.answer.Ended.{Ended}
-use Rattle.entry_run.specs.Answers.{takenAs, refused, answered, unlessRefused}
+use Rattle.entry_run.specs.Answers.{takenAs, numberOf, refused, answered, unlessRefused}
 use Rattle.entry_run.specs.Run.{Machine, after, over, runOf, runFrom, signalNow, answerOf, begin, endOf, endedFrom}
 use Rattle.entry_run.proofs.FoldLaws.{Reads, Steps, run-fold}
 
@@ -43,6 +43,10 @@ none-refused t v r e h = simp (eq-eqb (refusalOf v) 0 e, eq-eqb (tableRefusal t)
 -- a refused table is answered with its number where the value is accepted
 pub table-refused : (t v : List ℕ) (r : Resolution) → refusalOf v ≡ 0 → (tableRefusal t ≡ 0 → ⊥) → refused (tableRefusal t) ≡ unlessRefused t v r
 table-refused t v r e h = simp (eq-eqb (refusalOf v) 0 e, ne-eqb (tableRefusal t) 0 h)
+
+-- the same by the number with which the plain resolver refuses
+pub unless-number : (t v : List ℕ) (r : Resolution) → unlessRefused t v r ≡ cond (eqb (numberOf t v) 0) r (refused (numberOf t v))
+unless-number t v r = byTest (eqb (refusalOf v) 0) (λ q. simp q) (λ q. simp q)
 
 -- the answer at a value's end, by its tests
 module _ (o : Outcome) (s : ℕ) where

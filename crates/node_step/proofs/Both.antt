@@ -3,23 +3,24 @@ use Prim.Native.Nat.{ℕ, zero, suc, _≤_, _<_}
 use mathlib.Core.Path.{_≡_, refl, sym, ap, ap₂, subst, _∙_}
 use mathlib.Core.Logic.{inr}
 use mathlib.Core.Bool.{Bool, true, not, and-eq-true-iff}
+use mathlib.Core.Option.{Option}
 use mathlib.Core.List.{List, [], _∷_}
 use lib.ListN.{length, getD, replicate, List·getD-eq-default}
 use native.Mathlib.Omega.{arith}
 use native.Mathlib.Nat.{zero-add}
 use native.Mathlib.Decide.{decLt}
 use Rattle.resolution.specs.Names.{Parts, sameParts, properAncestor}
-use Rattle.resolution.specs.Table.{Urn, Table, rowOf, WellFormed}
+use Rattle.resolution.specs.Table.{Urn, Table, Row, rowOf, find, WellFormed}
 use Rattle.resolution.specs.Nodes.{nodes, isNode, RootOrNode, isInner, deepest}
 use Rattle.resolution.proofs.TableStep.{table-laws}
 use Rattle.resolution.specs.Nodes.{number}
 use Rattle.resolution.proofs.Numbers.{number-node, number-same}
-use Rattle.resolution.specs.Direct.{envOf, start, step, statusFits, StateOf, sameState}
+use Rattle.resolution.specs.Direct.{envBy, envOf, start, step, statusFits, StateOf, sameState}
 use Rattle.resolution.proofs.Lists.{same-test}
 use Rattle.resolution.proofs.Direct.{state-exact}
 use Rattle.resolution.specs.Direct as direct
 use Rattle.resolution.specs.Symbols.{Symbol, stepsAs}
-use Rattle.resolution.proofs.Step.{Valid}
+use Rattle.resolution.proofs.Step.{EnvLaws, Valid}
 use Rattle.resolution.proofs.NodeStep.{direct-at-node, symbol-at-node}
 use Rattle.node_step.specs.Step.{codedStatus, progressFrom, coded, statusIn, stepNumbers}
 use Rattle.node_search.specs.Arrays.{InnerIn}
@@ -28,23 +29,32 @@ use Rattle.node_step.proofs.ProgressLaws.{progress-length, progress-at,
 use Rattle.node_step.specs.StatusByte.{packed, unpacked, packedOf, ofPacked, samePacked}
 use Rattle.node_step.proofs.ByteLaws.{Numbered, pack-again}
 use Rattle.node_step.proofs.PackedStep.{packed-exact}
+use Rattle.node_step.proofs.SearchedBy.{SearchedBy, table-searched}
 use Rattle.node_step.proofs.StepRight.{step-right}
 use Rattle.resolution.proofs.Deepest.{deepest-node, inner-node}
 use Rattle.node_step.specs.declared.Status.the-variants.{Open}
 use Rattle.node_step.specs.declared.State.{State}
 
+-- at a used URN, with any finder, over the rows in which it searches
+pub step-by : (table ps : List ℕ) (inner : List Bool) (n : ℕ) (t : Table) (wf : WellFormed t) → Numbers table ps n t → InnerIn inner t
+    → (finder : Row → Option ℕ) → EnvLaws (envBy t finder) (t .cats) (nodes t) → (rows : List ℕ) → SearchedBy rows n t finder
+    → (st : direct.State) → Valid (envBy t finder) (t .cats) (nodes t) st → (u : Urn) → u .cat < t .cats
+    → stepNumbers rows ps inner n (coded t st) (u .cat) (number (nodes t) (u .cat) (deepest (nodes t) (u .cat) (u .path))) (sameParts (deepest (nodes t) (u .cat) (u .path)) (u .path))
+    ≡ coded t (step (envBy t finder) st u)
+step-by table ps inner n t wf nu ii finder laws rows by st g u h =
+    step-right table ps inner n t wf nu ii finder laws rows by st g (u .cat) h (deepest (nodes t) (u .cat) (u .path)) (deepest-node (nodes t) (u .cat) (u .path)) (sameParts (deepest (nodes t) (u .cat) (u .path)) (u .path))
+    ∙ ap (coded t) (sym (direct-at-node (envBy t finder) (t .cats) (nodes t) laws st g u h))
+
 module _ (rows ps : List ℕ) (inner : List Bool) (n : ℕ) (t : Table) (wf : WellFormed t) (nu : Numbers rows ps n t) (ii : InnerIn inner t) (st : direct.State) (g : Valid (envOf t) (t .cats) (nodes t) st) where
   pub step-direct : (u : Urn) → u .cat < t .cats
       → stepNumbers rows ps inner n (coded t st) (u .cat) (number (nodes t) (u .cat) (deepest (nodes t) (u .cat) (u .path))) (sameParts (deepest (nodes t) (u .cat) (u .path)) (u .path))
       ≡ coded t (step (envOf t) st u)
-  step-direct u h =
-      step-right rows ps inner n t wf nu ii st g (u .cat) h (deepest (nodes t) (u .cat) (u .path)) (deepest-node (nodes t) (u .cat) (u .path)) (sameParts (deepest (nodes t) (u .cat) (u .path)) (u .path))
-      ∙ ap (coded t) (sym (direct-at-node (envOf t) (t .cats) (nodes t) (table-laws t wf) st g u h))
+  step-direct = step-by rows ps inner n t wf nu ii (find t) (table-laws t wf) rows (table-searched nu) st g
 
   pub step-symbol : (s : Symbol) → s .cat < t .cats → RootOrNode (nodes t) (s .cat) (s .path)
       → stepNumbers rows ps inner n (coded t st) (s .cat) (number (nodes t) (s .cat) (s .path)) (not (s .other)) ≡ coded t (step (envOf t) st (stepsAs s))
   step-symbol s h a =
-      step-right rows ps inner n t wf nu ii st g (s .cat) h (s .path) a (not (s .other))
+      step-right rows ps inner n t wf nu ii (find t) (table-laws t wf) rows (table-searched nu) st g (s .cat) h (s .path) a (not (s .other))
       ∙ ap (coded t) (sym (symbol-at-node (envOf t) (t .cats) (nodes t) (table-laws t wf) st g s h))
 
 -- the start is signal 0 with every category open

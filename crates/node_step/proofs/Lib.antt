@@ -4,6 +4,8 @@ pub mod ProgressLaws
 pub mod ByteLaws
 pub mod PackedStep
 pub mod StepLaws
+pub mod SearchedBy
+pub mod SeekRight
 pub mod StepRight
 pub mod TriesLaws
 pub mod TriesRight

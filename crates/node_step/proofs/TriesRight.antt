@@ -11,7 +11,7 @@ use lib.ListN.{length, getD, length-append}
 use native.Mathlib.Omega.{arith}
 use Rattle.resolution.specs.Names.{Name, Parts, sameParts, below, candidates}
 use Rattle.resolution.proofs.Names.{below-to, snoc-view}
-use Rattle.resolution.specs.Table.{Urn, Table, rowOf, WellFormed}
+use Rattle.resolution.specs.Table.{Urn, Table, rowOf, find, WellFormed}
 use Rattle.resolution.specs.Nodes.{nodes, number, deepest, RootOrNode}
 use Rattle.resolution.proofs.Deepest.{deepest-node}
 use Rattle.resolution.proofs.Numbers.{root-number}
@@ -28,7 +28,9 @@ use Rattle.node_step.specs.Step.{coded, parentOf, hitAt, hitNumbers}
 use Rattle.node_step.specs.Tries.{depth, triesTo, triesNumbers}
 use Rattle.node_search.specs.Arrays.{InnerIn}
 use Rattle.node_step.specs.Rows.{Numbers}
-use Rattle.node_step.proofs.StepRight.{up-anchor, up-number, not-root, few-parts-at, low, wide, hitOf, taken-above, hit-untaken, hit-taken}
+use Rattle.node_step.proofs.SearchedBy.{table-searched}
+use Rattle.node_step.proofs.SeekRight.{up-anchor, up-number, not-root, wide, hitOf}
+use Rattle.node_step.proofs.StepRight.{few-parts-at, taken-above, hit-untaken, hit-taken}
 
 module _ (rows ps : List ℕ) (n : ℕ) (t : Table) (wf : WellFormed t) (nu : Numbers rows ps n t) (c : ℕ) (known : c < t .cats) where
   abbrev num : Parts → ℕ
@@ -65,22 +67,22 @@ module _ (rows ps : List ℕ) (inner : List Bool) (n : ℕ) (t : Table) (wf : We
   unfolding triesNumbers
   tries-untaken e =
       simp (lt-leb 8 c (let q = nu .few-cats in omega arith))
-      (ap (triesTo ps (number (nodes t) c d)) (hit-untaken rows ps inner n t wf nu ii st (state-valid t st g) c known d ad whole e))
+      (ap (triesTo ps (number (nodes t) c d)) (hit-untaken rows ps inner n t wf nu ii (find t) (table-laws t wf) rows (table-searched nu) st (state-valid t st g) c known d ad whole e))
 
   -- a taken URN
   tries-taken : nodeTakes (getD (st .status) c direct.Open) here d whole ≡ true → (o : Option Parts) → below here d ≡ o
       → triesNumbers rows ps n (coded t st) c (number (nodes t) c d) whole ≡ triesIfTaken (envOf t) (rowOf t (st .signal)) c here true o
   unfolding triesNumbers
-  tries-taken e none f = absurd (false≢true (rw f at (taken-above rows ps inner n t wf nu ii st (state-valid t st g) c known d ad whole (getD (st .status) c direct.Open) (g .fits c known) e)))
+  tries-taken e none f = absurd (false≢true (rw f at (taken-above rows ps inner n t wf nu ii (find t) (table-laws t wf) rows (table-searched nu) st (state-valid t st g) c known d ad whole (getD (st .status) c direct.Open) (g .fits c known) e)))
   tries-taken e (some r) f =
       let j : here ++ r ≡ d = below-to here d r f in
       let w = direct-law t wf .finds st g c r in
       let k = search-hit (envOf t) (rowOf t (st .signal)) c (candidates here r) (w .0) (w .1) in
       let a = hit-node (envOf t) (t .cats) (nodes t) (table-laws t wf) (rowOf t (st .signal)) c (w .0 .at) (w .0 .signal)
-      (wide rows ps n t wf nu c known (st .signal) (low rows ps inner n t wf nu ii st (state-valid t st g) c known d ad whole)) (k .0) in
+      (wide t (nu .few-nodes) c known (st .signal)) (k .0) in
       let v : hitNumbers rows ps n (coded t st) c (number (nodes t) c d) whole ≡ hitAt (number (nodes t) c (w .0 .at)) (w .0 .signal) =
-      hit-taken rows ps inner n t wf nu ii st (state-valid t st g) c known d ad whole e r j
-      ∙ ap (hitOf rows ps n t wf nu c known (st .signal) (low rows ps inner n t wf nu ii st (state-valid t st g) c known d ad whole)) (w .1) in
+      hit-taken rows ps inner n t wf nu ii (find t) (table-laws t wf) rows (table-searched nu) st (state-valid t st g) c known d ad whole e r j
+      ∙ ap (hitOf t c) (w .1) in
       simp (lt-leb 8 c (let q = nu .few-cats in omega arith))
       (ap (triesTo ps (number (nodes t) c d)) v
       ∙ omega (

@@ -68,6 +68,11 @@ pub no-form : formOf (tableOf least) [] ≡ false
 unfolding formOf stateFormed each joined nodes leaf fields onFirst past upTo bytesFrom bytes andThen byteIn counted stored storedFrom text times tableOf tableRead
 no-form = refl
 
+-- the least table has two signals
+pub two-signals : length (tableOf least .signals) ≡ 2
+unfolding fields onFirst past upTo bytesFrom bytes andThen byteIn counted stored storedFrom text times tableOf tableRead
+two-signals = refl
+
 -- a record of 16 values is taken, one of 17 is not
 pub sixteen-fit : carriedFits (tableOf least) (afterValues 16) ≡ true
 unfolding carriedFits each fields onFirst past upTo bytesFrom bytes andThen byteIn counted stored storedFrom text times tableOf tableRead

@@ -1,5 +1,5 @@
 -- Every number that demand 1 allows is given: the values' and the tables' as the crates beneath show, the others by example.
-use Prim.Native.Nat.{ℕ, _≤_, _<_}
+use Prim.Native.Nat.{ℕ, _/_, _%_, _^_, _≤_, _<_}
 use mathlib.Core.Path.{_≡_, refl, sym, ap, _∙_}
 use mathlib.Core.Logic.{_⊎_, inl, inr}
 use mathlib.Core.Bool.{Bool, true, false, cond}
@@ -8,6 +8,7 @@ use lib.Dec.{eqb, ltb, leb}
 use lib.ListN.{length}
 use borrow.Author.Tests.{leb-true, leb-false, eqb-true, eqb-false, eq-eqb, ne-eqb, lt-ltb}
 use native.Mathlib.Omega.{arith}
+use native.Mathlib.Nat.{zero-div}
 use Rattle.alert_info.specs.Value.{refusalOf, urisOf, entryRefusalOf}
 use Rattle.alert_info.proofs.Examples.{each-number as each-value, each-entry-number as each-entry}
 use Rattle.resolution.specs.Build.{discovered}
@@ -25,12 +26,15 @@ use Rattle.signal_table.specs.Built.{builtFrom, checkFrom}
 use Rattle.entry_run.specs.declared.Resolution.{Resolution}
 use Rattle.resolver.specs.Resolve.{unlessRefused, refused, answered, directSignal, walkedSignal, plainOf, machineOf}
 use Rattle.resolver.specs.Feed.{feedOf}
-use Rattle.demands.specs.Demands.{ValueNumber, EntryNumber, PlainNumber, MachineNumber, FeedNumber, BuildNumber, CheckNumber}
+use Rattle.available.specs.Claims.{Strange}
+use Rattle.available.specs.Available.{availableOf}
+use Rattle.demands.specs.Demands.{ValueNumber, EntryNumber, PlainNumber, MachineNumber, AvailableNumber, FeedNumber, BuildNumber, CheckNumber}
 use Rattle.refusal_numbers.specs.Numbers.{EachNumber, image, wrongImages, manyStates, afterValues}
 use Rattle.entry_run.proofs.AnswerLaws.{value-refused, table-refused, none-refused}
+use Rattle.demands.proofs.AvailableLaws.{beside-plain}
 use Rattle.demands.proofs.OneValueLaws.{one-value}
 use Rattle.demands.proofs.FeedingLaws.{never-refused}
-use Rattle.refusal_numbers.proofs.NumberExamples.{many-formed, over-many, fits-room, no-room, right-image, wrong-images, right-form, no-form, sixteen-fit, seventeen-unfit}
+use Rattle.refusal_numbers.proofs.NumberExamples.{many-formed, over-many, fits-room, no-room, right-image, wrong-images, right-form, no-form, two-signals, sixteen-fit, seventeen-unfit}
 
 -- an accepted value
 value : (v : List ℕ) × (refusalOf v ≡ 0)
@@ -57,9 +61,14 @@ first-numbers r n h k = go (whose n h k)
 own-number : (r : Resolution) → unlessRefused least (value .0) r .refusal ≡ r .refusal
 own-number r = sym (ap (λ (x : Resolution). x .refusal) (none-refused least (value .0) r (value .1) least-formed))
 
+-- the least table and that value are accepted
+plain-least : plainOf least (value .0) .refusal ≡ 0
+unfolding plainOf
+plain-least = own-number (answered least (urisOf (value .0)) (directSignal least (urisOf (value .0))))
+
 plain-each : (n : ℕ) → PlainNumber n → (t v : List ℕ) × (plainOf t v .refusal ≡ n)
 unfolding plainOf
-plain-each n (inl e) = (least, value .0, own-number (answered least (urisOf (value .0)) (directSignal least (urisOf (value .0)))) ∙ sym e)
+plain-each n (inl e) = (least, value .0, plain-least ∙ sym e)
 plain-each n (inr h) = first-numbers (λ t v. answered t (urisOf v) (directSignal t (urisOf v))) n (h .0) (h .1)
 
 -- the machine resolver's own answer
@@ -75,6 +84,22 @@ unfolding machineOf
 machine-each n (inl e) = (least, image 0 1, value .0, own-number (walked (image 0 1) least (value .0)) ∙ form-number (image 0 1) true right-form ∙ sym e)
 machine-each n (inr (inl h)) = let r = first-numbers (walked []) n (h .0) (h .1) in (r .0, [], r .1, r .2)
 machine-each n (inr (inr e)) = (least, [], value .0, own-number (walked [] least (value .0)) ∙ form-number [] false no-form ∙ sym e)
+
+-- the empty set has no bit
+no-bit : (t : List ℕ) → Strange t 0 → ⊥
+no-bit t w =
+    let e : 0 / 2 ^ w .0 % 2 ≡ 1 = eqb-true (0 / 2 ^ w .0 % 2) 1 (w .2) in
+    let z : 0 / 2 ^ w .0 ≡ 0 = zero-div (2 ^ w .0) in
+    omega arith
+
+available-each : (n : ℕ) → AvailableNumber n → (t : List ℕ) × (set : ℕ) × (v : List ℕ) × (availableOf t set v .refusal ≡ n)
+available-each n (inl e) = (least, 0, value .0, beside-plain least (value .0) 0 .counted plain-least (no-bit least) .0 ∙ sym e)
+available-each n (inr (inl h)) =
+    let p = plain-each n (inr h) in
+    (p .0, 0, p .1, ap (λ (r : Resolution). r .refusal) (beside-plain (p .0) (p .1) 0 .first (λ z. omega (arith, p .2, z, h .0))) ∙ p .2)
+available-each n (inr (inr e)) =
+    let w : Strange least 4 = (2, omega (arith, two-signals), refl) in
+    (least, 4, value .0, ap (λ (r : Resolution). r .refusal) (beside-plain least (value .0) 4 .strange plain-least .1 w) ∙ sym e)
 
 feed-each : (n : ℕ) → FeedNumber n → (t : List ℕ) × (r : Carried) × (v : List ℕ) × (feedOf t r v .answer .refusal ≡ n)
 feed-each n h = go h
@@ -138,6 +163,7 @@ each-number =
       by-table = each-table;
       by-plain = plain-each;
       by-machine = machine-each;
+      by-available = available-each;
       by-feed = feed-each;
       by-build = build-each;
       by-check = check-each;

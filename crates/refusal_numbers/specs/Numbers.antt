@@ -10,8 +10,9 @@ use Rattle.stored_table.specs.Examples.{one}
 use Rattle.carried_record.specs.declared.Carried.{Carried}
 use Rattle.signal_table.specs.Built.{builtFrom, checkFrom}
 use Rattle.resolver.specs.Resolve.{plainOf, machineOf}
+use Rattle.available.specs.Available.{availableOf}
 use Rattle.resolver.specs.Feed.{feedOf}
-use Rattle.demands.specs.Demands.{ValueNumber, EntryNumber, TableNumber, PlainNumber, MachineNumber, FeedNumber, BuildNumber, CheckNumber}
+use Rattle.demands.specs.Demands.{ValueNumber, EntryNumber, TableNumber, PlainNumber, MachineNumber, AvailableNumber, FeedNumber, BuildNumber, CheckNumber}
 
 pub record EachNumber : Type 0 where
   pub by-value : (n : ℕ) → ValueNumber n → (v : List ℕ) × (refusalOf v ≡ n)
@@ -19,6 +20,7 @@ pub record EachNumber : Type 0 where
   pub by-table : (n : ℕ) → TableNumber n → (t : List ℕ) × (tableRefusal t ≡ n)
   pub by-plain : (n : ℕ) → PlainNumber n → (t v : List ℕ) × (plainOf t v .refusal ≡ n)
   pub by-machine : (n : ℕ) → MachineNumber n → (t im v : List ℕ) × (machineOf t im v .refusal ≡ n)
+  pub by-available : (n : ℕ) → AvailableNumber n → (t : List ℕ) × (set : ℕ) × (v : List ℕ) × (availableOf t set v .refusal ≡ n)
   pub by-feed : (n : ℕ) → FeedNumber n → (t : List ℕ) × (r : Carried) × (v : List ℕ) × (feedOf t r v .answer .refusal ≡ n)
   pub by-build : (n : ℕ) → BuildNumber n → (t : List ℕ) × (room : ℕ) × (builtFrom t room .refusal ≡ n)
   pub by-check : (n : ℕ) → CheckNumber n → (t im : List ℕ) × (checkFrom t im ≡ n)

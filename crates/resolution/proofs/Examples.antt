@@ -1,11 +1,15 @@
--- The example, computed from the definitions.
+-- The examples, computed from the definitions.
 use mathlib.Core.Path.{refl}
 use Rattle.resolution.specs.Lists.{tabulate}
 use Rattle.resolution.specs.Direct.{step}
 use Rattle.resolution.specs.Nodes.{nodes, leaf, deepest}
 use Rattle.resolution.specs.Discovery.{expand, discover}
-use Rattle.resolution.specs.Examples.{BoundReached}
+use Rattle.resolution.specs.Examples.{BoundReached, NotAvailable}
 
 pub bound-reached : BoundReached
 unfolding step nodes leaf deepest expand discover tabulate
 bound-reached = record { most = refl; direct-changes = refl; walk-changes = refl }
+
+pub not-available : NotAvailable
+unfolding step nodes leaf deepest
+not-available = record { dark = refl; held = refl; above = refl; silent = refl }

@@ -13,6 +13,8 @@ pub mod Machine
 pub mod Build
 pub mod Settled
 pub mod Tries
+pub mod Available
+
 -- what is claimed of it, and what the definitions mean
 pub mod Laws
 pub mod Claim

@@ -7,6 +7,7 @@ ghost use Rattle.resolver.specs.Resolve.{plainWith, machineOf};
 ghost use Rattle.carried_record.specs.Record.{carriedIn, carriedBytes};
 ghost use Rattle.resolver.specs.Feed.{feedOf};
 ghost use Rattle.early.specs.Early.{earlyOf};
+ghost use Rattle.available.specs.Available.{availableOf};
 
 // typedef struct { uint8_t refusal, signal, used, skipped; } alert_resolution;
 // typedef struct { uint8_t refusal, signal, used, skipped; uint16_t tries; } alert_plain;
@@ -48,4 +49,13 @@ pub extern "C" fn resolve_early(t: &[u8], v: &[u8]) -> Early
     ensures { λ r. ⌜ r ≡ earlyOf (now (t .entry)) (now (v .entry)) ⌝ }
 {
     early::resolve(t, v)
+}
+
+// alert_resolution resolve_available(const uint8_t *table, size_t len, uint32_t available, const uint8_t *value, size_t value_len);
+// The signal among those that can be given just now, bit s for signal s; signal 0 always can.
+#[no_mangle]
+pub extern "C" fn resolve_available(t: &[u8], set: u32, v: &[u8]) -> Resolution
+    ensures { λ r. ⌜ r ≡ availableOf (now (t .entry)) set (now (v .entry)) ⌝ }
+{
+    available::resolve(t, set, v)
 }

@@ -77,6 +77,10 @@ impl Resolvers for Baseline {
     fn early(table: &[u8], value: &[u8]) -> Early {
         early::ask(table, value).unwrap_or_else(Early::refused)
     }
+
+    fn available(table: &[u8], available: u32, value: &[u8]) -> Resolution {
+        resolve::available(table, available, value).unwrap_or_else(Resolution::refused)
+    }
 }
 
 impl Tallies for Baseline {

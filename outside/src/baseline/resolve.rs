@@ -26,6 +26,16 @@ pub fn plain_by(table: &Decoded, value: &[u8], uris: &Uris) -> Plain {
     Plain { refusal: 0, signal: state.signal, used, skipped: uris.count as u8 - used, tries }
 }
 
+pub fn available(table: &[u8], available: u32, value: &[u8]) -> Result<Resolution, u8> {
+    let uris = Uris::read(value)?;
+    let mut table = Decoded::read(table)?;
+    if u64::from(available) >> table.signal_count != 0 {
+        return Err(23);
+    }
+    table.lose(available);
+    Ok(plain_by(&table, value, &uris).resolution())
+}
+
 pub fn machine(table: &[u8], image: &[u8], value: &[u8]) -> Result<Resolution, u8> {
     let uris = Uris::read(value)?;
     let table = Decoded::read(table)?;

@@ -304,6 +304,15 @@ impl<'a> Decoded<'a> {
         answer
     }
 
+    /// Takes from the search every signal but 0 whose bit is not set. No place has all bits.
+    pub fn lose(&mut self, available: u32) {
+        for (signal, row) in self.rows.iter_mut().enumerate().skip(1) {
+            if available >> signal & 1 == 0 {
+                *row = u64::MAX;
+            }
+        }
+    }
+
     fn signal_with(&self, row: u64) -> Option<usize> {
         self.rows[..self.signal_count].iter().position(|&r| r == row)
     }

@@ -28,7 +28,7 @@ use outside::ours::Ours;
 const LONGEST: usize = 35_459;
 
 /// Every function with the refusal numbers that it may give.
-const FUNCTIONS: [(&str, &[u8]); 16] = [
+const FUNCTIONS: [(&str, &[u8]); 17] = [
     ("alert_info_refusal", &[0, 1, 2, 3]),
     ("alert_info_entries", &[0, 1, 2, 3]),
     ("alert_info_entry", &[0, 1, 2, 3, 18]),
@@ -44,6 +44,7 @@ const FUNCTIONS: [(&str, &[u8]); 16] = [
     ("resolve_machine", &[0, 1, 2, 3, 4, 5, 6, 7, 8, 9, 10, 11, 12, 15]),
     ("resolve_feed", &[0, 1, 2, 3, 4, 5, 6, 7, 8, 9, 10, 11, 12, 19, 28]),
     ("resolve_early", &[0, 1, 2, 3, 4, 5, 6, 7, 8, 9, 10, 11, 12]),
+    ("resolve_available", &[0, 1, 2, 3, 4, 5, 6, 7, 8, 9, 10, 11, 12, 23]),
     ("tally_value", &[0, 1, 2, 3, 4, 5, 6, 7, 8, 9, 10, 11, 12, 20]),
 ];
 
@@ -188,6 +189,10 @@ fn feed<I: Resolvers>(table: &[u8], record: &Record, value: &[u8]) -> (Resolutio
 
 fn early<I: Resolvers>(table: &[u8], value: &[u8]) -> Early {
     I::early(table, value)
+}
+
+fn available<I: Resolvers>(table: &[u8], set: u32, value: &[u8]) -> Resolution {
+    I::available(table, set, value)
 }
 
 /// The answer with the records and counts after it.
@@ -363,6 +368,37 @@ fn hold_early(tally: &mut Tally, random: &mut Random, table: &[u8], value: &[u8]
     }
 }
 
+/// Mostly a set of the table's signals, sometimes with a bit too many.
+fn set(random: &mut Random, signals: usize) -> u32 {
+    let all = ((1u64 << signals) - 1) as u32;
+    match random.below(8) {
+        0 => all,
+        1 => 0,
+        2 => random.number() as u32,
+        3 => 1 << random.below(32),
+        4 => all & (random.number() | random.number()) as u32,
+        5 => all & !(1 << random.below(32)),
+        _ => all & random.number() as u32,
+    }
+}
+
+/// With all signals available, the plain resolver's answer.
+fn hold_available(tally: &mut Tally, random: &mut Random, table: &[u8], value: &[u8]) {
+    let read = outside::reference::table::Table::read(table);
+    let signals = read.map_or_else(|_| random.below(33), |table| table.signals.len());
+    for set in [set(random, signals), set(random, signals)] {
+        let answers = answers!("resolver", available, table, set, value);
+        let line = || format!("available {} {set} {}", to_hex(table), to_hex(value));
+        tally.hold("resolve_available", answers[0].1.refusal, &answers, line);
+    }
+    let all = ((1u64 << signals) - 1) as u32;
+    let plain = Reference::plain(table, value).resolution();
+    if Reference::available(table, all, value) != plain || Reference::available(table, all & !1, value) != plain {
+        println!("with all signals available another answer: plain {} {}", to_hex(table), to_hex(value));
+        tally.wrong += 1;
+    }
+}
+
 /// One value more. The reference's answer with the record after it.
 fn hold_feed(tally: &mut Tally, table: &[u8], record: &Record, value: &[u8]) -> (Resolution, Record) {
     let answers = answers!("resolver", feed, table, record, value);
@@ -436,6 +472,7 @@ fn round(tally: &mut Tally, random: &mut Random, other: &mut Vec<u8>) {
         hold_tally(tally, random, &table, &value);
         hold_agreement(tally, &table, &image, &value);
         hold_early(tally, random, &table, &value);
+        hold_available(tally, random, &table, &value);
         hold_feed(tally, &table, &records::record(random, &draft), &value);
         message.push(value);
     }
@@ -458,6 +495,7 @@ fn limits(tally: &mut Tally, random: &mut Random) {
         for value in [&b"<urn:alert:c0:p0>"[..], b"<", b"<a>"] {
             hold_tally(tally, random, &table, value);
             hold_early(tally, random, &table, value);
+            hold_available(tally, random, &table, value);
         }
         for _ in 0..5 {
             hold_check(tally, &table, &images::image(random, &table, &machine));
@@ -514,6 +552,11 @@ fn every_byte(tally: &mut Tally, random: &mut Random) {
         let image = images::with_states(&image, states);
         hold_check(tally, table, &image);
         hold_resolvers(tally, table, &image, value);
+    }
+    for bit in 0..32 {
+        let answers = answers!("resolver", available, table, 1 << bit, value);
+        let line = || format!("available {} {} {}", to_hex(table), 1u32 << bit, to_hex(value));
+        tally.hold("resolve_available", answers[0].1.refusal, &answers, line);
     }
     for byte in 0..=255 {
         for at in 0..10 {

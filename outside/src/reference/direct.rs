@@ -25,17 +25,24 @@ pub fn start(table: &Table) -> State {
     State { signal: 0, status: vec![Status::Open; table.categories.len()] }
 }
 
-/// The signal of the table that is placed as the current one is, but at p in category c.
-fn signal_with(table: &Table, current: usize, c: usize, p: &[Vec<u8>]) -> Option<usize> {
-    let fits = |places: &Vec<Vec<Vec<u8>>>| {
+/// The signal among those given that is placed as the current one is, but at p in category c.
+fn signal_with(table: &Table, among: &[usize], current: usize, c: usize, p: &[Vec<u8>]) -> Option<usize> {
+    let fits = |signal: usize| {
+        let places = &table.signals[signal];
         (0..table.categories.len())
             .all(|d| if d == c { places[d] == p } else { places[d] == table.signals[current][d] })
     };
-    table.signals.iter().position(fits)
+    among.iter().copied().find(|&signal| fits(signal))
 }
 
 /// A step by a used URN.
 pub fn step(table: &Table, state: &State, urn: &Node) -> State {
+    let all: Vec<usize> = (0..table.signals.len()).collect();
+    step_among(table, &all, state, urn)
+}
+
+/// A step by a used URN, where the search finds only signals among those given.
+pub fn step_among(table: &Table, among: &[usize], state: &State, urn: &Node) -> State {
     let (c, u) = (urn.category, &urn.path);
     let place = &table.signals[state.signal][c];
     let taken = match &state.status[c] {
@@ -48,7 +55,7 @@ pub fn step(table: &Table, state: &State, urn: &Node) -> State {
     }
     // Candidates from the URN itself up to the present place: the first with a signal.
     for length in (place.len()..=u.len()).rev() {
-        if let Some(signal) = signal_with(table, state.signal, c, &u[..length]) {
+        if let Some(signal) = signal_with(table, among, state.signal, c, &u[..length]) {
             let mut status = state.status.clone();
             status[c] = if length == u.len() {
                 Status::Open

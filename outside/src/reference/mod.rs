@@ -1,5 +1,6 @@
 //! The rules of resolution in plain Rust, one file a section, as simple as possible and with no regard to speed.
 //! A path is a list of names, a signal a list of paths, a state a signal with a status for each category.
+pub mod available;
 pub mod direct;
 pub mod early;
 pub mod fields;
@@ -78,6 +79,10 @@ impl Resolvers for Reference {
 
     fn early(table: &[u8], value: &[u8]) -> Early {
         early::ask(table, value).unwrap_or_else(Early::refused)
+    }
+
+    fn available(table: &[u8], available: u32, value: &[u8]) -> Resolution {
+        available::resolve(table, available, value).unwrap_or_else(Resolution::refused)
     }
 }
 

@@ -8,6 +8,7 @@ mod time;
 
 use inputs::Inputs;
 use outside::baseline::Baseline;
+use outside::reference::table::Table;
 use outside::reference::Reference;
 use outside::{Reader, Record, Resolvers, Tables, Tallies, Tally, Trees};
 use std::hint::black_box;
@@ -128,6 +129,17 @@ fn early_rows<'a>(inputs: &'a Inputs, rows: &mut Vec<Row<'a>>) {
     }
 }
 
+/// Every second signal available.
+fn available_rows<'a>(inputs: &'a Inputs, rows: &mut Vec<Row<'a>>) {
+    for (name, table, _, value) in inputs.calls() {
+        let signals = Table::read(table).expect("a well-formed table").signals.len();
+        let set = 0x5555_5555 & ((1u64 << signals) - 1) as u32;
+        rows.push(row!("resolver", "resolve_available", name, |I, _| {
+            I::available(black_box(table), black_box(set), black_box(value))
+        }));
+    }
+}
+
 fn feed_rows<'a>(inputs: &'a Inputs, rows: &mut Vec<Row<'a>>) {
     for (name, table, message) in inputs.messages() {
         rows.push(row!("resolver", "resolve_feed", name, |I, _| {
@@ -196,6 +208,7 @@ fn main() {
     tree_rows(&inputs, &mut rows);
     resolver_rows(&inputs, &mut rows);
     early_rows(&inputs, &mut rows);
+    available_rows(&inputs, &mut rows);
     feed_rows(&inputs, &mut rows);
     tally_rows(&inputs, &mut rows);
     time::warm_up(&*rows[0].baseline);

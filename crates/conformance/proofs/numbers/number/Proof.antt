@@ -2,8 +2,8 @@ use lib.ListN.{length}
 use Prim.Native.Nat.{_-_}
 use native.Mathlib.Omega.{arith}
 use borrow.Author.Needs.{needs}
-use Rattle.conformance.proofs.tally_cases.number.Statement.{statement}
-use Rattle.conformance.proofs.tally_cases.number.Tie as tie
+use Rattle.conformance.proofs.numbers.number.Statement.{statement}
+use Rattle.conformance.proofs.numbers.number.Tie as tie
 
 abbrev Inv-loop : tie.InvT-loop
 Inv-loop s n₀ i₀ n i = Unit {0}

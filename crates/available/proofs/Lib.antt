@@ -1,0 +1,5 @@
+pub mod RowLaws
+pub mod RunRight
+pub mod AnswerLaws
+pub mod BitLaws
+pub mod Claims
