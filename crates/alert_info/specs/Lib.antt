@@ -4,7 +4,7 @@ pub mod Grammar
 -- what is claimed of it
 pub mod Claims
 pub mod Examples
--- what only the code's inner promises use; the claims tie it to the grammar
+-- what the promises are equations with; the claims tie it to the grammar
 pub mod Walk
 pub mod Parts
 pub mod Value

@@ -1,5 +1,5 @@
 -- What passing white space, a token, a quoted string, a parameter and an entry gives at each position of a value.
--- Past the end the byte at a position counts as 0, which no rule names.
+-- Past the end the byte at a position counts as 0; only the rule after \ takes 0, and it asks for the length first.
 -- Assumes nothing.
 use Prim.Native.Nat.{ℕ, zero, suc, _+_, _-_}
 use mathlib.Core.Bool.{Bool, cond, _&&_}

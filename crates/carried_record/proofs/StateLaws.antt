@@ -27,7 +27,7 @@ use Rattle.machine_image.specs.Image as image
 use Rattle.machine_image.proofs.Joined.{tabulate-entries}
 use Rattle.machine_image.proofs.Statuses.{byte-coded, byte-fits, status-read, status-formed, status-coded}
 use Rattle.carried_record.specs.declared.Carried.{Carried}
-use Rattle.carried_record.specs.Record.{fresh, statusIn, byteIn, stateIn, carriedAs, statusFits}
+use Rattle.carried_record.specs.Record.{fresh, statusIn, byteIn, stateIn, carriedAs, statusFits, CarriedBack}
 use Rattle.carried_record.specs.Coded.{Fits, progressAt, byteAt, stateWith, carriedWith}
 use Rattle.carried_record.proofs.FitLaws.{fits-known, fits-lacking}
 
@@ -140,3 +140,6 @@ module _ (T : Table) (few : T .cats ≤ 8) where
       every-zero zero c = refl
       every-zero (suc n) zero = refl
       every-zero (suc n) (suc c) = every-zero n c
+
+pub carried-back : CarriedBack
+carried-back T st n few g = state-again T few st g n

@@ -9,7 +9,7 @@ use lib.ListN.{length, getD, replicate}
 use Rattle.resolution.specs.Lists.{tabulate, all}
 use Rattle.resolution.specs.Table.{Table, place}
 use Rattle.resolution.specs.Nodes.{nodes}
-use Rattle.resolution.specs.Direct.{Status, Open, State}
+use Rattle.resolution.specs.Direct.{Status, Open, State, StateOf}
 use Rattle.machine_image.specs.Image.{statusByte, statusOf}
 use Rattle.machine_image.specs.Refusals.{byteFits}
 use Rattle.machine_image.specs.Positions.{ByteOf}
@@ -33,6 +33,10 @@ stateIn T r = record { signal = r .signal; status = tabulate (statusIn T r) (T .
 
 abbrev pub carriedAs : Table → State → ℕ → Carried
 carriedAs T st n = record { signal = st .signal; status = tabulate (byteIn T st) 8; values = n }
+
+-- a state of the table comes back as it was carried
+abbrev pub CarriedBack : Type 0
+CarriedBack = (T : Table) (st : State) (n : ℕ) → T .cats ≤ 8 → StateOf T st → stateIn T (carriedAs T st n) ≡ st
 
 -- category c, if it is one of the table, has a byte that it can have in an image at its signal's place, else 0
 abbrev pub statusFits : Table → Carried → ℕ → Bool

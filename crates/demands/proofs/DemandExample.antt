@@ -3,7 +3,7 @@ use Prim.Native.Nat.{_<_}
 use mathlib.Core.Path.{_≡_, refl}
 use lib.ListN.{length}
 use native.Mathlib.Omega.{arith}
-use Rattle.resolution.specs.Build.{discovered, ReachableOver}
+use Rattle.resolution.specs.Build.{discovered}
 use Rattle.resolution.specs.Direct.{step}
 use Rattle.resolution.specs.Discovery.{discover, expand}
 use Rattle.resolution.specs.Lists.{tabulate}
@@ -13,6 +13,7 @@ use Rattle.alert_urn.specs.Text.{all, fields, labelByte, labelOk, nameOk, onFir
 use Rattle.alert_urn.specs.Urn.{bytes, bytesFrom, noCapital, storedName, urnOk}
 use Rattle.table_sections.specs.Stored.{andThen, byteIn, counted, stored, storedFrom, text, times}
 use Rattle.stored_table.specs.Tables.{any, distinct, fewNodes, formed, isListed, judged, judgedRead, listed, noTwo, plain, single, tableOf, tableRead, tableRefusal, uses, verdict}
+use Rattle.signal_table.specs.Claims.{TooManyStates}
 use Rattle.demands.specs.Examples.{T1}
 use Rattle.demands.specs.DemandExample.{DemandExample}
 use Rattle.demands.proofs.DemandLaws.{demand-three}
@@ -25,7 +26,7 @@ four-states : length (discovered (tableOf T1) 256) ≡ 4
 unfolding fields onFirst past upTo bytes bytesFrom andThen byteIn counted stored storedFrom text times tableOf tableRead step discover expand tabulate leaf nodes
 four-states = refl
 
-few-states : ReachableOver (tableOf T1) 256 → ⊥
+few-states : TooManyStates T1 → ⊥
 few-states h = let over : 256 < length (discovered (tableOf T1) 256) = build-law (tableOf T1) 256 .found-over h in omega (arith, over, four-states)
 
 pub demand-example : DemandExample

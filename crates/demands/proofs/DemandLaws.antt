@@ -1,17 +1,19 @@
 -- The demands hold.
-use Prim.Native.Nat.{ℕ, _+_, _-_, _≤_}
+use Prim.Native.Nat.{ℕ, _+_, _-_, _≤_, _<_}
 use mathlib.Core.Path.{_≡_, refl, sym, ap, ap₂, _∙_, subst}
+use mathlib.Core.Logic.{_↔_}
 use mathlib.Core.Bool.{Bool, true, false, cond}
 use mathlib.Core.List.{List, [], _∷_, _++_, map}
 use lib.Dec.{eqb}
 use lib.ListN.{length, take, replicate}
 use lib.Seq.{take-at}
 use borrow.Author.Tests.{eq-eqb, eqb-false}
+use native.Mathlib.Decide.{decLt}
+use native.Mathlib.Omega.{arith}
 use Rattle.alert_info.specs.Value.{refusalOf, urisOf}
 use Rattle.alert_info.proofs.Agree.{refused-exactly}
 use Rattle.resolution.specs.Table.{Table}
 use Rattle.resolution.specs.Direct.{AllUsed, stepUri, changed, changes}
-use Rattle.resolution.specs.Build.{ReachableOver}
 use Rattle.node_search.specs.Uses.{usedUrn}
 use Rattle.machine_image.specs.Image.{signalIn, machineImage}
 use Rattle.machine_image.specs.Refusals as image
@@ -24,14 +26,17 @@ use Rattle.stored_table.proofs.Accepting.{accepted}
 use Rattle.machine_builder.specs.Built.{refused as without, builtOf}
 use Rattle.signal_table.specs.Built.{builtFrom, bufferFrom, checkFrom}
 use Rattle.machine_builder.specs.declared.Built.{Built}
-use Rattle.signal_table.proofs.Claims.{builds as every-build, refused-build, check-to-right, right-to-check}
+use Rattle.signal_table.specs.Claims.{TooManyStates}
+use Rattle.signal_table.proofs.Claims.{every-build, refused-build, checked}
+use Rattle.signal_table.proofs.Exactly.{build-exactly}
 use Rattle.entry_run.specs.declared.Resolution.{Resolution}
 use Rattle.resolver.specs.Resolve.{takenAs, directSignal, walkedSignal, refused, answered, unlessRefused, plainOf, machineOf}
 use Rattle.demands.specs.Demands.{WalkClaim, DemandOne, DemandTwo, DemandThree}
 use Rattle.entry_run.proofs.TakenLaws.{taken-used}
 use Rattle.early.proofs.Claims.{early-claim}
 use Rattle.resolver.proofs.TableLaws.{taken-append}
-use Rattle.demands.proofs.EarlyLaws.{plain-signal, early-number, early-refused, early-signal}
+use Rattle.demands.proofs.EarlyLaws.{plain-answer, early-number, early-refused, early-signal}
+use Rattle.demands.proofs.MachineLaws.{machine-walks, machine-fifteen}
 use Rattle.demands.proofs.AvailableLaws.{beside-plain, available-number, available-refused, available-signal}
 use Rattle.demands.proofs.RefusalLaws.{value-number, entry-number, plain-number, machine-number, build-number, check-number}
 use Rattle.demands.proofs.OneValueLaws.{feed-number, one-value}
@@ -91,7 +96,9 @@ demand-one t =
       build-refused = build-refused t;
     }
 
-image-written : (t : List ℕ) (room : ℕ) → builtFrom t room .refusal ≡ 0 → take (builtFrom t room .len) (bufferFrom t room) ≡ machineImage (tableOf t)
+image-written : (t : List ℕ) (room : ℕ) → builtFrom t room .refusal ≡ 0
+    → (builtFrom t room .len ≡ length (machineImage (tableOf t)))
+    × (bufferFrom t room ≡ machineImage (tableOf t) ++ replicate (room - length (machineImage (tableOf t))) 0)
 unfolding builtFrom bufferFrom image.buildLength image.bufferOf
 image-written t room = go (eqb (tableRefusal t) 0) refl
   where
@@ -99,23 +106,27 @@ image-written t room = go (eqb (tableRefusal t) 0) refl
     T = tableOf t
 
     go : (b : Bool) → eqb (tableRefusal t) 0 ≡ b → cond b (builtOf T room) (without (tableRefusal t)) .refusal ≡ 0
-        → take (cond b (builtOf T room) (without (tableRefusal t)) .len) (cond b (image.bufferOf T room) (replicate room 0)) ≡ machineImage T
-    go true q z = simp (eq-eqb (image.buildRefusal T room) 0 z) (take-at (machineImage T) (replicate (room - length (machineImage T)) 0) (length (machineImage T)) refl)
+        → (cond b (builtOf T room) (without (tableRefusal t)) .len ≡ length (machineImage T))
+        × (cond b (image.bufferOf T room) (replicate room 0) ≡ machineImage T ++ replicate (room - length (machineImage T)) 0)
+    go true q z = simp (eq-eqb (image.buildRefusal T room) 0 z) (refl, refl)
     go false q z = absurd (eqb-false (tableRefusal t) 0 q z)
 
 pub demand-two : DemandTwo
 demand-two t =
     record {
       values = refused-exactly;
-      plain-signal = plain-signal t;
+      plain-answer = plain-answer t;
+      machine-walks = machine-walks t;
+      machine-fifteen = machine-fifteen t;
       early-signal = early-signal t;
       early = early-claim t;
       available-signal = λ set v. available-signal t v set;
       available = λ set v. beside-plain t v set;
       ends-direct = ends-direct t;
       joined-alike = joined-alike t;
+      build-exactly = build-exactly t;
       image-written = image-written t;
-      checked = λ im. (check-to-right t im, right-to-check t im);
+      checked = checked t;
     }
 
 -- changes over a list whose members are seen through a function
@@ -165,15 +176,21 @@ module _ (t : List ℕ) (ok : tableRefusal t ≡ 0) where
   unfolding plainOf
   answers im e v z = simp (eq-eqb (refusalOf v) 0 z, eq-eqb (tableRefusal t) 0 ok) (ap (answered t (urisOf v)) (sym (same-signal im e (urisOf v))))
 
-  builds : (ReachableOver (tableOf t) 256 → ⊥) → (room : ℕ) → length (machineImage (tableOf t)) ≤ room
-      → (builtFrom t room .refusal ≡ 0) × (checkFrom t (take (builtFrom t room .len) (bufferFrom t room)) ≡ 0)
-  builds few room h =
-      let b = every-build t ok few in (
-        ap (λ (x : Built). x .refusal) (b .built room h),
-        ap₂ (λ n l. checkFrom t (take n l)) (ap (λ (x : Built). x .len) (b .built room h)) (b .written room h)
-            ∙ ap (checkFrom t) (take-at (machineImage (tableOf t)) (replicate (room - length (machineImage (tableOf t))) 0) (length (machineImage (tableOf t))) refl)
-            ∙ b .checked,
-      )
+  -- a table with at most 256 reachable states, and what its build leaves in the buffer
+  module _ (few : TooManyStates t → ⊥) (room : ℕ) where
+    has-room : Dec (room < length (machineImage (tableOf t))) → builtFrom t room .refusal ≡ 0 → length (machineImage (tableOf t)) ≤ room
+    has-room (yes h) e = absurd (omega (arith, e, build-exactly t room .fourteen .1 (ok, few, h)))
+    has-room (no n) e = omega arith
+
+    builds : (builtFrom t room .refusal ≡ 0) ↔ (length (machineImage (tableOf t)) ≤ room)
+    builds = (has-room (decLt room (length (machineImage (tableOf t)))), λ h. ap (λ (x : Built). x .refusal) (every-build t ok few .built room h))
+
+    left-checked : builtFrom t room .refusal ≡ 0 → checkFrom t (take (builtFrom t room .len) (bufferFrom t room)) ≡ 0
+    left-checked e =
+        let w = image-written t room e in
+        ap₂ (λ n l. checkFrom t (take n l)) (w .0) (w .1)
+        ∙ ap (checkFrom t) (take-at (machineImage (tableOf t)) (replicate (room - length (machineImage (tableOf t))) 0) (length (machineImage (tableOf t))) refl)
+        ∙ every-build t ok few .checked
 
 pub demand-three : DemandThree
-demand-three t ok few = record { builds = builds t ok few; walks = walk-claim t ok; alike = alike t ok; answers = answers t ok }
+demand-three t ok few = record { builds = builds t ok few; checked = left-checked t ok few; walks = walk-claim t ok; alike = alike t ok; answers = answers t ok }

@@ -11,14 +11,15 @@ use Rattle.stored_table.specs.Tables.{tableRefusal}
 use Rattle.early.specs.Early.{numberOf, refused as notAnswered, earlyOf}
 use Rattle.early.specs.declared.Early.{Early}
 use Rattle.early.proofs.Claims.{zero-number, early-claim}
+use Rattle.entry_run.specs.declared.Resolution.{Resolution}
 use Rattle.resolver.specs.Resolve.{directSignal, refused, answered, plainOf}
 use Rattle.demands.specs.Demands.{PlainNumber}
 use Rattle.demands.proofs.RefusalLaws.{plain-number}
 
 module _ (t v : List ℕ) where
-  pub plain-signal : refusalOf v ≡ 0 → tableRefusal t ≡ 0 → plainOf t v .signal ≡ directSignal t (urisOf v)
+  pub plain-answer : refusalOf v ≡ 0 → tableRefusal t ≡ 0 → plainOf t v ≡ answered t (urisOf v) (directSignal t (urisOf v))
   unfolding plainOf
-  plain-signal e z = simp (eq-eqb (refusalOf v) 0 e, eq-eqb (tableRefusal t) 0 z)
+  plain-answer e z = simp (eq-eqb (refusalOf v) 0 e, eq-eqb (tableRefusal t) 0 z)
 
   -- the full resolver is the plain one
   number-is : numberOf t v ≡ plainOf t v .refusal
@@ -45,4 +46,4 @@ module _ (t v : List ℕ) where
   early-signal e =
       let z = zero-number t v (number-is ∙ e) in
       let s = early-claim t v .same-signal (z .0) (z .1) in
-      (s .0, s .1 ∙ sym (plain-signal (z .0) (z .1)))
+      (s .0, s .1 ∙ sym (ap (λ (x : Resolution). x .signal) (plain-answer (z .0) (z .1))))

@@ -3,10 +3,12 @@ pub mod OneValueLaws
 pub mod Join
 pub mod FeedingLaws
 pub mod EarlyLaws
+pub mod MachineLaws
 pub mod AvailableLaws
 pub mod DemandLaws
 pub mod Examples
 pub mod DemandExample
 pub mod FieldsExample
 pub mod Tried
+pub mod TriedExample
 pub mod EarlyExample

@@ -1,15 +1,13 @@
 -- The plain resolver's tries.
-use mathlib.Core.Path.{_≡_, refl}
-use Prim.Native.Nat.{ℕ}
-use mathlib.Core.List.{List}
+use mathlib.Core.Path.{refl}
 use borrow.Author.Tests.{eq-eqb, ne-eqb}
 use Rattle.resolution.proofs.Tries.{tries-law}
 use Rattle.stored_table.specs.Tables.{tableOf}
 use Rattle.stored_table.proofs.Accepting.{accepted}
 use Rattle.resolver.specs.Resolve.{plainOf, plainWith}
-use Rattle.demands.specs.Tried.{Tried}
+use Rattle.demands.specs.Tried.{TriedClaim}
 
-pub tried : (t : List ℕ) → Tried t
+pub tried : TriedClaim
 unfolding plainWith
 tried t =
     record {

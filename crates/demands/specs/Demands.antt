@@ -1,5 +1,5 @@
 -- The three demands on the whole software, as claims.
-use Prim.Native.Nat.{ℕ, _≤_}
+use Prim.Native.Nat.{ℕ, _-_, _≤_}
 use mathlib.Core.Path.{_≡_}
 use mathlib.Core.Logic.{_↔_, _⊎_}
 use mathlib.Core.List.{List, [], _++_}
@@ -10,18 +10,17 @@ use Rattle.resolution.specs.Names.{Parts}
 use Rattle.resolution.specs.Table.{mostParts}
 use Rattle.resolution.specs.Direct.{usedOf, usedCount, skippedCount, stepUri, changes}
 use Rattle.resolution.specs.Says.{Says, Given}
-use Rattle.resolution.specs.Build.{ReachableOver}
 use Rattle.node_search.specs.Uses.{usedUrn}
 use Rattle.machine_image.specs.Image.{signalIn, machineImage}
 use Rattle.machine_image.specs.Walk.{stepIn}
 use Rattle.stored_table.specs.Tables.{tableRefusal, tableOf, categoryNames}
 use Rattle.carried_record.specs.declared.Carried.{Carried}
 use Rattle.signal_table.specs.Built.{builtFrom, bufferFrom, checkFrom}
-use Rattle.signal_table.specs.Claims.{RightImage}
+use Rattle.signal_table.specs.Claims.{TooManyStates, BuildExactly, RightForm, RightImage}
 use Rattle.early.specs.Early.{refused as notAnswered, earlyOf}
 use Rattle.early.specs.Claims.{EarlyClaims}
 use Rattle.available.specs.Available.{availableSignal, availableOf}
-use Rattle.resolver.specs.Resolve.{takenAs, directSignal, walkedSignal, refused, plainOf, machineOf}
+use Rattle.resolver.specs.Resolve.{takenAs, directSignal, walkedSignal, refused, answered, plainOf, machineOf}
 use Rattle.resolver.specs.Feed.{feedOf}
 use Rattle.demands.specs.Feeding.{OneValue, EndsDirect, NeverRefused, JoinedAlike}
 use Rattle.demands.specs.BesidePlain.{BesidePlain}
@@ -92,9 +91,13 @@ pub record Demand1 (t : List ℕ) : Type 0 where
 pub record Demand2 (t : List ℕ) : Type 0 where
   -- a value's number is the one that the grammar and the limits give it, both ways; 0 is accepted
   pub values : RefusedExactly
-  -- the plain resolver gives direct resolution's signal
-  pub plain-signal : (v : List ℕ) → refusalOf v ≡ 0 → tableRefusal t ≡ 0 → plainOf t v .signal ≡ directSignal t (urisOf v)
-  -- so does the early answer, for every value that the plain resolver accepts
+  -- the plain resolver gives direct resolution's signal, with the numbers of used and skipped entries
+  pub plain-answer : (v : List ℕ) → refusalOf v ≡ 0 → tableRefusal t ≡ 0 → plainOf t v ≡ answered t (urisOf v) (directSignal t (urisOf v))
+  -- the machine resolver walks any image of the right form, checked or not, and 15 is given exactly to every other
+  pub machine-walks : (im v : List ℕ) → refusalOf v ≡ 0 → tableRefusal t ≡ 0 → RightForm (tableOf t) im
+      → machineOf t im v ≡ answered t (urisOf v) (walkedSignal t im (urisOf v))
+  pub machine-fifteen : (im v : List ℕ) → (machineOf t im v .refusal ≡ 15) ↔ ((refusalOf v ≡ 0) × (tableRefusal t ≡ 0) × (RightForm (tableOf t) im → ⊥))
+  -- the early answer has direct resolution's signal too, for every value that the plain resolver accepts
   pub early-signal : (v : List ℕ) → plainOf t v .refusal ≡ 0 → (earlyOf t v .refusal ≡ 0) × (earlyOf t v .signal ≡ plainOf t v .signal)
   -- and which entries it needs is told in the words of the grammar and of the theory, both ways
   pub early : (v : List ℕ) → EarlyClaims t v
@@ -106,10 +109,14 @@ pub record Demand2 (t : List ℕ) : Type 0 where
   pub ends-direct : EndsDirect t
   -- and it gives what the values joined by commas give
   pub joined-alike : JoinedAlike t
-  -- wherever the build succeeds, it has written the machine of the table
-  pub image-written : (room : ℕ) → builtFrom t room .refusal ≡ 0 → take (builtFrom t room .len) (bufferFrom t room) ≡ machineImage (tableOf t)
+  -- the builder gives 13 and 14 exactly where they are due
+  pub build-exactly : (room : ℕ) → BuildExactly t room
+  -- wherever the build succeeds, it has written the machine of the table, and zeros after it
+  pub image-written : (room : ℕ) → builtFrom t room .refusal ≡ 0
+      → (builtFrom t room .len ≡ length (machineImage (tableOf t)))
+      × (bufferFrom t room ≡ machineImage (tableOf t) ++ replicate (room - length (machineImage (tableOf t))) 0)
   -- the checker accepts exactly the right machines
-  pub checked : (im : List ℕ) → checkFrom t im ≡ 0 ↔ RightImage t im
+  pub checked : (im : List ℕ) → (checkFrom t im ≡ 0) ↔ RightImage t im
 
 -- an image walked over URIs as bytes, used and skipped, at the point between before and after
 pub record WalkClaim (t im : List ℕ) (before after : List (List ℕ)) : Type 0 where
@@ -125,9 +132,9 @@ pub record WalkClaim (t im : List ℕ) (before after : List (List ℕ)) : Type 0
 
 -- Demand 3, for a well-formed table with at most 256 reachable states
 pub record Demand3 (t : List ℕ) : Type 0 where
-  -- the build succeeds in every buffer that holds the image, and the checker accepts what it leaves there
-  pub builds : (room : ℕ) → length (machineImage (tableOf t)) ≤ room
-      → (builtFrom t room .refusal ≡ 0) × (checkFrom t (take (builtFrom t room .len) (bufferFrom t room)) ≡ 0)
+  -- the build succeeds in exactly the buffers that hold the image, and the checker accepts what it leaves there
+  pub builds : (room : ℕ) → (builtFrom t room .refusal ≡ 0) ↔ (length (machineImage (tableOf t)) ≤ room)
+  pub checked : (room : ℕ) → builtFrom t room .refusal ≡ 0 → checkFrom t (take (builtFrom t room .len) (bufferFrom t room)) ≡ 0
   -- for that image or any other that the checker accepts, over every list of URIs
   pub walks : (im : List ℕ) → checkFrom t im ≡ 0 → (before after : List (List ℕ)) → WalkClaim t im before after
   -- for all bytes as a value both resolvers answer alike, in all four numbers
@@ -150,4 +157,4 @@ abbrev pub DemandTwo : Type 0
 DemandTwo = (t : List ℕ) → Demand2 t
 
 abbrev pub DemandThree : Type 0
-DemandThree = (t : List ℕ) → tableRefusal t ≡ 0 → (ReachableOver (tableOf t) 256 → ⊥) → Demand3 t
+DemandThree = (t : List ℕ) → tableRefusal t ≡ 0 → (TooManyStates t → ⊥) → Demand3 t

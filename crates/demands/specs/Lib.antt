@@ -1,4 +1,4 @@
--- what a reader has to believe
+-- what is claimed
 pub mod Demands
 pub mod Feeding
 pub mod Tried
@@ -8,3 +8,4 @@ pub mod Examples
 pub mod DemandExample
 pub mod FieldsExample
 pub mod EarlyExample
+pub mod TriedExample

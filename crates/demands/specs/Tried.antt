@@ -26,3 +26,7 @@ pub record Tried (t : List ℕ) : Type 0 where
   pub few : tableRefusal t ≡ 0 → (st : State) (u : Urn) → tries (envOf (tableOf t)) (nodes (tableOf t)) st u ≤ 9
   -- what is deeper than the deepest node need not be looked up: no search changes, and what is counted is what is looked up
   pub law : tableRefusal t ≡ 0 → TriesLaw (tableOf t)
+
+-- what is proved
+abbrev pub TriedClaim : Type 0
+TriedClaim = (t : List ℕ) → Tried t

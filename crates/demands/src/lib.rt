@@ -3,4 +3,5 @@
 //   specs/Demands    the three demands
 //   specs/Feeding    what feeding several values comes to
 //   specs/Tried      the plain resolver's tries
-//   specs/Examples   a dozen values marked by hand, and that no claim is empty
+//   specs/Examples   eleven values and an image marked by hand; that no claim is empty stands in DemandExample, FieldsExample and
+//                    EarlyExample, and that 9 tries are needed in TriedExample

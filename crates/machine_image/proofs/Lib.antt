@@ -8,6 +8,5 @@ pub mod Bytes
 pub mod Check
 pub mod Build
 pub mod Walk
-pub mod Uris
 pub mod Read
 pub mod Positions

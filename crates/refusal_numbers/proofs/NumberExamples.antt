@@ -5,6 +5,11 @@ use mathlib.Core.Bool.{true, false}
 use mathlib.Core.List.{List, [], _∷_, map}
 use lib.ListN.{length, replicate}
 use native.Mathlib.Omega.{arith}
+use Rattle.alert_info.specs.Bytes.{isBlank, isEscapable, isText, isToken, isUri}
+use Rattle.alert_info.specs.Parts.{blankAt, endingAt, endingStep, entryAt, followingAt, paramAt, quoteAt, quotedAt, quotedFrom, quotedStep, settingAt, tokenAt, whiteAt, whiteStep}
+use Rattle.alert_info.specs.Value.{readingFrom, readingOf, refusalOf, spansOf, urisOf, valueStep}
+use Rattle.alert_info.specs.Walk.{run, runAt, walk, walkAt}
+use Rattle.alert_info.specs.Examples.{entriesMore}
 use Rattle.resolution.specs.Build.{discovered, ReachableOver}
 use Rattle.resolution.specs.Direct.{start, sameState, step}
 use Rattle.resolution.specs.Discovery.{discover, expand}
@@ -14,13 +19,16 @@ use Rattle.resolution.specs.Symbols.{symbols, stepAt}
 use Rattle.resolution.proofs.Direct.{state-exact}
 use Rattle.resolution.proofs.Discovery.{discover-distinct, discover-reached}
 use Rattle.alert_urn.specs.Text.{all, fields, labelByte, labelOk, nameOk, onFirst, past, upTo}
-use Rattle.alert_urn.specs.Urn.{noCapital, storedName, urnOk, bytesFrom, bytes}
+use Rattle.alert_urn.specs.Urn.{alertUrn, begins, lowered, noCapital, storedName, restOk, urnOk, bytesFrom, bytes}
+use Rattle.node_search.specs.Uses.{usedUrn}
 use Rattle.machine_image.specs.Image.{statusBytes, machineIn, imageOf, joined}
 use Rattle.machine_image.specs.Refusals.{buildRefusal, formOf, stateFormed, checkOf}
 use Rattle.table_sections.specs.Stored.{andThen, byteIn, counted, stored, storedFrom, text, times}
-use Rattle.stored_table.specs.Tables.{any, distinct, fewNodes, formed, isListed, judged, judgedRead, listed, noTwo, plain, single, tableOf, tableRead, tableRefusal, uses, verdict}
+use Rattle.stored_table.specs.Tables.{any, categoryNames, distinct, fewNodes, formed, isListed, judged, judgedRead, listed, namesRead, noTwo, plain, single, tableOf, tableRead, tableRefusal, uses, verdict}
 use Rattle.stored_table.specs.Examples.{least}
 use Rattle.carried_record.specs.Record.{carriedFits}
+use Rattle.early.specs.FirstEntries.{frontFrom, frontStep}
+use Rattle.early.specs.Early.{earlyOf}
 use Rattle.signal_table.specs.Built.{builtFrom, checkFrom}
 use Rattle.refusal_numbers.specs.Numbers.{image, wrongImages, manyStates, afterValues}
 
@@ -42,6 +50,15 @@ over-many =
       reached = discover-reached sameState state-exact (stepAt T) (length (symbols T)) (start (T .cats)) 13;
       over = omega (arith, found-many);
     }
+
+-- the early question about no entry, and about 65 that are all skipped
+pub none-early : earlyOf least [] .refusal ≡ 2
+unfolding isBlank isEscapable isText isToken isUri blankAt endingAt endingStep entryAt followingAt paramAt quoteAt quotedAt quotedFrom quotedStep settingAt tokenAt whiteAt whiteStep readingFrom readingOf refusalOf spansOf urisOf valueStep run runAt walk walkAt all fields labelByte labelOk nameOk onFirst past upTo alertUrn begins bytes bytesFrom restOk lowered noCapital storedName urnOk usedUrn step nodes andThen byteIn counted stored storedFrom text times any categoryNames distinct fewNodes formed isListed judged judgedRead listed namesRead noTwo plain single tableOf tableRead tableRefusal uses verdict tabulate each leaf frontFrom frontStep earlyOf
+none-early = refl
+
+pub many-early : earlyOf least (entriesMore 64) .refusal ≡ 3
+unfolding isBlank isEscapable isText isToken isUri blankAt endingAt endingStep entryAt followingAt paramAt quoteAt quotedAt quotedFrom quotedStep settingAt tokenAt whiteAt whiteStep readingFrom readingOf refusalOf spansOf urisOf valueStep run runAt walk walkAt all fields labelByte labelOk nameOk onFirst past upTo alertUrn begins bytes bytesFrom restOk lowered noCapital storedName urnOk usedUrn step nodes andThen byteIn counted stored storedFrom text times any categoryNames distinct fewNodes formed isListed judged judgedRead listed namesRead noTwo plain single tableOf tableRead tableRefusal uses verdict tabulate each leaf frontFrom frontStep earlyOf
+many-early = refl
 
 -- the least table's machine fits 21 bytes
 pub fits-room : builtFrom least 21 .refusal ≡ 0

@@ -1,5 +1,5 @@
 -- Every number that demand 1 allows is given: the values' and the tables' as the crates beneath show, the others by example.
-use Prim.Native.Nat.{ℕ, _/_, _%_, _^_, _≤_, _<_}
+use Prim.Native.Nat.{ℕ, zero, suc, _/_, _%_, _^_, _≤_, _<_}
 use mathlib.Core.Path.{_≡_, refl, sym, ap, _∙_}
 use mathlib.Core.Logic.{_⊎_, inl, inr}
 use mathlib.Core.Bool.{Bool, true, false, cond}
@@ -10,6 +10,8 @@ use borrow.Author.Tests.{leb-true, leb-false, eqb-true, eqb-false, eq-eqb, ne-eq
 use native.Mathlib.Omega.{arith}
 use native.Mathlib.Nat.{zero-div}
 use Rattle.alert_info.specs.Value.{refusalOf, urisOf, entryRefusalOf}
+use Rattle.alert_info.specs.Examples.{entriesMore}
+use Rattle.alert_info.proofs.Agree.{refused-exactly}
 use Rattle.alert_info.proofs.Examples.{each-number as each-value, each-entry-number as each-entry}
 use Rattle.resolution.specs.Build.{discovered}
 use Rattle.resolution.proofs.Theorems.{build-law}
@@ -26,15 +28,19 @@ use Rattle.signal_table.specs.Built.{builtFrom, checkFrom}
 use Rattle.entry_run.specs.declared.Resolution.{Resolution}
 use Rattle.resolver.specs.Resolve.{unlessRefused, refused, answered, directSignal, walkedSignal, plainOf, machineOf}
 use Rattle.resolver.specs.Feed.{feedOf}
+use Rattle.early.specs.Early.{earlyOf}
+use Rattle.early.specs.declared.Early.{Early}
+use Rattle.early.proofs.Claims.{early-claim}
 use Rattle.available.specs.Claims.{Strange}
 use Rattle.available.specs.Available.{availableOf}
 use Rattle.demands.specs.Demands.{ValueNumber, EntryNumber, PlainNumber, MachineNumber, AvailableNumber, FeedNumber, BuildNumber, CheckNumber}
 use Rattle.refusal_numbers.specs.Numbers.{EachNumber, image, wrongImages, manyStates, afterValues}
 use Rattle.entry_run.proofs.AnswerLaws.{value-refused, table-refused, none-refused}
 use Rattle.demands.proofs.AvailableLaws.{beside-plain}
+use Rattle.demands.proofs.EarlyLaws.{early-refused, early-signal}
 use Rattle.demands.proofs.OneValueLaws.{one-value}
 use Rattle.demands.proofs.FeedingLaws.{never-refused}
-use Rattle.refusal_numbers.proofs.NumberExamples.{many-formed, over-many, fits-room, no-room, right-image, wrong-images, right-form, no-form, two-signals, sixteen-fit, seventeen-unfit}
+use Rattle.refusal_numbers.proofs.NumberExamples.{many-formed, over-many, none-early, many-early, fits-room, no-room, right-image, wrong-images, right-form, no-form, two-signals, sixteen-fit, seventeen-unfit}
 
 -- an accepted value
 value : (v : List ℕ) × (refusalOf v ≡ 0)
@@ -66,10 +72,45 @@ plain-least : plainOf least (value .0) .refusal ≡ 0
 unfolding plainOf
 plain-least = own-number (answered least (urisOf (value .0)) (directSignal least (urisOf (value .0))))
 
+-- a refused value's number, and a refused table's
+plain-value : (v : List ℕ) (n : ℕ) → refusalOf v ≡ n → 1 ≤ n → plainOf least v .refusal ≡ n
+unfolding plainOf
+plain-value v n e h = sym (ap (λ (x : Resolution). x .refusal) (value-refused least v (answered least (urisOf v) (directSignal least (urisOf v))) e h))
+
+plain-table : (t : List ℕ) (n : ℕ) → tableRefusal t ≡ n → (tableRefusal t ≡ 0 → ⊥) → plainOf t (value .0) .refusal ≡ n
+unfolding plainOf
+plain-table t n e z =
+    sym (ap (λ (x : Resolution). x .refusal) (table-refused t (value .0) (answered t (urisOf (value .0)) (directSignal t (urisOf (value .0)))) (value .1) z)) ∙ e
+
 plain-each : (n : ℕ) → PlainNumber n → (t v : List ℕ) × (plainOf t v .refusal ≡ n)
 unfolding plainOf
 plain-each n (inl e) = (least, value .0, plain-least ∙ sym e)
 plain-each n (inr h) = first-numbers (λ t v. answered t (urisOf v) (directSignal t (urisOf v))) n (h .0) (h .1)
+
+-- the early question: a long value or a refused table is never answered, so it has the plain resolver's number
+early-as-plain : (t v : List ℕ) → ((length v ≤ 4096) × (tableRefusal t ≡ 0) → ⊥) → earlyOf t v .refusal ≡ plainOf t v .refusal
+early-as-plain t v n = ap (λ (x : Early). x .refusal) (early-refused t v (λ z. let w = early-claim t v .there z in n (w .1 .short, w .1 .formed)))
+
+early-each : (n : ℕ) → PlainNumber n → (t v : List ℕ) × (earlyOf t v .refusal ≡ n)
+early-each n (inl e) = (least, value .0, early-signal least (value .0) plain-least .0 ∙ sym e)
+early-each n (inr h) = go (whose n (h .0) (h .1))
+  where
+    of-value : (n : ℕ) → 1 ≤ n → n ≤ 3 → (t v : List ℕ) × (earlyOf t v .refusal ≡ n)
+    of-value zero a b = absurd (omega arith)
+    of-value (suc zero) a b =
+        let v = each-value 1 (omega arith) in
+        let long : 4096 < length (v .0) = refused-exactly (v .0) 1 .0 (v .1) in
+        (least, v .0, early-as-plain least (v .0) (λ w. omega (arith, long, w .0)) ∙ plain-value (v .0) 1 (v .1) (omega arith))
+    of-value (suc (suc zero)) a b = (least, [], none-early)
+    of-value (suc (suc (suc zero))) a b = (least, entriesMore 64, many-early)
+    of-value (suc (suc (suc (suc k)))) a b = absurd (omega arith)
+
+    go : (n ≤ 3) ⊎ ((4 ≤ n) × (n ≤ 12)) → (t v : List ℕ) × (earlyOf t v .refusal ≡ n)
+    go (inl few) = of-value n (h .0) few
+    go (inr due) =
+        let t = each-table n (inr due) in
+        let z : tableRefusal (t .0) ≡ 0 → ⊥ = λ q. omega (arith, t .1, q, due .0) in
+        (t .0, value .0, early-as-plain (t .0) (value .0) (λ w. z (w .1)) ∙ plain-table (t .0) n (t .1) z)
 
 -- the machine resolver's own answer
 abbrev walked : List ℕ → List ℕ → List ℕ → Resolution
@@ -162,6 +203,7 @@ each-number =
       by-entry = entry-each;
       by-table = each-table;
       by-plain = plain-each;
+      by-early = early-each;
       by-machine = machine-each;
       by-available = available-each;
       by-feed = feed-each;

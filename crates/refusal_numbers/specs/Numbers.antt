@@ -10,6 +10,7 @@ use Rattle.stored_table.specs.Examples.{one}
 use Rattle.carried_record.specs.declared.Carried.{Carried}
 use Rattle.signal_table.specs.Built.{builtFrom, checkFrom}
 use Rattle.resolver.specs.Resolve.{plainOf, machineOf}
+use Rattle.early.specs.Early.{earlyOf}
 use Rattle.available.specs.Available.{availableOf}
 use Rattle.resolver.specs.Feed.{feedOf}
 use Rattle.demands.specs.Demands.{ValueNumber, EntryNumber, TableNumber, PlainNumber, MachineNumber, AvailableNumber, FeedNumber, BuildNumber, CheckNumber}
@@ -19,6 +20,7 @@ pub record EachNumber : Type 0 where
   pub by-entry : (n : ℕ) → EntryNumber n → (v : List ℕ) × (k : ℕ) × (entryRefusalOf v k ≡ n)
   pub by-table : (n : ℕ) → TableNumber n → (t : List ℕ) × (tableRefusal t ≡ n)
   pub by-plain : (n : ℕ) → PlainNumber n → (t v : List ℕ) × (plainOf t v .refusal ≡ n)
+  pub by-early : (n : ℕ) → PlainNumber n → (t v : List ℕ) × (earlyOf t v .refusal ≡ n)
   pub by-machine : (n : ℕ) → MachineNumber n → (t im v : List ℕ) × (machineOf t im v .refusal ≡ n)
   pub by-available : (n : ℕ) → AvailableNumber n → (t : List ℕ) × (set : ℕ) × (v : List ℕ) × (availableOf t set v .refusal ≡ n)
   pub by-feed : (n : ℕ) → FeedNumber n → (t : List ℕ) × (r : Carried) × (v : List ℕ) × (feedOf t r v .answer .refusal ≡ n)

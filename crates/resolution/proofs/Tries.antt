@@ -218,7 +218,3 @@ tries-law t wf =
       bounded = tries-bounded t;
       sum = tries-sum t;
     }
-
--- at most 9 tries for each URN, where no node has over 8 parts
-pub tries-within : (t : Table) → ((n : Urn) → List·Memᴰ n (nodes t) → length (n .path) ≤ 8) → (st : State) (u : Urn) → tries (envOf t) (nodes t) st u ≤ 9
-tries-within t = tries-bounded t 8

@@ -10,11 +10,11 @@ pub mod Direct
 pub mod Says
 pub mod Symbols
 pub mod Machine
+pub mod Discovery
 pub mod Build
 pub mod Settled
 pub mod Tries
 pub mod Available
-
 -- what is claimed of it, and what the definitions mean
 pub mod Laws
 pub mod Claim
@@ -23,4 +23,3 @@ pub mod MachineMeaning
 pub mod Examples
 -- what only the code's inner promises use
 pub mod NodeStep
-pub mod Discovery

@@ -97,7 +97,7 @@ pub record StepLaw (t : Table) (st : State) (u : Urn) : Type 0 where
   pub taken : getD (st .status) (u .cat) Open ≡ Open → (x : Name) (r : Parts) → place t (st .signal) (u .cat) ++ x ∷ r ≡ u .path → Taken t st u
   pub taken-held : (w : Parts) → getD (st .status) (u .cat) Open ≡ Held w → (x : Name) (r : Parts) → w ++ x ∷ r ≡ u .path → Taken t st u
 
--- direct resolution begins with the silent signal and nothing shut; it takes the URNs of a list one after the other
+-- direct resolution begins with the silent signal and nothing shut or held; it takes the URNs of a list one after the other
 pub record RunLaw (t : Table) : Type 0 where
   pub signal-0 : start (t .cats) .signal ≡ 0
   pub each-status : length (start (t .cats) .status) ≡ t .cats

@@ -81,7 +81,7 @@ pub record TriesLaw (t : Table) : Type 0 where
   -- the tries are those at the deepest node
   pub at-node : (st : State) → StateOf t st → (u : Urn) → u .cat < t .cats
       → tries (envOf t) (nodes t) st u ≡ nodeTries (envOf t) st (u .cat) (deepestOf t u) (sameParts (deepestOf t u) (u .path))
-  -- no URN costs more than one try over its deepest node's parts: 9, where no node, so no signal's URN, has over 8
+  -- no URN costs more than one try over its deepest node's parts
   pub few : (st : State) (u : Urn) → tries (envOf t) (nodes t) st u ≤ suc (length (deepestOf t u))
   pub low : (k : ℕ) → ((sig : List Urn) → List·Memᴰ sig (t .signals) → (u : Urn) → List·Memᴰ u sig → length (u .path) ≤ k) → (n : Urn) → List·Memᴰ n (nodes t) → length (n .path) ≤ k
   pub bounded : (k : ℕ) → ((n : Urn) → List·Memᴰ n (nodes t) → length (n .path) ≤ k) → (st : State) (u : Urn) → tries (envOf t) (nodes t) st u ≤ suc k

@@ -8,7 +8,7 @@ use borrow.Author.Tests.{eq-eqb, eqb-true, eqb-false}
 use lib.ListN.{replicate}
 use Rattle.resolution.specs.Names.{Parts}
 use Rattle.resolution.specs.Nodes.{nodes, isNode}
-use Rattle.resolution.specs.Build.{discovered, ReachableOver, machineOf}
+use Rattle.resolution.specs.Build.{discovered, machineOf}
 use Rattle.resolution.proofs.Nodes.{urn-node}
 use Rattle.stored_table.specs.Tables.{tableOf, tableRefusal}
 use Rattle.stored_table.proofs.Accepting.{accepted}
@@ -18,7 +18,7 @@ use Rattle.machine_image.proofs.Build.{few-found, own-storable, reachable-accep
 use Rattle.machine_image.proofs.Check.{check-to, check-of}
 use Rattle.machine_builder.specs.Built.{refused, builtOf}
 use Rattle.signal_table.specs.Built.{builtFrom, bufferFrom, checkFrom}
-use Rattle.signal_table.specs.Claims.{Builds, RefusedBuild, RightImage}
+use Rattle.signal_table.specs.Claims.{TooManyStates, Builds, RefusedBuild, RightImage, BuildsClaim, RefusedClaim, CheckedClaim}
 use Rattle.signal_table.proofs.FormRight.{form-to-right, right-to-form}
 
 -- each category of a well-formed table has a node
@@ -33,7 +33,7 @@ module _ (t : List ℕ) (e : tableRefusal t ≡ 0) where
   same = eq-eqb (tableRefusal t) 0 e
 
   -- a build of a well-formed table with at most 256 reachable states
-  pub builds : (ReachableOver (tableOf t) 256 → ⊥) → Builds t
+  builds : (TooManyStates t → ⊥) → Builds t
   unfolding builtFrom bufferFrom checkFrom
   builds few =
       let a = accepted t e in
@@ -47,8 +47,11 @@ module _ (t : List ℕ) (e : tableRefusal t ≡ 0) where
         checked = ap (λ b. cond b (checkOf (tableOf t) (machineImage (tableOf t))) (tableRefusal t)) same ∙ reachable-accepted (tableOf t) (a .well) few;
       }
 
+pub every-build : BuildsClaim
+every-build = builds
+
 -- a refused build, whatever the bytes and the room
-pub refused-build : (t : List ℕ) (room : ℕ) → (builtFrom t room .refusal ≡ 0 → ⊥) → RefusedBuild t room
+pub refused-build : RefusedClaim
 unfolding builtFrom bufferFrom buildLength bufferOf
 refused-build t room n = go (eqb (tableRefusal t) 0) refl
   where
@@ -62,7 +65,7 @@ refused-build t room n = go (eqb (tableRefusal t) 0) refl
 
 -- the checker accepts exactly the right images
 module _ (t im : List ℕ) where
-  pub check-to-right : checkFrom t im ≡ 0 → RightImage t im
+  check-to-right : checkFrom t im ≡ 0 → RightImage t im
   unfolding checkFrom
   check-to-right h = go (eqb (tableRefusal t) 0) refl
     where
@@ -72,7 +75,10 @@ module _ (t im : List ℕ) where
           let w = check-to (tableOf t) im (sym (ap (λ b. cond b (checkOf (tableOf t) im) (tableRefusal t)) e) ∙ h) in
           record { well-formed = eqb-true (tableRefusal t) 0 e; form = form-to-right (tableOf t) im (w .0); right = w .1 }
 
-  pub right-to-check : RightImage t im → checkFrom t im ≡ 0
+  right-to-check : RightImage t im → checkFrom t im ≡ 0
   unfolding checkFrom
   right-to-check r =
       ap (λ b. cond b (checkOf (tableOf t) im) (tableRefusal t)) (eq-eqb (tableRefusal t) 0 (r .well-formed)) ∙ check-of (tableOf t) im (right-to-form (tableOf t) im (r .form)) (r .right)
+
+pub checked : CheckedClaim
+checked t im = (check-to-right t im, right-to-check t im)

@@ -2,3 +2,4 @@ pub mod TableRight
 pub mod FormRight
 pub mod MatchLaws
 pub mod Claims
+pub mod Exactly

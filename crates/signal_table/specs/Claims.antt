@@ -1,15 +1,26 @@
 -- What holds of every build and of every image that the checker accepts.
 use Prim.Native.Nat.{ℕ, _-_, _*_, _≤_, _<_}
 use mathlib.Core.Path.{_≡_}
+use mathlib.Core.Logic.{_↔_}
 use mathlib.Core.List.{List, _++_}
 use lib.ListN.{length, take, drop, replicate}
 use Rattle.resolution.specs.Table.{Table, place}
 use Rattle.resolution.specs.Machine.{Accepted}
+use Rattle.resolution.specs.Build.{ReachableOver}
 use Rattle.stored_table.specs.Tables.{tableOf, tableRefusal}
 use Rattle.machine_image.specs.Image.{storedSymbols, machineImage, symbolCount, stateCount, placeOf, signalIn, byteIn, targetIn, machineIn}
 use Rattle.machine_image.specs.Positions.{ByteOf}
 use Rattle.machine_builder.specs.Built.{accepted}
 use Rattle.signal_table.specs.Built.{builtFrom, bufferFrom, checkFrom}
+
+-- over 256 states can be reached
+abbrev pub TooManyStates : List ℕ → Type 0
+TooManyStates t = ReachableOver (tableOf t) 256
+
+-- the builder's own numbers, both ways: too many states first, then too little room
+pub record BuildExactly (t : List ℕ) (room : ℕ) : Type 0 where
+  pub thirteen : (builtFrom t room .refusal ≡ 13) ↔ ((tableRefusal t ≡ 0) × TooManyStates t)
+  pub fourteen : (builtFrom t room .refusal ≡ 14) ↔ ((tableRefusal t ≡ 0) × (TooManyStates t → ⊥) × (room < length (machineImage (tableOf t))))
 
 -- of a well-formed table with at most 256 reachable states
 pub record Builds (t : List ℕ) : Type 0 where
@@ -44,3 +55,16 @@ pub record RightImage (t im : List ℕ) : Type 0 where
   pub well-formed : tableRefusal t ≡ 0
   pub form : RightForm (tableOf t) im
   pub right : Accepted (tableOf t) (machineIn (tableOf t) im)
+
+-- what is proved
+abbrev pub BuildsClaim : Type 0
+BuildsClaim = (t : List ℕ) → tableRefusal t ≡ 0 → (TooManyStates t → ⊥) → Builds t
+
+abbrev pub RefusedClaim : Type 0
+RefusedClaim = (t : List ℕ) (room : ℕ) → (builtFrom t room .refusal ≡ 0 → ⊥) → RefusedBuild t room
+
+abbrev pub ExactlyClaim : Type 0
+ExactlyClaim = (t : List ℕ) (room : ℕ) → BuildExactly t room
+
+abbrev pub CheckedClaim : Type 0
+CheckedClaim = (t im : List ℕ) → (checkFrom t im ≡ 0) ↔ RightImage t im

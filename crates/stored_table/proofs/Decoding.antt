@@ -1,11 +1,11 @@
 -- From the nodes and the places to the answer: 9 to 12, and what the arrays of an accepted table hold.
-use Prim.Native.Nat.{ℕ, suc, _+_, _≤_, _<_}
+use Prim.Native.Nat.{ℕ, zero, suc, _+_, _≤_, _<_}
 use mathlib.Core.Path.{_≡_, refl, ap, ap₂, sym, _∙_, subst}
 use mathlib.Core.Logic.{inl, inr, _≢_}
 use mathlib.Core.Bool.{Bool, true, false, cond, not}
 use mathlib.Core.List.{List, [], _∷_, _++_, map, foldl}
 use native.Mathlib.Omega.{arith}
-use borrow.Author.Tests.{lt-leb}
+use borrow.Author.Tests.{lt-leb, ne-eqb}
 use lib.ListN.{length, getD, length-append}
 use Rattle.alert_urn.specs.Text.{fields}
 use Rattle.resolution.specs.Lists.{tabulate}
@@ -80,6 +80,19 @@ module _ (t nameAt nameLen signal category pathAt pathLen : List ℕ) (l : Count
           few-nodes = omega (arith, count);
         }
 
+    -- no parent's number is over n, so nothing past the nodes has nodes under it
+    low : (c : ℕ) (p : Parts) (k : ℕ) → Numbered (nodes T) c p k → k ≤ n
+    low c p k (inl e) = omega (arith, e .0)
+    low c p k (inr w) = omega (arith, w .1, w .2, count)
+
+    childless-past : (d m : ℕ) → m ≤ n → n < d → childless parents d m ≡ true
+    unfolding childless
+    childless-past d zero a b = refl
+    childless-past d (suc m) a b =
+        let w = N .parent m (omega (arith, a)) in
+        let far : getD parents m 0 ≡ d → ⊥ = λ e. omega (arith, e, b, low (nodeAt (nodes T) m .cat) (w .0) (getD parents m 0) (w .3)) in
+        rw (childless-past d m (omega (arith, a)) b, ne-eqb (getD parents m 0) d far)
+
     node-is : (i : ℕ) → i < n → nodeAt (nodes T) i ≡ nodeUrn t cats at len i
     node-is i k = ap (λ (z : List Urn). nodeAt z i) (sym (N .held)) ∙ tabulate-at (nodeUrn t cats at len) n i (urn 0 []) k
 
@@ -148,6 +161,8 @@ module _ (t nameAt nameLen signal category pathAt pathLen : List ℕ) (l : Count
               parent = N .past-parents;
               at = N .past-at;
               len = N .past-len;
+              inner = λ k a b.
+                  marked k b ∙ ap (λ m. not (childless parents (k + 1) m)) (sym few) ∙ ap not (childless-past (k + 1) n (omega arith) (omega (arith, a)));
               rows = P .past z;
             };
           }

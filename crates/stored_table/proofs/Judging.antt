@@ -16,6 +16,7 @@ use Rattle.resolution.specs.Table.{Urn, urn, Table}
 use Rattle.resolution.proofs.Lists.{tabulate-same, tabulate-length, tabulate-at, index-member, index-at}
 use Rattle.resolution.proofs.Names.{name-exact}
 use Rattle.node_search.specs.Arrays.{stretch}
+use Rattle.node_search.proofs.MarkLaws.{unmarked}
 use Rattle.table_sections.specs.Stored.{fault, got, Stored, stored, sections}
 use Rattle.table_sections.specs.Held.{tag, taggedFrom, joined, urnAt, ReadAs}
 use Rattle.table_sections.specs.declared.Counts.{Counts}
@@ -34,7 +35,7 @@ use Rattle.table_categories.proofs.Indexing.{index-below}
 -- a refused table
 past-none : (k : ℕ) → Past (refusedTable k)
 past-none k =
-    record { name-at = clear 8; name-len = clear 8; category = clear 64; parent = clear 64; at = clear 64; len = clear 64; rows = clear 32 }
+    record { name-at = clear 8; name-len = clear 8; category = clear 64; parent = clear 64; at = clear 64; len = clear 64; inner = λ i _ _. unmarked 64 i; rows = clear 32 }
 
 pub means-refused : (t : List ℕ) (k : ℕ) {r : Decoded} → r ≡ refusedTable k → tableRefusal t ≡ k → (k ≡ 0 → ⊥) → Means t r
 means-refused t k {r} e f n =

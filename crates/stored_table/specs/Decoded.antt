@@ -1,9 +1,9 @@
 -- What decoding answers: the arrays stand for the table that the bytes say.
-use Prim.Native.Nat.{ℕ}
+use Prim.Native.Nat.{ℕ, _≤_, _<_}
 use mathlib.Core.Path.{_≡_}
 use mathlib.Core.Bool.{false}
 use mathlib.Core.List.{List}
-use lib.ListN.{replicate}
+use lib.ListN.{getD, replicate}
 use Rattle.resolution.specs.Table.{Table, WellFormed}
 use Rattle.node_search.specs.Arrays.{NamesIn, NodesIn, SharedIn, InnerIn}
 use Rattle.node_step.specs.Rows.{Numbers}
@@ -40,7 +40,7 @@ pub record Holds (t : List ℕ) (T : Table) (r : Decoded) : Type 0 where
   pub numbers : Numbers (r .rows) (r .parent) (r .signals) T
   pub well-formed : WellFormed T
 
--- past what the counts say, the arrays are 0
+-- past what the counts say, the arrays are 0, and no node is there that has nodes under it
 pub record Past (r : Decoded) : Type 0 where
   pub name-at : Padded 8 (r .categories) (r .«name_at»)
   pub name-len : Padded 8 (r .categories) (r .«name_len»)
@@ -48,6 +48,7 @@ pub record Past (r : Decoded) : Type 0 where
   pub parent : Padded 64 (r .nodes) (r .parent)
   pub at : Padded 64 (r .nodes) (r .at)
   pub len : Padded 64 (r .nodes) (r .len)
+  pub inner : (k : ℕ) → r .nodes ≤ k → k < 64 → getD (r .inner) k false ≡ false
   pub rows : Padded 32 (r .signals) (r .rows)
 
 -- what `decode` answers

@@ -4,8 +4,9 @@ pub mod Tables
 pub mod Accepted
 pub mod Capitals
 pub mod Limits
+-- the examples, and how their tables are written
+pub mod Written
 pub mod Examples
 -- what only the code's inner promises use
 pub mod Stages
 pub mod Decoded
-pub mod Written

@@ -162,7 +162,6 @@ module _ (t cats parents at len : List ℕ) (n : ℕ) (ns : List Urn) (N : Nodes
               kept = λ _. (
                 record {
                   held = held;
-                  few = omega arith;
                   parent = parent;
                   past-cats = pad-set 64 n cats c (N .past-cats);
                   past-parents = pad-set 64 n parents q (N .past-parents);
@@ -373,7 +372,7 @@ pub nodes-none : (t cats parents at len : List ℕ) (f : ℕ → Urn) → Padded
     → Nodes t cats parents at len 0 (foldl addUrn [] (tabulate f 0))
 unfolding tabulate
 nodes-none t cats parents at len f a b c d =
-    record { held = refl; few = omega arith; parent = λ k h. absurd (omega arith); past-cats = a; past-parents = b; past-at = c; past-len = d }
+    record { held = refl; parent = λ k h. absurd (omega arith); past-cats = a; past-parents = b; past-at = c; past-len = d }
 
 pub all-end : {t : List ℕ} {f : ℕ → Urn} (i m : ℕ) {node cats parents at len : List ℕ} {n : ℕ} → i ≤ m → m ≤ i → n ≤ 64
     → Nodes t cats parents at len n (foldl addUrn [] (tabulate f i)) → ((j : ℕ) → j < i → Numbered (foldl addUrn [] (tabulate f i)) (f j .cat) (f j .path) (getD node j 0))

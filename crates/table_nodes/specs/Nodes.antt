@@ -29,7 +29,6 @@ Numbered ns c p k = ((k ≡ 0) × (p ≡ [])) ⊎ ((j : ℕ) × (k ≡ suc j) ×
 -- the arrays hold the nodes ns, each with the number of its parent, and nothing after them
 pub record Nodes (t cats parents at len : List ℕ) (n : ℕ) (ns : List Urn) : Type 0 where
   pub held : tabulate (nodeUrn t cats at len) n ≡ ns
-  pub few : n ≤ 64
   pub parent : (k : ℕ) → k < n → (p : Parts) × (x : Name) × (nodeAt ns k .path ≡ p ++ x ∷ []) × Numbered ns (nodeAt ns k .cat) p (getD parents k 0)
   pub past-cats : Padded 64 n cats
   pub past-parents : Padded 64 n parents

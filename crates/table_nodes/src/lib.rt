@@ -95,7 +95,7 @@ pub struct Added {
     pub new: bool,
 }
 
-// The node of category c with the path in the len bytes from `at`, under the node `parent`, is added unless it is there.
+// The node of category c with the path in the k bytes at `from`, under the node `parent`, is added unless it is there.
 fn add_node(
     t: &[u8],
     c: u8,

@@ -99,12 +99,11 @@ holds-cleared t n m = record {
   all-records = length-replicate n none;
   all-counts = length-replicate m 0;
   records = λ s h. getD-all n s none;
-  counts = λ k a b. getD-all {A = ℕ} m (k - 1) 0;
+  counts = λ i a. getD-all {A = ℕ} m i 0;
   together = ap₂ (λ (a b : ℕ). a + b) (sum-zero (chosenAt (replicate n none)) (length (replicate n none)) (λ i. ap (λ (x : Tally). x .chosen) (getD-all n i none)))
-      (sum-zero (countAt (replicate m 0)) 12 (λ i. getD-all {A = ℕ} m i 0));
+      (sum-zero (countAt (replicate m 0)) (length (replicate m 0)) (λ i. getD-all {A = ℕ} m i 0));
   in-range = λ s. ap fits (getD-all n s none);
   counts-in-range = λ i. let z = getD-all {A = ℕ} m i 0 in omega (arith, z);
-  past = λ i h. getD-all {A = ℕ} m i 0;
 }
 
 -- one value more
@@ -127,7 +126,11 @@ module _ (t : List ℕ) (n m : ℕ) (ks : List (List ℕ)) (x : Lent) (h : Holds
 
     -- the count of a refused value is the sum's
     count-is : (p .refusal ≡ 0 → ⊥) → getD (x .counts) (p .refusal - 1) 0 + 1 ≡ refusedIn (p .refusal) (rs ++ p ∷ [])
-    count-is z = let k = plain-few t v in let one = pos (p .refusal) z in ap (λ (a : ℕ). a + 1) (h .counts (p .refusal) one k) ∙ sym (refused-one p rs)
+    count-is z =
+        let one = pos (p .refusal) z in
+        let e : suc (p .refusal - 1) ≡ p .refusal = omega (arith, one) in
+        ap (λ (a : ℕ). a + 1) (h .counts (p .refusal - 1) (omega (arith, plain-few t v, twelve t n m enough, one)) ∙ ap (λ (k : ℕ). refusedIn k rs) e)
+        ∙ sym (refused-one p rs)
       where
         pos : (a : ℕ) → (a ≡ 0 → ⊥) → 1 ≤ a
         pos a q = omega arith
@@ -219,12 +222,11 @@ module _ (t : List ℕ) (n m : ℕ) (ks : List (List ℕ)) (x : Lent) (h : Holds
         all-records = length-set (x .records) (p .signal) (plus old p) ∙ h .all-records;
         all-counts = h .all-counts;
         records = λ s w. record-at s w ∙ ap (recordIn s) (sym (alone-last t ks v));
-        counts = λ k a b. h .counts k a b ∙ sym (refused-other p rs k (λ z. omega (arith, a, z, e))) ∙ ap (refusedIn k) (sym (alone-last t ks v));
-        together = ap (λ (k : ℕ). sumTo (chosenAt new) k + sumTo (countAt (x .counts)) 12) (length-set (x .records) (p .signal) (plus old p))
+        counts = λ i a. h .counts i a ∙ sym (refused-other p rs (suc i) (λ z. omega (arith, z, e))) ∙ ap (refusedIn (suc i)) (sym (alone-last t ks v));
+        together = ap (λ (k : ℕ). sumTo (chosenAt new) k + sumTo (countAt (x .counts)) (length (x .counts))) (length-set (x .records) (p .signal) (plus old p))
             ∙ omega (arith, more-chosen, h .together, counted-one);
         in-range = range-at;
         counts-in-range = h .counts-in-range;
-        past = h .past;
       }
 
     -- a refused one
@@ -258,33 +260,33 @@ module _ (t : List ℕ) (n m : ℕ) (ks : List (List ℕ)) (x : Lent) (h : Holds
       room = leb-true (count + 1) most (ap (λ (k : ℕ). leb k most) (count-is (inverted .0) z)
           ∙ sym (ap (λ (b : Bool). cond b (fits (recordIn (p .signal) (rs ++ p ∷ []))) (leb (refusedIn (p .refusal) (rs ++ p ∷ [])) most)) (ne-eqb (p .refusal) 0 z)) ∙ inverted .1)
 
-      count-at : (k : ℕ) → 1 ≤ k → k ≤ 12 → getD grown (k - 1) 0 ≡ refusedIn k (rs ++ p ∷ [])
-      count-at k a b = byTest (eqb k (p .refusal))
-          (λ w. let y = eqb-true k (p .refusal) w in
-          subst (λ (j : ℕ). getD grown (j - 1) 0 ≡ refusedIn j (rs ++ p ∷ [])) (sym y) (at-place ∙ count-is (inverted .0) z))
-          (λ w. let y = eqb-false k (p .refusal) w in apart (k - 1) (other k a y) ∙ h .counts k a b ∙ sym (refused-other p rs k y))
-        where
-          other : (k : ℕ) → 1 ≤ k → (k ≡ p .refusal → ⊥) → k - 1 ≡ place → ⊥
-          other k a y w = y (omega (arith, a, w, one))
+      its-number : p .refusal ≡ suc place
+      its-number = omega (arith, one)
+
+      count-at : (i : ℕ) → i < m → getD grown i 0 ≡ refusedIn (suc i) (rs ++ p ∷ [])
+      count-at i a = byTest (eqb i place)
+          (λ w. subst (λ (j : ℕ). getD grown j 0 ≡ refusedIn (suc j) (rs ++ p ∷ [])) (sym (eqb-true i place w))
+          (at-place ∙ count-is (inverted .0) z ∙ ap (λ (k : ℕ). refusedIn k (rs ++ p ∷ [])) its-number))
+          (λ w. let y = eqb-false i place w in apart i y ∙ h .counts i a ∙ sym (refused-other p rs (suc i) (λ e. y (omega (arith, e, one)))))
 
       range-count : (i : ℕ) → getD grown i 0 ≤ most
       range-count i = byTest (eqb i place)
           (λ w. subst (λ (j : ℕ). getD grown j 0 ≤ most) (sym (eqb-true i place w)) (subst (λ (a : ℕ). a ≤ most) (sym at-place) room))
           (λ w. subst (λ (a : ℕ). a ≤ most) (sym (apart i (eqb-false i place w))) (h .counts-in-range i))
 
-      more-counted : sumTo (countAt grown) 12 ≡ sumTo (countAt (x .counts)) 12 + 1
-      more-counted = sum-one (countAt (x .counts)) (countAt grown) 12 place (omega (arith, plain-few t v, one)) at-place apart
+      more-counted : sumTo (countAt grown) (length (x .counts)) ≡ sumTo (countAt (x .counts)) (length (x .counts)) + 1
+      more-counted = sum-one (countAt (x .counts)) (countAt grown) (length (x .counts)) place there at-place apart
 
       holds-refused : Holds t n m (ks ++ v ∷ []) (record { records = x .records; counts = grown })
       holds-refused = record {
         all-records = h .all-records;
         all-counts = length-set (x .counts) place (count + 1) ∙ h .all-counts;
         records = λ s w. h .records s w ∙ sym (same-record p rs s (λ k. adds-none p s k z)) ∙ ap (recordIn s) (sym (alone-last t ks v));
-        counts = λ k a b. count-at k a b ∙ ap (refusedIn k) (sym (alone-last t ks v));
-        together = omega (arith, more-counted, h .together, counted-one);
+        counts = λ i a. count-at i a ∙ ap (refusedIn (suc i)) (sym (alone-last t ks v));
+        together = ap (λ (k : ℕ). sumTo (chosenAt (x .records)) (length (x .records)) + sumTo (countAt grown) k) (length-set (x .counts) place (count + 1))
+            ∙ omega (arith, more-counted, h .together, counted-one);
         in-range = h .in-range;
         counts-in-range = range-count;
-        past = λ i w. apart i (λ y. omega (arith, w, y, plain-few t v, one)) ∙ h .past i w;
       }
 
     holds-more : Holds t n m (ks ++ v ∷ []) (after t x v)

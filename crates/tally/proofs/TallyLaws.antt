@@ -13,7 +13,7 @@ use Rattle.entry_run.specs.declared.Resolution.{Resolution}
 use Rattle.resolver.specs.Resolve.{refused, plainOf}
 use Rattle.tally.specs.declared.Tally.{Tally}
 use Rattle.tally.specs.declared.records.Added.{Added}
-use Rattle.tally.specs.Tally.{none, most, accepted, plus, fits, addTo, countTo, needed, tooFew, full, gives20, answerOf, recordsOf, countsOf, Tallied, Stays}
+use Rattle.tally.specs.Tally.{none, most, accepted, plus, fits, addTo, countTo, needed, tooFew, full, gives20, answerOf, recordsOf, countsOf, Tallied, Stays, StaysLaw}
 use Rattle.tally.specs.Steps.{fullCount, judgedOf, judgedCounts, placeOf, addedOf, answerAt, recordsAt}
 use Rattle.tally.proofs.ListLaws.{byTest, set-same}
 use Rattle.tally.proofs.PlusLaws.{place-accepted, place-refused, add-past, add-within}
@@ -254,3 +254,6 @@ module _ (t : List ℕ) (l : List Tally) (c v : List ℕ) where
         as-many-records = keeps .3;
         as-many-counts = keeps .4;
       }
+
+pub stays-law : StaysLaw
+stays-law = stays

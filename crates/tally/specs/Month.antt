@@ -1,5 +1,5 @@
 -- Values counted from a tally of zeros on, and what each record and count holds after them, told from the values and the plain resolver alone.
-use Prim.Native.Nat.{ℕ, zero, suc, _+_, _-_, _≤_, _<_}
+use Prim.Native.Nat.{ℕ, zero, suc, _+_, _≤_, _<_}
 use mathlib.Core.Path.{_≡_}
 use mathlib.Core.Bool.{Bool, true, false, not, cond, _&&_}
 use mathlib.Core.List.{List, [], _∷_, _++_, map, foldl}
@@ -87,22 +87,20 @@ countAt c i = getD c i 0
 
 -- all times chosen and all refusals
 abbrev pub total : Lent → ℕ
-total x = sumTo (chosenAt (x .records)) (length (x .records)) + sumTo (countAt (x .counts)) 12
+total x = sumTo (chosenAt (x .records)) (length (x .records)) + sumTo (countAt (x .counts)) (length (x .counts))
 
 -- the tally x after the values ks were counted on n records and m counts, cleared before
 pub record Holds (t : List ℕ) (n m : ℕ) (ks : List (List ℕ)) (x : Lent) : Type 0 where
   pub all-records : length (x .records) ≡ n
   pub all-counts : length (x .counts) ≡ m
-  -- each record, and the count of each number 1 to 12
+  -- each record, and the count of each number: nothing is refused with over 12, so those past the twelfth are still zero
   pub records : (s : ℕ) → s < n → getD (x .records) s none ≡ recordIn s (alone t ks)
-  pub counts : (k : ℕ) → 1 ≤ k → k ≤ 12 → getD (x .counts) (k - 1) 0 ≡ refusedIn k (alone t ks)
+  pub counts : (i : ℕ) → i < m → getD (x .counts) i 0 ≡ refusedIn (suc i) (alone t ks)
   -- all together are the number of values
   pub together : total x ≡ length ks
   -- no count passes the highest
   pub in-range : (s : ℕ) → fits (getD (x .records) s none) ≡ true
   pub counts-in-range : (i : ℕ) → getD (x .counts) i 0 ≤ most
-  -- counts past the twelfth are still zero
-  pub past : (i : ℕ) → 12 ≤ i → getD (x .counts) i 0 ≡ 0
 
 -- the law over runs: for every table, and any number of values, records and counts
 pub record Month (t : List ℕ) (n m : ℕ) (vs : List (List ℕ)) : Type 0 where

@@ -88,3 +88,7 @@ pub record Stays (t : List ℕ) (l : List Tally) (c v : List ℕ) : Type 0 where
   -- there are as many records and counts as before
   pub as-many-records : length (recordsOf t l c v) ≡ length l
   pub as-many-counts : length (countsOf t l c v) ≡ length c
+
+-- what is proved
+abbrev pub StaysLaw : Type 0
+StaysLaw = (t : List ℕ) (l : List Tally) (c v : List ℕ) → Stays t l c v

@@ -1,0 +1,19 @@
+-- The example of 9 tries holds, by computation.
+use mathlib.Core.Path.{refl}
+use Rattle.alert_info.specs.Bytes.{isBlank, isEscapable, isText, isToken, isUri}
+use Rattle.alert_info.specs.Parts.{blankAt, endingAt, endingStep, entryAt, followingAt, paramAt, quoteAt, quotedAt, quotedFrom, quotedStep, settingAt, tokenAt, whiteAt, whiteStep}
+use Rattle.alert_info.specs.Value.{readingFrom, readingOf, refusalOf, spansOf, urisOf, valueStep}
+use Rattle.alert_info.specs.Walk.{run, runAt, walk, walkAt}
+use Rattle.alert_urn.specs.Text.{all, fields, labelByte, labelOk, nameOk, onFirst, past, upTo}
+use Rattle.alert_urn.specs.Urn.{alertUrn, begins, bytes, bytesFrom, lowered, noCapital, storedName, restOk, urnOk}
+use Rattle.node_search.specs.Uses.{usedUrn}
+use Rattle.resolution.specs.Direct.{step}
+use Rattle.resolution.specs.Nodes.{deepest, leaf, nodes}
+use Rattle.table_sections.specs.Stored.{andThen, byteIn, counted, stored, storedFrom, text, times}
+use Rattle.stored_table.specs.Tables.{any, categoryNames, distinct, fewNodes, formed, isListed, judged, judgedRead, listed, namesRead, noTwo, plain, single, tableOf, tableRead, tableRefusal, uses, verdict}
+use Rattle.resolver.specs.Resolve.{plainOf, plainWith}
+use Rattle.demands.specs.TriedExample.{TriedExample}
+
+pub tried-example : TriedExample
+unfolding isBlank isEscapable isText isToken isUri blankAt endingAt endingStep entryAt followingAt paramAt quoteAt quotedAt quotedFrom quotedStep settingAt tokenAt whiteAt whiteStep readingFrom readingOf refusalOf spansOf urisOf valueStep run runAt walk walkAt all fields labelByte labelOk nameOk onFirst past upTo alertUrn begins bytes bytesFrom restOk lowered noCapital storedName urnOk usedUrn step deepest leaf nodes andThen byteIn counted stored storedFrom text times any categoryNames distinct fewNodes formed isListed judged judgedRead listed namesRead noTwo plain single tableOf tableRead tableRefusal uses verdict plainOf plainWith
+tried-example = record { nine = refl }
