@@ -78,6 +78,17 @@ alert_early resolve_early(const uint8_t *table, size_t len, const uint8_t *value
 alert_resolution resolve_available(const uint8_t *table, size_t len, uint32_t available, const uint8_t *value,
                                    size_t value_len);
 
+/* Ring and lamp by a table of each: a refusal number, 0 if nothing is refused, and the two signals. */
+typedef struct alert_pair {
+    uint8_t refusal, ring, lamp;
+} alert_pair;
+
+/* The signal of the ring table and that of the lamp table, each resolved alone: the pair that one table of all pairs would
+ * give. Refused with 1 to 3 for the value, then 4 to 12 for the ring table, then 4 to 12 for the lamp table, then with 24:
+ * the tables have a category in common. Refused, both signals are 0. */
+alert_pair resolve_pair(const uint8_t *ring, size_t ring_len, const uint8_t *lamp, size_t lamp_len,
+                        const uint8_t *value, size_t value_len);
+
 #ifdef __cplusplus
 }
 #endif

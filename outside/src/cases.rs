@@ -13,18 +13,19 @@
 //! | `feed T RECORD V` | refusal, signal, used, skipped, the record after it; a record is `signal/status,../values` |
 //! | `early T V` | refusal, signal, entries needed |
 //! | `available T SET V` | refusal, signal, used, skipped; SET is a number, bit s for signal s |
+//! | `pair RINGS LAMPS V` | refusal, ring, lamp |
 //! | `match T URI` | refusal, category (-1 if the URI is skipped), node, whole, bytes compared |
 //! | `newtable N` | refusal |
 //! | `tonew T ROOM` | refusal, length, tree form (the rest of the buffer of ROOM bytes is 0) |
 //! | `toold N ROOM` | refusal, length, table (the same) |
 //! | `tally T RECORDS REFUSALS V` | refusal, records and refusal counts after it; `chosen:used:skipped` and counts, `;` between |
-use crate::{Converted, Early, Match, Reader, Record, Resolution, Resolvers, Tables, Tallies, Tally, Trees};
+use crate::{Converted, Early, Match, Pair, Reader, Record, Resolution, Resolvers, Tables, Tallies, Tally, Trees};
 use std::fmt::Write;
 use std::path::{Path, PathBuf};
 
 /// One file for each command, the draft's worked examples, values with folded lines, messages of
 /// several fields, and URNs that a category holds.
-pub const FILES: [&str; 18] = [
+pub const FILES: [&str; 19] = [
     "value.txt",
     "entry.txt",
     "table.txt",
@@ -43,6 +44,7 @@ pub const FILES: [&str; 18] = [
     "tries.txt",
     "trees.txt",
     "available.txt",
+    "pair.txt",
 ];
 
 /// Where the cases are.
@@ -73,7 +75,7 @@ impl Case {
             "value" | "entry" => Layer::Reader,
             "table" | "match" | "build" | "check" => Layer::Tables,
             "newtable" | "tonew" | "toold" => Layer::Trees,
-            "plain" | "walk" | "feed" | "early" | "available" => Layer::Resolvers,
+            "plain" | "walk" | "feed" | "early" | "available" | "pair" => Layer::Resolvers,
             "tally" => Layer::Tallies,
             other => panic!("{}: unknown command {other}", self.place),
         }
@@ -236,6 +238,10 @@ pub fn ask_resolvers<I: Resolvers>(case: &Case) -> String {
         "available" => {
             let available = case.number(2).try_into().unwrap_or_else(|_| panic!("{}: too large a set", case.place));
             show(I::available(&table, available, &case.bytes(3)))
+        }
+        "pair" => {
+            let Pair { refusal, ring, lamp } = I::pair(&table, &case.bytes(2), &case.bytes(3));
+            format!("{refusal} {ring} {lamp}")
         }
         other => panic!("{}: {other} is not the resolvers'", case.place),
     }

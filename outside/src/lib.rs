@@ -100,6 +100,21 @@ impl Plain {
     }
 }
 
+/// What a pair of tables answers: its refusal number, the ring and the lamp.
+#[repr(C)]
+#[derive(Clone, Copy, Debug, PartialEq, Eq)]
+pub struct Pair {
+    pub refusal: u8,
+    pub ring: u8,
+    pub lamp: u8,
+}
+
+impl Pair {
+    pub fn refused(refusal: u8) -> Pair {
+        Pair { refusal, ring: 0, lamp: 0 }
+    }
+}
+
 /// What one signal was heard: how many values chose it, and what these used and skipped in all.
 #[repr(C)]
 #[derive(Clone, Copy, Debug, Default, PartialEq, Eq)]
@@ -159,6 +174,8 @@ pub trait Resolvers {
     fn early(table: &[u8], value: &[u8]) -> Early;
     /// The plain resolution where only some signals can be given: bit s of `available` for signal s.
     fn available(table: &[u8], available: u32, value: &[u8]) -> Resolution;
+    /// A ring and a lamp, by two tables with no category in common.
+    fn pair(rings: &[u8], lamps: &[u8], value: &[u8]) -> Pair;
 }
 
 /// The monthly count: what the library tally answers and leaves in the records and refusal counts.

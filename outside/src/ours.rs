@@ -8,7 +8,7 @@ use crate::{Built, Match, Tables};
 #[cfg(feature = "tree_table")]
 use crate::{Converted, Trees};
 #[cfg(feature = "resolver")]
-use crate::{Early, Record};
+use crate::{Early, Pair, Record};
 #[cfg(feature = "resolver")]
 use crate::{Plain, Resolvers};
 #[cfg(feature = "tally")]
@@ -74,6 +74,14 @@ extern "C" {
         value: *const u8,
         value_len: usize,
     ) -> Resolution;
+    fn resolve_pair(
+        rings: *const u8,
+        rings_len: usize,
+        lamps: *const u8,
+        lamps_len: usize,
+        value: *const u8,
+        value_len: usize,
+    ) -> Pair;
 }
 
 #[cfg(feature = "tally")]
@@ -169,6 +177,10 @@ impl Resolvers for Ours {
 
     fn available(table: &[u8], available: u32, value: &[u8]) -> Resolution {
         unsafe { resolve_available(table.as_ptr(), table.len(), available, value.as_ptr(), value.len()) }
+    }
+
+    fn pair(rings: &[u8], lamps: &[u8], value: &[u8]) -> Pair {
+        unsafe { resolve_pair(rings.as_ptr(), rings.len(), lamps.as_ptr(), lamps.len(), value.as_ptr(), value.len()) }
     }
 }
 

@@ -103,6 +103,24 @@ pub fn available(t: &[u8], v: &[u8]) {
     resolution(r.refusal, r.signal, r.used as usize, r.skipped as usize);
 }
 
+// A ring by this table, and a lamp by the one that argument 3 names.
+pub fn pair(t: &[u8], v: &[u8]) {
+    let mut lamps = io::large_buffer();
+    let l = files::file(3, &mut lamps);
+    if !l.ok {
+        return;
+    }
+    let n = l.n;
+    let r = pair::resolve(t, &lamps[..n], v);
+    if r.refusal != 0 {
+        words::refused(r.refusal);
+        return;
+    }
+    io::write_all(STDOUT_FILENO, b"ring ");
+    words::count(r.ring as u64, b", lamp ");
+    words::count(r.lamp as u64, b"\n");
+}
+
 // The signal, and how many entries it needed.
 pub fn early(t: &[u8], v: &[u8]) {
     let r = early::resolve(t, v);

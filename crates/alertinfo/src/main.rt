@@ -23,6 +23,7 @@ enum Command {
     Walk,
     Early,
     Available,
+    Pair,
     Feed,
     None,
 }
@@ -36,12 +37,13 @@ fn usage(to: i32) {
        alertinfo resolve TABLE VALUE [MACHINE]
        alertinfo early TABLE VALUE
        alertinfo available TABLE SIGNALS VALUE
+       alertinfo pair RINGS LAMPS VALUE
        alertinfo match TABLE URI
        alertinfo tree TABLE TREE
        alertinfo untree TREE TABLE
        alertinfo feed TABLE VALUE [VALUE ..]
        alertinfo tally TABLE FILE
-TABLE, TREE and MACHINE are files. VALUE is a file, or the value itself if it begins with '<'.
+TABLE, TREE, MACHINE, RINGS and LAMPS are files. VALUE is a file, or the value itself if it begins with '<'.
 FILE has one value a line; empty lines are no values. SIGNALS are numbers with commas between, as 0,2,5.
 A file that is read may be -, standard input. Status: 0 an answer, 1 refused, 2 no answer.
 ",
@@ -113,6 +115,9 @@ fn of_two_more() -> Command {
     if files::is(1, b"available") {
         return Command::Available;
     }
+    if files::is(1, b"pair") {
+        return Command::Pair;
+    }
     Command::None
 }
 
@@ -130,6 +135,7 @@ fn asked(n: usize) -> Command {
 fn value_at(c: Command) -> usize {
     match c {
         Command::Available => 4,
+        Command::Pair => 4,
         _ => 3,
     }
 }
@@ -146,6 +152,7 @@ fn by_value(c: Command, t: &[u8]) {
         Command::Walk => answers::walk(t, &value[..n]),
         Command::Early => answers::early(t, &value[..n]),
         Command::Available => answers::available(t, &value[..n]),
+        Command::Pair => answers::pair(t, &value[..n]),
         _ => answers::plain(t, &value[..n]),
     }
 }

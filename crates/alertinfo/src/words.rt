@@ -68,6 +68,7 @@ the tally cannot take the value
 the tree's nodes are not those of its signals, each once and in order, or a number leads nowhere
 the other form does not fit, or would be longer than 8,192 bytes
 a signal that is said to be available is none of the table
+the two tables have a category in common
 ";
     io::write_all(to, cases::part(lines, b'\n', k as usize));
 }

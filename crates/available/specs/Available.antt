@@ -19,7 +19,7 @@ hasBit set s = eqb (set / 2 ^ s % 2) 1
 abbrev pub known : ℕ → ℕ → Bool
 known set n = eqb (set / 2 ^ n) 0
 
--- direct resolution's signal over a list of URIs, with the other signals absent from the search
+-- direct resolution's signal over a list of URIs, where the search leaves out all other signals
 abbrev pub availableSignal : List ℕ → ℕ → List (List ℕ) → ℕ
 availableSignal t set uris = directAvailable (tableOf t) (hasBit set) (usedOf (takenAs t uris)) .signal
 

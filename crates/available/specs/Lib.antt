@@ -1,8 +1,6 @@
 -- what a reader has to believe
 pub mod Available
-
 -- what is claimed of it
 pub mod Claims
-
 -- what only the code's inner promises use
 pub mod Rows

@@ -50,7 +50,16 @@ pub fn by(t: &[u8], d: Decoded, set: u32, v: &[u8]) -> Resolution
     }
     let no_index = [0u8; 136];
     let no_symbols = [0u8; 384];
-    let e = resolved(t, among(d, set), &no_index, &no_symbols, 0, t, at_start(), v);
+    let e = resolved(
+        t,
+        among(d, set),
+        &no_index,
+        &no_symbols,
+        0,
+        t,
+        at_start(),
+        v,
+    );
     e.answer
 }
 

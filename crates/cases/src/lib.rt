@@ -1,4 +1,6 @@
 // Reads lines of test cases: words with single spaces between, bytes in hex, numbers in decimal.
+//
+// In: a file's bytes. Out: its lines' words, bytes and numbers.
 ghost use mathlib.Core.Path.{_≡_};
 ghost use Prim.Native.Nat.{_≤_, _<_, _/_, min};
 ghost use lib.ListN.{length, getD, take};

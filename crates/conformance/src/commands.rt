@@ -11,6 +11,7 @@
 //   walk T M V       refusal number, signal, used, skipped of the machine resolver
 //   early T V        refusal number, signal, entries needed
 //   available T SET V  refusal number, signal, used, skipped; SET is a number, bit s for signal s
+//   pair RINGS LAMPS V  refusal number, ring, lamp
 //   match T URI      refusal number, category (-1 if the URI is skipped), node, whole, bytes compared
 use crate::numbers;
 use crate::print;
@@ -106,6 +107,11 @@ pub fn early(t: &[u8], v: &[u8]) {
 pub fn available(line: &[u8], t: &[u8], v: &[u8]) {
     let set = numbers::number(cases::word(line, 2));
     resolution(available::resolve(t, set, v));
+}
+
+pub fn pair(rings: &[u8], lamps: &[u8], v: &[u8]) {
+    let r = pair::resolve(rings, lamps, v);
+    print::three(r.refusal, r.ring, r.lamp);
 }
 
 pub fn walk(t: &[u8], m: &[u8], v: &[u8]) {

@@ -37,6 +37,16 @@ fn entry_or_early(line: &[u8], a: &[u8], b: &[u8]) {
     commands::entry(line, a);
 }
 
+// `plain` and `pair` begin alike.
+fn plain_or_pair(line: &[u8], a: &[u8], b: &[u8], c: &[u8]) {
+    let second = cases::first(cases::after(line, b'p'));
+    if second == b'a' {
+        commands::pair(a, b, c);
+        return;
+    }
+    commands::plain(a, b);
+}
+
 // The answer to one line, whose words after the first are these bytes where they are bytes.
 fn answer(line: &[u8], a: &[u8], b: &[u8], c: &[u8]) {
     let letter = cases::first(line);
@@ -44,7 +54,7 @@ fn answer(line: &[u8], a: &[u8], b: &[u8], c: &[u8]) {
         b'v' => commands::value(a),
         b'e' => entry_or_early(line, a, b),
         b't' => with_t(line, a),
-        b'p' => commands::plain(a, b),
+        b'p' => plain_or_pair(line, a, b, c),
         b'b' => commands::fill(line, a, b'b'),
         b'n' => commands::tree(a),
         b'c' => commands::check(a, b),

@@ -37,8 +37,10 @@ use Rattle.early.proofs.Claims.{early-claim}
 use Rattle.resolver.proofs.TableLaws.{taken-append}
 use Rattle.demands.proofs.EarlyLaws.{plain-answer, early-number, early-refused, early-signal}
 use Rattle.demands.proofs.MachineLaws.{machine-walks, machine-fifteen}
+use Rattle.pair.proofs.PairLaws.{pair-claim}
+use Rattle.pair.proofs.Together.{together-claim}
 use Rattle.demands.proofs.AvailableLaws.{beside-plain, available-number, available-refused, available-signal}
-use Rattle.demands.proofs.RefusalLaws.{value-number, entry-number, plain-number, machine-number, build-number, check-number}
+use Rattle.demands.proofs.RefusalLaws.{value-number, entry-number, plain-number, machine-number, build-number, check-number, pair-number, pair-refused}
 use Rattle.demands.proofs.OneValueLaws.{feed-number, one-value}
 use Rattle.demands.proofs.FeedingLaws.{ends-direct, never-refused, joined-alike}
 use Rattle.alert_info.proofs.EntryLaws.{refused-entry}
@@ -81,6 +83,7 @@ demand-one t =
       table-number = refusal-numbers t;
       plain-number = plain-number t;
       machine-number = machine-number t;
+      pair-number = pair-number t;
       available-number = λ set v. available-number t v set;
       feed-number = feed-number t;
       early-number = early-number t;
@@ -90,6 +93,7 @@ demand-one t =
       plain-refused = plain-refused t;
       machine-refused = machine-refused t;
       available-refused = λ set v. available-refused t v set;
+      pair-refused = pair-refused t;
       early-refused = early-refused t;
       one-value = one-value t;
       never-refused = never-refused t;
@@ -122,6 +126,8 @@ demand-two t =
       early = early-claim t;
       available-signal = λ set v. available-signal t v set;
       available = λ set v. beside-plain t v set;
+      pair = pair-claim t;
+      together = together-claim t;
       ends-direct = ends-direct t;
       joined-alike = joined-alike t;
       build-exactly = build-exactly t;

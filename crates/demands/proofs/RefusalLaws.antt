@@ -17,13 +17,15 @@ use Rattle.resolution.specs.Machine.{machineState, rowRight}
 use Rattle.resolution.specs.Build.{discovered}
 use Rattle.machine_image.specs.Image.{machineImage, machineIn}
 use Rattle.machine_image.specs.Refusals.{buildRefusal, formOf, checkOf}
-use Rattle.stored_table.specs.Tables.{tableRefusal, tableOf}
+use Rattle.stored_table.specs.Tables.{tableRefusal, tableOf, categoryNames}
 use Rattle.stored_table.proofs.RefusalNumbers.{refusal-numbers}
 use Rattle.machine_builder.specs.Built.{refused as without, builtOf}
 use Rattle.signal_table.specs.Built.{builtFrom, checkFrom}
 use Rattle.entry_run.specs.declared.Resolution.{Resolution}
 use Rattle.resolver.specs.Resolve.{refused, answered, walkedSignal, unlessRefused, plainOf, machineOf}
-use Rattle.demands.specs.Demands.{Among, ValueNumber, EntryNumber, TableNumber, PlainNumber, MachineNumber, BuildNumber, CheckNumber}
+use Rattle.pair.specs.declared.Pair.{Pair}
+use Rattle.pair.specs.Pair.{apart, pairRefusal, signalIn, refused as noPair, pairOf}
+use Rattle.demands.specs.Demands.{Among, ValueNumber, EntryNumber, TableNumber, PlainNumber, MachineNumber, BuildNumber, CheckNumber, PairNumber}
 
 -- one of two numbers, by a test
 by-cond : (P : ℕ → Type 0) (b : Bool) {x y : ℕ} → P x → P y → P (cond b x y)
@@ -116,3 +118,40 @@ check-number t im =
     (by-cond CheckNumber (all (length (machineIn (tableOf t) im)) (rowRight (tableOf t) (machineIn (tableOf t) im))) (inl refl) (inr (inr (omega arith, omega arith))))
     (inr (inr (omega arith, omega arith))))
     (inr (inr (omega arith, omega arith))))
+
+-- ring and lamp by two tables
+module _ (ring lamp v : List ℕ) where
+  abbrev number : ℕ
+  number = pairRefusal ring lamp v
+
+  abbrev both : Pair
+  both = record { refusal = 0; ring = signalIn ring v; lamp = signalIn lamp v }
+
+  number-due : PairNumber number
+  number-due =
+      by-zero PairNumber (refusalOf v)
+      (of-table PairNumber of-one ring (of-table PairNumber of-one lamp (by-cond PairNumber (apart (categoryNames ring) (categoryNames lamp)) (inl refl) (inr (inr refl)))))
+      (λ n. of-value n (value-number v))
+    where
+      of-one : (n : ℕ) → Among 4 12 n → PairNumber n
+      of-one n h = inr (inl (omega (arith, h .0), h .1))
+
+      of-value : (refusalOf v ≡ 0 → ⊥) → ValueNumber (refusalOf v) → PairNumber (refusalOf v)
+      of-value n (inl z) = absurd (n z)
+      of-value n (inr h) = inr (inl (h .0, omega (arith, h .1)))
+
+  pub pair-number : PairNumber (pairOf ring lamp v .refusal)
+  unfolding pairOf
+  pair-number = go (eqb number 0)
+    where
+      go : (b : Bool) → PairNumber (cond b both (noPair number) .refusal)
+      go true = inl refl
+      go false = number-due
+
+  pub pair-refused : (pairOf ring lamp v .refusal ≡ 0 → ⊥) → pairOf ring lamp v ≡ noPair (pairOf ring lamp v .refusal)
+  unfolding pairOf
+  pair-refused = go (eqb number 0)
+    where
+      go : (b : Bool) → (cond b both (noPair number) .refusal ≡ 0 → ⊥) → cond b both (noPair number) ≡ noPair (cond b both (noPair number) .refusal)
+      go true n = absurd (n refl)
+      go false n = refl

@@ -20,6 +20,8 @@ use Rattle.signal_table.specs.Claims.{TooManyStates, BuildExactly, RightForm, R
 use Rattle.early.specs.Early.{refused as notAnswered, earlyOf}
 use Rattle.early.specs.Claims.{EarlyClaims}
 use Rattle.available.specs.Available.{availableSignal, availableOf}
+use Rattle.pair.specs.Pair.{refused as noPair, pairOf}
+use Rattle.pair.specs.Claims.{Shared, PairAnswers, Together}
 use Rattle.resolver.specs.Resolve.{takenAs, directSignal, walkedSignal, refused, answered, plainOf, machineOf}
 use Rattle.resolver.specs.Feed.{feedOf}
 use Rattle.demands.specs.Feeding.{OneValue, EndsDirect, NeverRefused, JoinedAlike}
@@ -30,7 +32,7 @@ abbrev pub Among : ℕ → ℕ → ℕ → Type 0
 Among lo hi n = (lo ≤ n) × (n ≤ hi)
 
 -- the numbers that may be given, 0 for accepted: by the question about a value, by that about an entry, by that about a table,
--- by the plain resolver and by the early question, by the machine resolver, among the available signals, for one of several values, by the
+-- by the plain resolver and by the early question, by the machine resolver, among the available signals, for ring and lamp apart, for one of several values, by the
 -- builder and by the checker
 abbrev pub ValueNumber : ℕ → Type 0
 ValueNumber n = (n ≡ 0) ⊎ Among 1 3 n
@@ -50,6 +52,9 @@ MachineNumber n = (n ≡ 0) ⊎ (Among 1 12 n ⊎ (n ≡ 15))
 abbrev pub AvailableNumber : ℕ → Type 0
 AvailableNumber n = (n ≡ 0) ⊎ (Among 1 12 n ⊎ (n ≡ 23))
 
+abbrev pub PairNumber : ℕ → Type 0
+PairNumber n = (n ≡ 0) ⊎ (Among 1 12 n ⊎ (n ≡ 24))
+
 abbrev pub FeedNumber : ℕ → Type 0
 FeedNumber n = (n ≡ 0) ⊎ (Among 1 12 n ⊎ ((n ≡ 19) ⊎ (n ≡ 28)))
 
@@ -68,6 +73,7 @@ pub record Demand1 (t : List ℕ) : Type 0 where
   pub table-number : TableNumber (tableRefusal t)
   pub plain-number : (v : List ℕ) → PlainNumber (plainOf t v .refusal)
   pub machine-number : (im v : List ℕ) → MachineNumber (machineOf t im v .refusal)
+  pub pair-number : (lamp v : List ℕ) → PairNumber (pairOf t lamp v .refusal)
   pub available-number : (set : ℕ) (v : List ℕ) → AvailableNumber (availableOf t set v .refusal)
   pub feed-number : (r : Carried) (v : List ℕ) → FeedNumber (feedOf t r v .answer .refusal)
   pub early-number : (v : List ℕ) → PlainNumber (earlyOf t v .refusal)
@@ -79,6 +85,8 @@ pub record Demand1 (t : List ℕ) : Type 0 where
   pub plain-refused : (v : List ℕ) → (plainOf t v .refusal ≡ 0 → ⊥) → plainOf t v ≡ refused (plainOf t v .refusal)
   pub machine-refused : (im v : List ℕ) → (machineOf t im v .refusal ≡ 0 → ⊥) → machineOf t im v ≡ refused (machineOf t im v .refusal)
   pub available-refused : (set : ℕ) (v : List ℕ) → (availableOf t set v .refusal ≡ 0 → ⊥) → availableOf t set v ≡ refused (availableOf t set v .refusal)
+  -- a refused pair is 0 and 0
+  pub pair-refused : (lamp v : List ℕ) → (pairOf t lamp v .refusal ≡ 0 → ⊥) → pairOf t lamp v ≡ noPair (pairOf t lamp v .refusal)
   -- a refused early question has the plain resolver's number, with signal 0 and no entries
   pub early-refused : (v : List ℕ) → (earlyOf t v .refusal ≡ 0 → ⊥) → earlyOf t v ≡ notAnswered (plainOf t v .refusal)
   -- of several values, what each does by its number, whatever record it is fed with; no record that feeding gave is refused with 28
@@ -105,6 +113,10 @@ pub record Demand2 (t : List ℕ) : Type 0 where
   pub available-signal : (set : ℕ) (v : List ℕ) → availableOf t set v .refusal ≡ 0 → availableOf t set v .signal ≡ availableSignal t set (urisOf v)
   -- with all of them the plain resolver's answer, and 23 exactly for a bit that is no signal's
   pub available : (set : ℕ) (v : List ℕ) → BesidePlain t set v
+  -- ring and lamp by two tables: the numbers in their order, 24 exactly for a category in common, else each table's signal
+  pub pair : (lamp v : List ℕ) → PairAnswers t lamp v
+  -- and over every list of URIs the table of all pairs is at that pair
+  pub together : (lamp : List ℕ) → tableRefusal t ≡ 0 → tableRefusal lamp ≡ 0 → (Shared t lamp → ⊥) → (uris : List (List ℕ)) → Together t lamp uris
   -- feeding several values one after another gives it too, over the URNs of the accepted ones in order
   pub ends-direct : EndsDirect t
   -- and it gives what the values joined by commas give

@@ -1,4 +1,9 @@
 // A stored form written to a lent buffer: from the front, as far as there is room, with zeros after it.
+//
+// In: texts and numbers, a buffer and a position in it. Out: the position after them; at the end the answer, and the whole buffer.
+//
+//   put.rt       a byte, a text
+//   sections.rt  counts, and the names of the categories
 pub mod put;
 pub mod sections;
 

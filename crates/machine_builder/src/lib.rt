@@ -1,4 +1,8 @@
 // The image of a table's machine, written to a lent buffer.
+//
+// In: a decoded table's arrays, its symbols, and a buffer. Out: 0, 13 or 14 with the image's length, and the whole buffer.
+//
+//   states.rt  the states by discovery, with their rows
 mod states;
 
 ghost use mathlib.Core.Path.{_≡_};

@@ -1,4 +1,10 @@
 // The checker: an image's form, its start, and its rows.
+//
+// In: a decoded table's arrays, its symbols, and an image, any bytes. Out: 0, or 15 to 17.
+//
+//   image.rt  an image's counts, signals, statuses and targets
+//   form.rt   its form: 15
+//   rows.rt   its rows: 17
 pub mod form;
 pub mod image;
 mod rows;

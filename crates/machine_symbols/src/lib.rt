@@ -1,4 +1,8 @@
 // A table's symbols as they are stored, listed from its nodes' categories and parents; and the number of a URN's symbol.
+//
+// In: a decoded table's arrays. Out: its symbols, their index, the number of a URN's symbol, and the state after one.
+//
+//   steps.rt  the step of a symbol
 pub mod steps;
 
 ghost use mathlib.Core.Path.{_≡_};

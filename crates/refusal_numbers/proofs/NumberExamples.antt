@@ -13,7 +13,8 @@ use Rattle.alert_info.specs.Examples.{entriesMore}
 use Rattle.resolution.specs.Build.{discovered, ReachableOver}
 use Rattle.resolution.specs.Direct.{start, sameState, step}
 use Rattle.resolution.specs.Discovery.{discover, expand}
-use Rattle.resolution.specs.Lists.{all as each, tabulate}
+use Rattle.resolution.specs.Lists.{all as each, tabulate, memberBy}
+use Rattle.resolution.specs.Names.{sameName}
 use Rattle.resolution.specs.Nodes.{deepest, leaf, nodes}
 use Rattle.resolution.specs.Symbols.{symbols, stepAt}
 use Rattle.resolution.proofs.Direct.{state-exact}
@@ -30,7 +31,8 @@ use Rattle.carried_record.specs.Record.{carriedFits}
 use Rattle.early.specs.FirstEntries.{frontFrom, frontStep}
 use Rattle.early.specs.Early.{earlyOf}
 use Rattle.signal_table.specs.Built.{builtFrom, checkFrom}
-use Rattle.refusal_numbers.specs.Numbers.{image, wrongImages, manyStates, afterValues}
+use Rattle.pair.specs.Pair.{apart}
+use Rattle.refusal_numbers.specs.Numbers.{image, wrongImages, manyStates, other, afterValues}
 
 pub many-formed : tableRefusal manyStates ≡ 0
 unfolding all fields labelByte labelOk nameOk onFirst past upTo noCapital storedName urnOk bytes bytesFrom andThen byteIn counted stored storedFrom text times any distinct fewNodes formed isListed judged judgedRead listed noTwo plain single tableRefusal uses verdict nodes
@@ -98,3 +100,16 @@ sixteen-fit = refl
 pub seventeen-unfit : carriedFits (tableOf least) (afterValues 17) ≡ false
 unfolding carriedFits each fields onFirst past upTo bytesFrom bytes andThen byteIn counted stored storedFrom text times tableOf tableRead
 seventeen-unfit = refl
+
+-- two tables with no category in common, and a table beside itself
+pub other-formed : tableRefusal other ≡ 0
+unfolding all fields labelByte labelOk nameOk onFirst past upTo noCapital storedName urnOk bytes bytesFrom andThen byteIn counted stored storedFrom text times any distinct fewNodes formed isListed judged judgedRead listed noTwo plain single tableRefusal uses verdict nodes
+other-formed = refl
+
+pub other-apart : apart (categoryNames other) (categoryNames least) ≡ true
+unfolding each bytesFrom bytes andThen byteIn counted stored storedFrom text times categoryNames namesRead
+other-apart = refl
+
+pub least-shared : memberBy sameName (bytes "c") (categoryNames least) ≡ true
+unfolding bytesFrom bytes andThen byteIn counted stored storedFrom text times categoryNames namesRead
+least-shared = refl

@@ -15,6 +15,7 @@ use Rattle.alert_info.proofs.Agree.{refused-exactly}
 use Rattle.alert_info.proofs.Examples.{each-number as each-value, each-entry-number as each-entry}
 use Rattle.resolution.specs.Build.{discovered}
 use Rattle.resolution.proofs.Theorems.{build-law}
+use Rattle.alert_urn.specs.Urn.{bytes}
 use Rattle.alert_urn.proofs.Fields.{byTest}
 use Rattle.machine_image.specs.Image.{machineImage}
 use Rattle.machine_image.specs.Refusals.{buildRefusal, formOf, checkOf}
@@ -32,15 +33,18 @@ use Rattle.early.specs.Early.{earlyOf}
 use Rattle.early.specs.declared.Early.{Early}
 use Rattle.early.proofs.Claims.{early-claim}
 use Rattle.available.specs.Claims.{Strange}
+use Rattle.pair.specs.declared.Pair.{Pair}
+use Rattle.pair.specs.Pair.{pairRefusal, signalIn, refused as noPair, pairOf}
+use Rattle.pair.proofs.PairLaws.{pair-claim}
 use Rattle.available.specs.Available.{availableOf}
-use Rattle.demands.specs.Demands.{ValueNumber, EntryNumber, PlainNumber, MachineNumber, AvailableNumber, FeedNumber, BuildNumber, CheckNumber}
-use Rattle.refusal_numbers.specs.Numbers.{EachNumber, image, wrongImages, manyStates, afterValues}
+use Rattle.demands.specs.Demands.{ValueNumber, EntryNumber, PlainNumber, MachineNumber, AvailableNumber, PairNumber, FeedNumber, BuildNumber, CheckNumber}
+use Rattle.refusal_numbers.specs.Numbers.{EachNumber, image, wrongImages, manyStates, other, afterValues}
 use Rattle.entry_run.proofs.AnswerLaws.{value-refused, table-refused, none-refused}
 use Rattle.demands.proofs.AvailableLaws.{beside-plain}
 use Rattle.demands.proofs.EarlyLaws.{early-refused, early-signal}
 use Rattle.demands.proofs.OneValueLaws.{one-value}
 use Rattle.demands.proofs.FeedingLaws.{never-refused}
-use Rattle.refusal_numbers.proofs.NumberExamples.{many-formed, over-many, none-early, many-early, fits-room, no-room, right-image, wrong-images, right-form, no-form, two-signals, sixteen-fit, seventeen-unfit}
+use Rattle.refusal_numbers.proofs.NumberExamples.{many-formed, over-many, none-early, many-early, fits-room, no-room, right-image, wrong-images, right-form, no-form, two-signals, sixteen-fit, seventeen-unfit, other-formed, other-apart, least-shared}
 
 -- an accepted value
 value : (v : List ℕ) × (refusalOf v ≡ 0)
@@ -142,6 +146,28 @@ available-each n (inr (inr e)) =
     let w : Strange least 4 = (2, omega (arith, two-signals), refl) in
     (least, 4, value .0, ap (λ (r : Resolution). r .refusal) (beside-plain least (value .0) 4 .strange plain-least .1 w) ∙ sym e)
 
+-- two tables with no category in common
+pair-given : pairOf other least (value .0) .refusal ≡ 0
+unfolding pairOf
+pair-given =
+    let k : pairRefusal other least (value .0) ≡ 0 = simp (eq-eqb (refusalOf (value .0)) 0 (value .1), eq-eqb (tableRefusal other) 0 other-formed, eq-eqb (tableRefusal least) 0 least-formed, other-apart) in
+    ap (λ n. cond (eqb n 0) (record { refusal = 0; ring = signalIn other (value .0); lamp = signalIn least (value .0) }) (noPair n) .refusal) k
+
+-- ring and lamp by two tables, the lamp table being the least one
+pair-each : (n : ℕ) → PairNumber n → (ring lamp v : List ℕ) × (pairOf ring lamp v .refusal ≡ n)
+pair-each n (inl e) = (other, least, value .0, pair-given ∙ sym e)
+pair-each n (inr (inr e)) =
+    (least, least, value .0, ap (λ (p : Pair). p .refusal) (pair-claim least least (value .0) .shared (value .1) least-formed least-formed .1 (bytes "c", least-shared, least-shared)) ∙ sym e)
+pair-each n (inr (inl h)) = go (whose n (h .0) (h .1))
+  where
+    go : (n ≤ 3) ⊎ ((4 ≤ n) × (n ≤ 12)) → (ring lamp v : List ℕ) × (pairOf ring lamp v .refusal ≡ n)
+    go (inl few) =
+        let v = each-value n few in
+        (least, least, v .0, ap (λ (p : Pair). p .refusal) (pair-claim least least (v .0) .of-value (λ z. omega (arith, v .1, z, h .0))) ∙ v .1)
+    go (inr due) =
+        let t = each-table n (inr due) in
+        (t .0, least, value .0, ap (λ (p : Pair). p .refusal) (pair-claim (t .0) least (value .0) .of-ring (value .1) (λ z. omega (arith, t .1, z, due .0))) ∙ t .1)
+
 feed-each : (n : ℕ) → FeedNumber n → (t : List ℕ) × (r : Carried) × (v : List ℕ) × (feedOf t r v .answer .refusal ≡ n)
 feed-each n h = go h
   where
@@ -206,6 +232,7 @@ each-number =
       by-early = early-each;
       by-machine = machine-each;
       by-available = available-each;
+      by-pair = pair-each;
       by-feed = feed-each;
       by-build = build-each;
       by-check = check-each;

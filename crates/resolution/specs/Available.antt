@@ -1,5 +1,5 @@
--- Resolution among the signals that can be given just now: only the search loses the others; numbers, categories and nodes stay the
--- table's.
+-- Resolution among the signals that can be given just now: only the search leaves the others out; what a category or a node is,
+-- and which number a signal has, does not change.
 use Prim.Native.Nat.{ℕ, zero, suc, _≤_, _<_}
 use mathlib.Core.Path.{_≡_}
 use mathlib.Core.Bool.{Bool, true, cond, _&&_}

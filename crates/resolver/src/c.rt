@@ -2,12 +2,14 @@
 use crate::PlainResolution;
 use early::Early;
 use entry_run::Resolution;
+use pair::Pair;
 ghost use mathlib.Core.Path.{_≡_};
 ghost use Rattle.resolver.specs.Resolve.{plainWith, machineOf};
 ghost use Rattle.carried_record.specs.Record.{carriedIn, carriedBytes};
 ghost use Rattle.resolver.specs.Feed.{feedOf};
 ghost use Rattle.early.specs.Early.{earlyOf};
 ghost use Rattle.available.specs.Available.{availableOf};
+ghost use Rattle.pair.specs.Pair.{pairOf};
 
 // typedef struct { uint8_t refusal, signal, used, skipped; } alert_resolution;
 // typedef struct { uint8_t refusal, signal, used, skipped; uint16_t tries; } alert_plain;
@@ -58,4 +60,15 @@ pub extern "C" fn resolve_available(t: &[u8], set: u32, v: &[u8]) -> Resolution
     ensures { λ r. ⌜ r ≡ availableOf (now (t .entry)) set (now (v .entry)) ⌝ }
 {
     available::resolve(t, set, v)
+}
+
+// typedef struct { uint8_t refusal, ring, lamp; } alert_pair;
+// alert_pair resolve_pair(const uint8_t *ring, size_t ring_len, const uint8_t *lamp, size_t lamp_len,
+//                         const uint8_t *value, size_t value_len);
+// The signal of a ring table and that of a lamp table, which have no category in common.
+#[no_mangle]
+pub extern "C" fn resolve_pair(ring: &[u8], lamp: &[u8], v: &[u8]) -> Pair
+    ensures { λ r. ⌜ r ≡ pairOf (now (ring .entry)) (now (lamp .entry)) (now (v .entry)) ⌝ }
+{
+    pair::resolve(ring, lamp, v)
 }

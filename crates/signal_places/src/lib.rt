@@ -1,4 +1,9 @@
 // The places of the signals, and refusals 9 to 12, from the signal, category and node of every URN, or its path where there are too many nodes.
+//
+// In: for every URN its signal, category and node, and the nodes' categories. Out: each signal's places as one number, or 9 to 12.
+//
+//   signals.rt  which URN each signal has in each category
+//   places.rt   their nodes as places
 mod places;
 mod signals;
 

@@ -1,4 +1,9 @@
 // The form with the URNs in full of a table whose tree is written once, written to a buffer.
+//
+// In: a tree form, any bytes, and a buffer. Out: a refusal number or the form's length, and the whole buffer.
+//
+//   paths.rt  a node's path, from its ancestors' last names
+//   urns.rt   the URNs of the signals
 mod paths;
 mod urns;
 

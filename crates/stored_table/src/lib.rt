@@ -1,4 +1,8 @@
 // Stored tables: which bytes are a table, with which number the others are refused, and the table as arrays of numbers.
+//
+// In: any bytes. Out: a refusal number, 4 to 12, or the table as small arrays.
+//
+//   forms.rt  the form of the URNs: 7
 mod forms;
 
 use table_sections::Counts;

@@ -1,4 +1,8 @@
 // Tables that write their tree once: which bytes are one, with which number the others are refused, and the tree as arrays of numbers.
+//
+// In: any bytes. Out: a refusal number, or the tree as small arrays.
+//
+//   sizes.rt  how long each node's URN is: 6 and 7
 mod sizes;
 
 use tree_sections::Counts;

@@ -1,4 +1,6 @@
 // The names of a table's categories: their form, that none is listed twice, and the category of each URN.
+//
+// In: the names and the URNs as places in the bytes. Out: 7 and 8 as two tests, and each URN's category.
 use table_sections::bytes::short;
 use table_sections::bytes::small;
 use table_sections::bytes::wide;

@@ -1,4 +1,6 @@
 // The nodes of a table, from the categories and paths of its URNs: each one's category, parent and path, and the node of every URN.
+//
+// In: the URNs' categories and paths as places in the bytes. Out: the nodes in their order, in arrays, or that there are over 64.
 use table_sections::bytes::short;
 use table_sections::bytes::small;
 use table_sections::bytes::wide;

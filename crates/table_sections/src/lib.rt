@@ -1,4 +1,11 @@
 // The sections of a stored table: where the categories' names and the signals' URNs stand, and refusals 4 to 6.
+//
+// In: any bytes. Out: 4 to 6, or where everything stands.
+//
+//   bytes.rt       bytes, and positions in them
+//   texts.rt       a name's and a URN's text
+//   categories.rt  the section of the categories
+//   signals.rt     the section of the signals
 pub mod bytes;
 pub mod categories;
 mod signals;

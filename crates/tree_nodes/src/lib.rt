@@ -1,4 +1,11 @@
 // The nodes of a table with the tree written once: their names, and refusal 21.
+//
+// In: a tree's sections as places in the bytes. Out: 7 for names, and 21, each as a test.
+//
+//   texts.rt    last names, and their form
+//   parents.rt  categories and parents
+//   repeats.rt  no node stands twice
+//   order.rt    every node is used, in its order
 mod order;
 mod parents;
 mod repeats;

@@ -1,5 +1,10 @@
 // The sections of a table with the tree written once: the categories' names and the nodes' last names as places in the bytes, each
 // node's category and parent, each signal's node numbers, and refusals 4 to 6.
+//
+// In: any bytes. Out: 4 to 6, or where everything stands.
+//
+//   nodes.rt    the section of the nodes
+//   signals.rt  the section of the signals
 mod nodes;
 mod signals;
 

@@ -1,4 +1,8 @@
 // Tables that write their tree once: which bytes are one, and the conversions between them and stored tables.
+//
+// In: a table or a tree, any bytes, and a buffer. Out: a refusal number or the form's length, and the whole buffer.
+//
+//   c.rt  all of it for C
 pub mod c;
 
 use form_bytes::Converted;

@@ -1,4 +1,9 @@
 // The tree form of a stored table, written to a buffer.
+//
+// In: a stored table, any bytes, and a buffer. Out: a refusal number or the form's length, and the whole buffer.
+//
+//   nodes.rt    the nodes, each with its last name
+//   signals.rt  the signals' node numbers
 mod nodes;
 mod signals;
 

@@ -8,7 +8,7 @@ mod tree;
 mod urn;
 mod value;
 
-use crate::{Built, Converted, Early, Match, Plain, Reader, Record};
+use crate::{Built, Converted, Early, Match, Pair, Plain, Reader, Record};
 use crate::{Resolution, Resolvers, Tables, Tallies, Tally, Trees};
 
 pub struct Baseline;
@@ -80,6 +80,10 @@ impl Resolvers for Baseline {
 
     fn available(table: &[u8], available: u32, value: &[u8]) -> Resolution {
         resolve::available(table, available, value).unwrap_or_else(Resolution::refused)
+    }
+
+    fn pair(rings: &[u8], lamps: &[u8], value: &[u8]) -> Pair {
+        resolve::pair(rings, lamps, value).unwrap_or_else(Pair::refused)
     }
 }
 

@@ -2,7 +2,7 @@
 use super::machine::{rows, Symbols};
 use super::table::{Decoded, State, START};
 use super::value::Uris;
-use crate::{Plain, Record, Resolution, VALUES};
+use crate::{Pair, Plain, Record, Resolution, VALUES};
 
 pub fn plain(table: &[u8], value: &[u8]) -> Result<Plain, u8> {
     let uris = Uris::read(value)?;
@@ -34,6 +34,25 @@ pub fn available(table: &[u8], available: u32, value: &[u8]) -> Result<Resolutio
     }
     table.lose(available);
     Ok(plain_by(&table, value, &uris).resolution())
+}
+
+/// Each table by itself, entry by entry.
+pub fn pair(rings: &[u8], lamps: &[u8], value: &[u8]) -> Result<Pair, u8> {
+    let uris = Uris::read(value)?;
+    let rings = Decoded::read(rings)?;
+    let lamps = Decoded::read(lamps)?;
+    if rings.shares_category(&lamps) {
+        return Err(24);
+    }
+    let (mut ring, mut lamp) = (START, START);
+    for uri in uris.iter(value) {
+        if let Some((category, node, whole)) = rings.find(uri) {
+            ring = rings.step(ring, category, node, whole);
+        } else if let Some((category, node, whole)) = lamps.find(uri) {
+            lamp = lamps.step(lamp, category, node, whole);
+        }
+    }
+    Ok(Pair { refusal: 0, ring: ring.signal, lamp: lamp.signal })
 }
 
 pub fn machine(table: &[u8], image: &[u8], value: &[u8]) -> Result<Resolution, u8> {

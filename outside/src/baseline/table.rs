@@ -151,6 +151,12 @@ impl<'a> Decoded<'a> {
         categories.iter().position(|&place| text(self.bytes, place).eq_ignore_ascii_case(name))
     }
 
+    /// Whether some category is also the other table's.
+    pub fn shares_category(&self, other: &Decoded) -> bool {
+        let places = &self.categories[..self.category_count];
+        places.iter().any(|&place| other.category(text(self.bytes, place)).is_some())
+    }
+
     /// Leaves the number of each URN's category too.
     fn check_categories(&self, urns: &mut Urns) -> Result<(), u8> {
         for i in 0..self.category_count {

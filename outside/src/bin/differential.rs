@@ -5,10 +5,10 @@
 //! end stands how often each function gave each refusal number; one that was never given is a failure.
 use outside::baseline::Baseline;
 use outside::cases::{show_counts, show_record, show_records, to_hex};
-use outside::random::tables::{self, Limit};
+use outside::random::tables::{self, Draft, Limit};
 use outside::random::{images, records, trees, values, Random};
 use outside::reference::Reference;
-use outside::{Built, Converted, Early, Match, Plain, Reader, Record, Resolution};
+use outside::{Built, Converted, Early, Match, Pair, Plain, Reader, Record, Resolution};
 use outside::{Resolvers, Tables, Tallies, Tally as Counts, Trees};
 use std::collections::BTreeMap;
 use std::fmt::Debug;
@@ -28,7 +28,7 @@ use outside::ours::Ours;
 const LONGEST: usize = 35_459;
 
 /// Every function with the refusal numbers that it may give.
-const FUNCTIONS: [(&str, &[u8]); 17] = [
+const FUNCTIONS: [(&str, &[u8]); 18] = [
     ("alert_info_refusal", &[0, 1, 2, 3]),
     ("alert_info_entries", &[0, 1, 2, 3]),
     ("alert_info_entry", &[0, 1, 2, 3, 18]),
@@ -45,6 +45,7 @@ const FUNCTIONS: [(&str, &[u8]); 17] = [
     ("resolve_feed", &[0, 1, 2, 3, 4, 5, 6, 7, 8, 9, 10, 11, 12, 19, 28]),
     ("resolve_early", &[0, 1, 2, 3, 4, 5, 6, 7, 8, 9, 10, 11, 12]),
     ("resolve_available", &[0, 1, 2, 3, 4, 5, 6, 7, 8, 9, 10, 11, 12, 23]),
+    ("resolve_pair", &[0, 1, 2, 3, 4, 5, 6, 7, 8, 9, 10, 11, 12, 24]),
     ("tally_value", &[0, 1, 2, 3, 4, 5, 6, 7, 8, 9, 10, 11, 12, 20]),
 ];
 
@@ -193,6 +194,10 @@ fn early<I: Resolvers>(table: &[u8], value: &[u8]) -> Early {
 
 fn available<I: Resolvers>(table: &[u8], set: u32, value: &[u8]) -> Resolution {
     I::available(table, set, value)
+}
+
+fn pair<I: Resolvers>(rings: &[u8], lamps: &[u8], value: &[u8]) -> Pair {
+    I::pair(rings, lamps, value)
 }
 
 /// The answer with the records and counts after it.
@@ -399,6 +404,34 @@ fn hold_available(tally: &mut Tally, random: &mut Random, table: &[u8], value: &
     }
 }
 
+/// Two tables, mostly with no category in common, and values that have URNs of both. The reference goes by the table of all
+/// pairs; here each table alone has to give the same.
+fn hold_pairs(tally: &mut Tally, random: &mut Random) {
+    let rings = tables::draft(random);
+    let mut lamps = tables::draft(random);
+    if random.percent(80) {
+        lamps = tables::renamed(&lamps);
+    }
+    let both = tables::joined(&rings, &lamps);
+    let mut stored = |draft| if random.percent(70) { Draft::bytes(draft) } else { tables::stored(random, draft) };
+    let (rings, lamps) = (stored(&rings), stored(&lamps));
+    for _ in 0..3 {
+        hold_pair(tally, &rings, &lamps, &values::value(random, &both));
+    }
+}
+
+fn hold_pair(tally: &mut Tally, rings: &[u8], lamps: &[u8], value: &[u8]) {
+    let answers = answers!("resolver", pair, rings, lamps, value);
+    let line = || format!("pair {} {} {}", to_hex(rings), to_hex(lamps), to_hex(value));
+    let answer = answers[0].1;
+    tally.hold("resolve_pair", answer.refusal, &answers, line);
+    let alone = |table| Reference::plain(table, value).signal;
+    if answer.refusal == 0 && (answer.ring, answer.lamp) != (alone(rings), alone(lamps)) {
+        println!("each table alone gives another pair: {}", line());
+        tally.wrong += 1;
+    }
+}
+
 /// One value more. The reference's answer with the record after it.
 fn hold_feed(tally: &mut Tally, table: &[u8], record: &Record, value: &[u8]) -> (Resolution, Record) {
     let answers = answers!("resolver", feed, table, record, value);
@@ -477,6 +510,7 @@ fn round(tally: &mut Tally, random: &mut Random, other: &mut Vec<u8>) {
         message.push(value);
     }
     hold_message(tally, &table, &message);
+    hold_pairs(tally, random);
     if let Some(machine) = machine {
         *other = machine;
     }
@@ -544,6 +578,7 @@ const HOLES: [&[u8]; 22] = [
 /// T1, its tree, its machine and a value, with every byte tried at every place, and images of every size that matters.
 fn every_byte(tally: &mut Tally, random: &mut Random) {
     let table = include_bytes!("../../../examples/tables/T1.table");
+    let lamps = include_bytes!("../../../examples/tables/T5.table");
     let image = built(table).expect("T1's machine");
     let (answer, mut tree) = from_table::<Reference>(table, 100);
     tree.truncate(answer.len);
@@ -574,6 +609,8 @@ fn every_byte(tally: &mut Tally, random: &mut Random) {
         for at in 0..table.len() {
             let mut changed = table.to_vec();
             changed[at] = byte;
+            hold_pair(tally, &changed, lamps, value);
+            hold_pair(tally, lamps, &changed, value);
             hold_table(tally, random, &changed, &image);
             hold_from_table(tally, random, &changed);
             hold_matches(tally, &changed, value);

@@ -147,6 +147,23 @@ pub fn draft(random: &mut Random) -> Draft {
     Draft { categories, signals }
 }
 
+/// The same table with its categories renamed, so that it mostly has none in common with another.
+pub fn renamed(draft: &Draft) -> Draft {
+    let rename = |text: &Text| [b"y-", &text[..]].concat();
+    Draft {
+        categories: draft.categories.iter().map(rename).collect(),
+        signals: draft.signals.iter().map(|urns| urns.iter().map(rename).collect()).collect(),
+    }
+}
+
+/// The URNs of both, for values that have some of each.
+pub fn joined(one: &Draft, other: &Draft) -> Draft {
+    Draft {
+        categories: [one.categories.clone(), other.categories.clone()].concat(),
+        signals: [one.signals.clone(), other.signals.clone()].concat(),
+    }
+}
+
 /// A row's URNs, in any order.
 fn urns(random: &mut Random, categories: &[Text], row: &[Vec<Text>]) -> Vec<Text> {
     let mut urns: Vec<Text> = Vec::new();

@@ -5,13 +5,14 @@ pub mod direct;
 pub mod early;
 pub mod fields;
 pub mod machine;
+pub mod pair;
 pub mod table;
 pub mod tally;
 pub mod tree;
 pub mod urn;
 pub mod value;
 
-use crate::{Built, Converted, Early, Match, Plain, Reader, Record};
+use crate::{Built, Converted, Early, Match, Pair, Plain, Reader, Record};
 use crate::{Resolution, Resolvers, Tables, Tallies, Tally, Trees};
 use table::Table;
 
@@ -83,6 +84,10 @@ impl Resolvers for Reference {
 
     fn available(table: &[u8], available: u32, value: &[u8]) -> Resolution {
         available::resolve(table, available, value).unwrap_or_else(Resolution::refused)
+    }
+
+    fn pair(rings: &[u8], lamps: &[u8], value: &[u8]) -> Pair {
+        pair::resolve(rings, lamps, value).unwrap_or_else(Pair::refused)
     }
 }
 

@@ -17,6 +17,8 @@ pub struct Inputs {
     used: Vec<Bytes>,
     /// For some tables, 64 entries of which the first settles the signal.
     settled: Vec<(usize, Bytes)>,
+    /// Tables of rings and of lamps, with a value for both.
+    pairs: Vec<(String, Bytes, Bytes, Bytes)>,
     /// Three fields of one message.
     fields: [Bytes; 3],
     /// Tables that are refused late, after as much comparing as we could think of.
@@ -152,8 +154,22 @@ impl Inputs {
             (2, urns(&["c:l31"], 64)),
             (4, urns(&["b:x6-0:x6-1:x6-2:x6-3:x6-4:x6-5:x6-6:x6-7"], 64)),
         ];
+        let pairs = vec![
+            (
+                "T1 and T5; 3 entries".to_string(),
+                example("T1.table"),
+                example("T5.table"),
+                urns(&["source:internal", "service:recall", "service:recall:callback"], 1),
+            ),
+            (
+                "32 signals and 8,192 bytes; 64 entries".to_string(),
+                limit("32 signals"),
+                limit("8,192 bytes"),
+                urns(&["c:l31", "category-0:0"], 32),
+            ),
+        ];
         let fields = ["source:internal", "source:unclassified", "priority:high"].map(|name| urns(&[name], 1));
-        Inputs { values, tables, trees, used, settled, fields, refused }
+        Inputs { values, tables, trees, used, settled, pairs, fields, refused }
     }
 
     /// Each table with its machine and a value that it uses.
@@ -173,6 +189,11 @@ impl Inputs {
             let (name, table, _) = &self.tables[*i];
             (format!("{name}; {} entries, the first settles", Reference::entries(value)), table, value)
         })
+    }
+
+    /// A table of rings and one of lamps, with a value for both: small, and with 32 signals each.
+    pub fn pairs(&self) -> impl Iterator<Item = (String, &Bytes, &Bytes, &Bytes)> {
+        self.pairs.iter().map(|(name, rings, lamps, value)| (name.clone(), rings, lamps, value))
     }
 
     /// The example tables with a message of three fields.

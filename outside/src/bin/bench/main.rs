@@ -140,6 +140,14 @@ fn available_rows<'a>(inputs: &'a Inputs, rows: &mut Vec<Row<'a>>) {
     }
 }
 
+fn pair_rows<'a>(inputs: &'a Inputs, rows: &mut Vec<Row<'a>>) {
+    for (name, rings, lamps, value) in inputs.pairs() {
+        rows.push(row!("resolver", "resolve_pair", name, |I, _| {
+            I::pair(black_box(rings), black_box(lamps), black_box(value))
+        }));
+    }
+}
+
 fn feed_rows<'a>(inputs: &'a Inputs, rows: &mut Vec<Row<'a>>) {
     for (name, table, message) in inputs.messages() {
         rows.push(row!("resolver", "resolve_feed", name, |I, _| {
@@ -209,6 +217,7 @@ fn main() {
     resolver_rows(&inputs, &mut rows);
     early_rows(&inputs, &mut rows);
     available_rows(&inputs, &mut rows);
+    pair_rows(&inputs, &mut rows);
     feed_rows(&inputs, &mut rows);
     tally_rows(&inputs, &mut rows);
     time::warm_up(&*rows[0].baseline);

@@ -1,0 +1,4 @@
+pub mod NameLaws
+pub mod AloneLaws
+pub mod PairLaws
+pub mod Together

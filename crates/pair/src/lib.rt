@@ -1,0 +1,82 @@
+// Ring and lamp chosen apart: one value's signal in each of two tables that have no category in common.
+//
+// In: a ring table, a lamp table and a value, each any bytes. Out: a refusal number, or the two signals.
+//
+//   names.rt  whether the tables have a category in common
+mod names;
+
+use entry_run::answer::resolved;
+use entry_run::run::at_start;
+use stored_table::Decoded;
+ghost use mathlib.Core.Path.{_≡_};
+ghost use Rattle.alert_info.specs.Value.{refusalOf};
+ghost use Rattle.stored_table.specs.Tables.{tableRefusal};
+ghost use Rattle.stored_table.specs.Decoded.{Means};
+ghost use Rattle.pair.specs.Pair.{refused as refusedWith, signalIn, pairOf};
+
+// A refusal number, 0 if nothing is refused; the ring table's signal; and the lamp table's.
+#[repr(C)]
+pub struct Pair {
+    pub refusal: u8,
+    pub ring: u8,
+    pub lamp: u8,
+}
+
+// Refused: both signals are 0.
+fn refused(k: u8) -> Pair
+    ensures { λ r. ⌜ r ≡ refusedWith k ⌝ }
+{
+    Pair {
+        refusal: k,
+        ring: 0,
+        lamp: 0,
+    }
+}
+
+// The signal of an accepted value with one table.
+fn alone(t: &[u8], d: Decoded, v: &[u8]) -> u8
+    ensures { λ r. ⌜ (Means (now (t .entry)) d → tableRefusal (now (t .entry)) ≡ 0 → refusalOf (now (v .entry)) ≡ 0 → r ≡ signalIn (now (t .entry)) (now (v .entry))) ⌝ }
+{
+    let no_index = [0u8; 136];
+    let no_symbols = [0u8; 384];
+    let e = resolved(t, d, &no_index, &no_symbols, 0, t, at_start(), v);
+    let a = e.answer;
+    a.signal
+}
+
+// The value v with the ring table and with the lamp table.
+pub fn resolve(ring: &[u8], lamp: &[u8], v: &[u8]) -> Pair
+    ensures { λ r. ⌜ r ≡ pairOf (now (ring .entry)) (now (lamp .entry)) (now (v .entry)) ⌝ }
+{
+    let n = alert_info::refusal(v);
+    if n != 0 {
+        return refused(n);
+    }
+    let r = stored_table::decode(ring);
+    if r.refusal != 0 {
+        return refused(r.refusal);
+    }
+    let l = stored_table::decode(lamp);
+    if l.refusal != 0 {
+        return refused(l.refusal);
+    }
+    if !names::apart(
+        ring,
+        &r.name_at,
+        &r.name_len,
+        r.categories,
+        lamp,
+        &l.name_at,
+        &l.name_len,
+        l.categories,
+    ) {
+        return refused(24);
+    }
+    let a = alone(ring, r, v);
+    let b = alone(lamp, l, v);
+    Pair {
+        refusal: 0,
+        ring: a,
+        lamp: b,
+    }
+}
