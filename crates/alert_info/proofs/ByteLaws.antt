@@ -8,7 +8,8 @@ use Prim.Native.Nat.{ℕ, zero, suc, _≤_, _<_}
 use native.Mathlib.Omega.{arith}
 use lib.Dec.{leb, ltb, eqb}
 use borrow.Author.Tests.{eqb-true, leb-true, ltb-true}
-use Rattle.alert_info.specs.Bytes.{bytes, within, oneOf, isBlank, isUri, isToken, isText, isEscapable, inClass}
+use Rattle.ascii.specs.Ascii.{bytes, within}
+use Rattle.alert_info.specs.Bytes.{oneOf, isBlank, isUri, isToken, isText, isEscapable, inClass}
 use Rattle.alert_info.specs.Claims.{ClassesOfBytes}
 
 both : (x y : Bool) → (x && y) ≡ true → (x ≡ true) × (y ≡ true)

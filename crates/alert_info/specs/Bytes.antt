@@ -2,25 +2,13 @@
 -- Assumes nothing.
 use mathlib.Core.Path.{_≡_}
 use Prim.Native.Nat.{ℕ, zero, suc, _/_, _%_, _^_, _<_}
-use Prim.Native.String.{String, len, charAt}
-use Prim.Native.Char.{code}
 use mathlib.Core.Bool.{Bool, false, not, _&&_, _||_}
 use mathlib.Core.List.{List, [], _∷_}
 use lib.Dec.{leb, eqb}
 use lib.ListN.{getD}
+use Rattle.ascii.specs.Ascii.{bytes, within}
 
-abbrev bytesFrom : String → ℕ → ℕ → List ℕ
-bytesFrom s i zero = []
-bytesFrom s i (suc n) = code (charAt s i) ∷ bytesFrom s (suc i) n
-
--- the bytes of an ASCII text
-abbrev pub bytes : String → List ℕ
-bytes s = bytesFrom s 0 (len s)
-
--- b lies from lo to hi, both counted in
-abbrev pub within : ℕ → ℕ → ℕ → Bool
-within lo hi b = leb lo b && leb b hi
-
+-- one of some bytes
 abbrev pub oneOf : List ℕ → ℕ → Bool
 oneOf [] b = false
 oneOf (x ∷ xs) b = eqb b x || oneOf xs b

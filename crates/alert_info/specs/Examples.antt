@@ -2,7 +2,7 @@
 -- Assumes nothing.
 use Prim.Native.Nat.{ℕ, zero, suc}
 use mathlib.Core.List.{List, _++_}
-use Rattle.alert_info.specs.Bytes.{bytes}
+use Rattle.ascii.specs.Ascii.{bytes}
 use Rattle.alert_info.specs.Grammar.{Blanks}
 use Rattle.alert_info.specs.Claims.{Unfolded}
 

@@ -8,9 +8,11 @@ use lib.ListN.{length, getD, take}
 use lib.Seq.{length-take-le}
 use lib.Dec.{eqb, leb}
 use borrow.Author.Tests.{eq-eqb, ne-eqb, eqb-true, lt-leb, leb-true}
-use Rattle.alert_urn.specs.Text.{within, all, labelByte, runBy, labelOk, upTo, nameOk, lengthBy, onFirst, fields}
+use Rattle.ascii.specs.Ascii.{within}
+use Rattle.text_bytes.specs.Text.{all, upTo, onFirst, fields}
+use Rattle.alert_urn.specs.Names.{labelByte, runBy, labelOk, nameOk, lengthBy}
 use Rattle.alert_urn.specs.Urn.{notCapital, noCapital, storedByte, storedName, urnOk, namesBy}
-use Rattle.alert_urn.proofs.Fields.{byTest, fields-first}
+use Rattle.text_bytes.proofs.Fields.{byTest, fields-first}
 use Rattle.alert_urn.proofs.Runs.{run-upTo, label-name, name-some, run-fits, bytes-fit}
 
 -- one byte

@@ -1,4 +1,3 @@
-pub mod Fields
 pub mod Runs
 pub mod Turns
 pub mod Cases

@@ -10,8 +10,10 @@ use lib.ListN.{length, getD, take, drop}
 use lib.Seq.{drop-cons, drop-length, take-all, length-take-le, getD-take}
 use lib.Dec.{eqb, leb}
 use borrow.Author.Tests.{eq-eqb, ne-eqb, leb-true}
-use Rattle.alert_urn.specs.Text.{all, within, labelByte, runBy, labelOk, upTo, past, nameOk, lengthBy}
-use Rattle.alert_urn.proofs.Fields.{byTest, upTo-take}
+use Rattle.ascii.specs.Ascii.{within}
+use Rattle.text_bytes.specs.Text.{all, upTo, past}
+use Rattle.alert_urn.specs.Names.{labelByte, runBy, labelOk, nameOk, lengthBy}
+use Rattle.text_bytes.proofs.Fields.{byTest, upTo-take}
 
 -- the run, one byte further
 module _ (p : ℕ → Bool) (s : List ℕ) (i : ℕ) where

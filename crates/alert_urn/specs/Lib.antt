@@ -1,3 +1,3 @@
 -- what a reader has to believe
-pub mod Text
+pub mod Names
 pub mod Urn

@@ -1,30 +1,12 @@
 -- Alert URNs: in a value with `urn:alert:` before them, in a stored table without it.
-use Prim.Native.Nat.{ℕ, zero, suc, _+_}
-use Prim.Native.String.{String, len, charAt}
-use Prim.Native.Char.{code}
+use Prim.Native.Nat.{ℕ}
 use mathlib.Core.Bool.{Bool, true, false, cond, not, _&&_}
 use mathlib.Core.List.{List, [], _∷_}
 use lib.ListN.{length, drop}
 use lib.Dec.{eqb, leb}
-use Rattle.alert_urn.specs.Text.{within, all, labelByte, upTo, past, nameOk, fields}
-
--- n characters of an ASCII text from the i-th on, as bytes
-unfoldable pub bytesFrom : String → ℕ → ℕ → List ℕ
-bytesFrom s i zero = []
-bytesFrom s i (suc n) = code (charAt s i) ∷ bytesFrom s (suc i) n
-
--- an ASCII text as bytes
-unfoldable pub bytes : String → List ℕ
-bytes s = bytesFrom s 0 (len s)
-
--- a letter as a small one
-abbrev pub lower : ℕ → ℕ
-lower x = cond (within 65 90 x) (x + 32) x
-
--- a text with all its letters as small ones: names of URIs are compared so, without regard to letter case
-unfoldable pub lowered : List ℕ → List ℕ
-lowered [] = []
-lowered (x ∷ s) = lower x ∷ lowered s
+use Rattle.ascii.specs.Ascii.{within, bytes}
+use Rattle.text_bytes.specs.Text.{all, upTo, past, fields, lower}
+use Rattle.alert_urn.specs.Names.{labelByte, nameOk}
 
 -- no capital letter
 abbrev pub notCapital : ℕ → Bool

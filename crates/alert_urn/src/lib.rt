@@ -1,11 +1,10 @@
-// Alert URNs as bytes: their form, and how texts are cut and compared.
+// Alert URNs as bytes: the forms of labels, names and URNs.
 //
-// In: the bytes of a URI, of a table's name or URN, or of two texts. Out: whether they have their form, where a part lies, or how
-// much they have in common.
+// In: the bytes of a URI, of a name or of a URN of a table. Out: whether they have their form.
 //
-//   text.rt    labels and names; texts cut, found and compared
+//   names.rt   labels and names
 //   urn.rt     alert URNs in a value, without regard to letter case
 //   stored.rt  names and URNs as a table stores them
+mod names;
 mod stored;
-pub mod text;
 pub mod urn;

@@ -1,16 +1,16 @@
 // Names as a table stores them, without capital letters: one look at each byte tells of form and letter case.
 ghost use mathlib.Core.Path.{_≡_};
-ghost use Rattle.alert_urn.specs.Text.{runBy, lengthBy};
+ghost use Rattle.alert_urn.specs.Names.{runBy, lengthBy};
 ghost use Rattle.alert_urn.specs.Urn.{storedByte, storedName, namesBy};
 
 // A small letter, a digit or a hyphen.
 fn stored_byte(b: u8) -> bool
     ensures { λ r. ⌜ r ≡ storedByte b ⌝ }
 {
-    if crate::text::in_range(b, 97, 122) {
+    if text_bytes::compare::in_range(b, 97, 122) {
         return true;
     }
-    if crate::text::in_range(b, 48, 57) {
+    if text_bytes::compare::in_range(b, 48, 57) {
         return true;
     }
     b == 45
@@ -36,7 +36,7 @@ fn any_stored_end(s: &[u8]) -> usize
     ensures { λ r. ⌜ r ≡ lengthBy storedName (now (s .entry)) ⌝ }
 {
     let a = 0;
-    let e = crate::text::find(s, 58);
+    let e = text_bytes::cut::find(s, 58);
     if crate::urn::stored_name(&s[a..e]) {
         return e;
     }
@@ -53,7 +53,7 @@ fn stored_end(s: &[u8]) -> usize
             return any_stored_end(s);
         }
     }
-    if crate::text::run_label(s, k) {
+    if crate::names::run_label(s, k) {
         return k;
     }
     0

@@ -9,7 +9,7 @@ use borrow.Author.Tests.{le-leb, eq-eqb}
 use native.Mathlib.Omega.{arith}
 use Rattle.alert_info.specs.Value.{refusalOf, urisOf}
 use Rattle.alert_info.proofs.ReadingLaws.{refusal-long}
-use Rattle.alert_urn.proofs.Fields.{byTest}
+use Rattle.text_bytes.proofs.Fields.{byTest}
 use Rattle.resolution.specs.Direct.{State}
 use Rattle.node_search.specs.Uses.{fewer}
 use Rattle.stored_table.specs.Tables.{tableRefusal, tableOf}

@@ -8,7 +8,7 @@ use lib.Dec.{eqb}
 use borrow.Author.Tests.{eq-eqb, ne-eqb}
 use native.Mathlib.Omega.{arith}
 use Rattle.alert_info.specs.Value.{urisOf}
-use Rattle.alert_urn.proofs.Fields.{byTest}
+use Rattle.text_bytes.proofs.Fields.{byTest}
 use Rattle.resolution.specs.Table.{Urn, mostParts}
 use Rattle.resolution.specs.Says.{Says}
 use Rattle.resolution.specs.Direct.{State, start, step, stepUri, usedOf, changed, changes}

@@ -9,7 +9,7 @@ use lib.ListN.{length}
 use native.Mathlib.Omega.{arith}
 use borrow.Author.Tests.{eq-eqb, ne-eqb, eqb-true, eqb-false}
 use Rattle.alert_info.specs.Value.{urisOf}
-use Rattle.alert_urn.proofs.Fields.{byTest}
+use Rattle.text_bytes.proofs.Fields.{byTest}
 use Rattle.stored_table.specs.Tables.{tableOf}
 use Rattle.entry_run.specs.Answers.{numberOf}
 use Rattle.entry_run.proofs.AnswerLaws.{unless-number}

@@ -9,8 +9,10 @@ use Rattle.resolution.specs.Discovery.{discover, expand}
 use Rattle.resolution.specs.Lists.{tabulate}
 use Rattle.resolution.specs.Nodes.{leaf, nodes}
 use Rattle.resolution.proofs.Theorems.{build-law}
-use Rattle.alert_urn.specs.Text.{all, fields, labelByte, labelOk, nameOk, onFirst, past, upTo}
-use Rattle.alert_urn.specs.Urn.{bytes, bytesFrom, noCapital, storedName, urnOk}
+use Rattle.text_bytes.specs.Text.{all, fields, onFirst, past, upTo}
+use Rattle.alert_urn.specs.Names.{labelByte, labelOk, nameOk}
+use Rattle.ascii.specs.Ascii.{bytes, bytesFrom}
+use Rattle.alert_urn.specs.Urn.{noCapital, storedName, urnOk}
 use Rattle.table_sections.specs.Stored.{andThen, byteIn, counted, stored, storedFrom, text, times}
 use Rattle.stored_table.specs.Tables.{any, distinct, fewNodes, formed, isListed, judged, judgedRead, listed, noTwo, plain, single, tableOf, tableRead, tableRefusal, uses, verdict}
 use Rattle.signal_table.specs.Claims.{TooManyStates}

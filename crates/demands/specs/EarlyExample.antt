@@ -1,7 +1,7 @@
 -- The early answer to values that go on or break off, so that the claims about it are not empty.
 use Prim.Native.String.{String}
 use mathlib.Core.Path.{_≡_}
-use Rattle.alert_urn.specs.Urn.{bytes}
+use Rattle.ascii.specs.Ascii.{bytes}
 use Rattle.early.specs.Early.{earlyOf}
 use Rattle.early.specs.declared.Early.{Early}
 use Rattle.demands.specs.Examples.{T3, T5}

@@ -4,7 +4,7 @@ use Prim.Native.String.{String}
 use mathlib.Core.Path.{_≡_}
 use mathlib.Core.List.{List, [], _∷_, map}
 use lib.ListN.{take}
-use Rattle.alert_urn.specs.Urn.{bytes}
+use Rattle.ascii.specs.Ascii.{bytes}
 use Rattle.stored_table.specs.Written.{written}
 use Rattle.signal_table.specs.Built.{builtFrom, bufferFrom}
 use Rattle.entry_run.specs.declared.Resolution.{Resolution}

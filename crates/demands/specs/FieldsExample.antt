@@ -6,7 +6,7 @@ use mathlib.Core.Path.{_≡_}
 use mathlib.Core.List.{List, [], _∷_, _++_}
 use lib.ListN.{replicate}
 use Rattle.alert_info.specs.Examples.{entriesMore}
-use Rattle.alert_urn.specs.Urn.{bytes}
+use Rattle.ascii.specs.Ascii.{bytes}
 use Rattle.carried_record.specs.Record.{fresh}
 use Rattle.entry_run.specs.declared.Resolution.{Resolution}
 use Rattle.demands.specs.Examples.{T3, T5}

@@ -2,7 +2,7 @@
 use Prim.Native.Nat.{ℕ}
 use mathlib.Core.Path.{_≡_}
 use mathlib.Core.List.{List, [], _∷_}
-use Rattle.alert_urn.specs.Urn.{bytes}
+use Rattle.ascii.specs.Ascii.{bytes}
 use Rattle.stored_table.specs.Written.{written}
 use Rattle.resolver.specs.Resolve.{plainWith}
 

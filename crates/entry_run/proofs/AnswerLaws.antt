@@ -10,7 +10,7 @@ use borrow.Author.Tests.{lt-ltb, le-ltb, eq-eqb, ne-eqb, ltb-true, ltb-false, eq
 use native.Mathlib.Omega.{arith}
 use Rattle.alert_info.specs.Value.{Reading, unfit, spans, readingFrom, readingOf, partOf, refusalOf, urisOf}
 use Rattle.alert_info.proofs.ReadingLaws.{reading-start, refusal-long, refusal-unfit, refusal-many, refusal-none, accepted-uris}
-use Rattle.alert_urn.proofs.Fields.{byTest}
+use Rattle.text_bytes.proofs.Fields.{byTest}
 use Rattle.resolution.specs.Table.{Urn, Table}
 use Rattle.resolution.specs.Direct.{usedOf, usedCount, skippedCount}
 use Rattle.stored_table.specs.Tables.{tableRefusal}

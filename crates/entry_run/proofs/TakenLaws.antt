@@ -13,9 +13,9 @@ use Rattle.resolution.specs.Table.{Urn}
 use Rattle.resolution.specs.Direct.{usedOf, Used, AllUsed}
 use Rattle.resolution.proofs.Lists.{index-member}
 use Rattle.resolution.proofs.Names.{name-exact}
-use Rattle.alert_urn.specs.Text.{fields}
-use Rattle.alert_urn.specs.Urn.{lowered, alertUrn, categoryOf, pathOf}
-use Rattle.alert_urn.proofs.Fields.{fields-first}
+use Rattle.text_bytes.specs.Text.{fields, lowered}
+use Rattle.alert_urn.specs.Urn.{alertUrn, categoryOf, pathOf}
+use Rattle.text_bytes.proofs.Fields.{fields-first}
 use Rattle.node_search.specs.Uses.{usedUrn}
 use Rattle.table_sections.specs.Stored.{Read, fault, got, Stored, stored}
 use Rattle.stored_table.specs.Tables.{tableOf, tableRead, categoryNames, namesRead}

@@ -14,7 +14,7 @@ use borrow.Author.Tests.{eq-eqb, ne-eqb, ltb-true, ltb-false}
 use borrow.Rule.Slice.PartMut.{putMid}
 use Rattle.resolution.specs.Lists.{tabulate}
 use Rattle.resolution.proofs.Lists.{mem-at, tabulate-length, tabulate-same}
-use Rattle.alert_urn.proofs.Fields.{byTest}
+use Rattle.text_bytes.proofs.Fields.{byTest}
 use Rattle.table_sections.specs.Held.{Tagged, tag, taggedFrom}
 use Rattle.table_sections.proofs.Tabulated.{tab-suc, tab-same-end}
 use Rattle.signal_places.proofs.Flat.{tab-list}

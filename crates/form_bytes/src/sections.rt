@@ -18,7 +18,7 @@ pub fn text_in(t: &[u8], a: u16, n: u8) -> &[u8]
 {
     let x = wider(a);
     let k = wide(n);
-    alert_urn::text::part(t, x, k)
+    text_bytes::cut::part(t, x, k)
 }
 
 // The section of the categories, at the front.

@@ -32,7 +32,7 @@ fn targets_below(im: &[u8], categories: usize, n: usize, j: usize) -> bool
     }
     let m = at(im, 0);
     let i = place(im, categories, j) + 1 + categories;
-    let row = alert_urn::text::part(im, i, m);
+    let row = text_bytes::cut::part(im, i, m);
     let mut most = 0;
     let mut k = 0;
     while k < row.len() {
@@ -171,9 +171,9 @@ pub fn formed<'a>(
     if im.len() != place(im, categories, n) {
         return false;
     }
-    let said = alert_urn::text::part(im, 1, 3 * m);
-    let listed = alert_urn::text::part(symbols, 0, 3 * count);
-    if !alert_urn::text::same(said, listed) {
+    let said = text_bytes::cut::part(im, 1, 3 * m);
+    let listed = text_bytes::cut::part(symbols, 0, 3 * count);
+    if !text_bytes::compare::same(said, listed) {
         return false;
     }
     if n < 1 {

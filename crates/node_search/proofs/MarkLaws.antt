@@ -11,7 +11,7 @@ use lib.Dec.{eqb}
 use lib.ListN.{length, getD, set, take, drop, replicate}
 use lib.Seq.{getD-set-same, getD-set-other}
 use borrow.Author.Tests.{eq-eqb, ne-eqb}
-use Rattle.alert_urn.specs.Text.{common}
+use Rattle.text_bytes.specs.Text.{common}
 use Rattle.node_search.specs.Arrays.{stretch, lastPath, SharedIn, childless}
 
 or-false : (b : Bool) → b || false ≡ b

@@ -12,11 +12,11 @@ use lib.ListN.{length-drop, length-take}
 use lib.Dec.{eqb, leb}
 use borrow.Author.Tests.{lt-leb, le-leb, lt-ltb, le-ltb, eq-eqb, ne-eqb, eqb-true}
 use Rattle.resolution.specs.Names.{sameName}
-use Rattle.alert_urn.specs.Text.{upTo, past, commonNext, differAt, endsAt}
-use Rattle.alert_urn.specs.Urn.{lowered, alertUrn}
-use Rattle.alert_urn.proofs.Cases.{lowered-length, lowered-ends, lowered-upTo, lowered-past}
-use Rattle.alert_urn.proofs.Turns.{differ-next}
-use Rattle.alert_urn.proofs.Fields.{upTo-take, upTo-le, past-drop}
+use Rattle.text_bytes.specs.Text.{upTo, past, commonNext, differAt, endsAt, lowered}
+use Rattle.alert_urn.specs.Urn.{alertUrn}
+use Rattle.text_bytes.proofs.Cases.{lowered-length, lowered-ends, lowered-upTo, lowered-past}
+use Rattle.text_bytes.proofs.Turns.{differ-next}
+use Rattle.text_bytes.proofs.Fields.{upTo-take, upTo-le, past-drop}
 use Rattle.node_search.specs.declared.uses.Search.{Search}
 use Rattle.node_search.specs.declared.uses.Use.the-variants.{Skipped}
 use Rattle.node_search.specs.Arrays.{stretch}

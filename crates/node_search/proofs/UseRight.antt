@@ -24,11 +24,12 @@ use Rattle.resolution.proofs.Nodes.{urn-exact}
 use Rattle.resolution.specs.Nodes.{number, nodeAt}
 use Rattle.resolution.proofs.Numbers.{number-node, number-at, root-number, ancestor-le}
 use Rattle.resolution.proofs.Deepest.{deep-above, deep-most, leaf-ends, deepest-node}
-use Rattle.alert_urn.specs.Text.{upTo, past, fields, textOf, someBelow, covers, common, commonNext, comparedBytes}
-use Rattle.alert_urn.specs.Urn.{lowered, alertUrn}
-use Rattle.alert_urn.proofs.Fields.{byTest, fields-first, same-fields, text-fields}
-use Rattle.alert_urn.proofs.Cases.{lowered-drop, lowered-twice, alert-case}
-use Rattle.alert_urn.proofs.Turns.{covers-level, covers-not, covers-ends, common-three, common-le, next-lesser}
+use Rattle.text_bytes.specs.Text.{upTo, past, fields, textOf, someBelow, covers, common, commonNext, comparedBytes, lowered}
+use Rattle.alert_urn.specs.Urn.{alertUrn}
+use Rattle.text_bytes.proofs.Fields.{byTest, fields-first, same-fields, text-fields}
+use Rattle.text_bytes.proofs.Cases.{lowered-drop, lowered-twice}
+use Rattle.alert_urn.proofs.Cases.{alert-case}
+use Rattle.text_bytes.proofs.Turns.{covers-level, covers-not, covers-ends, common-three, common-le, next-lesser}
 use Rattle.node_search.specs.declared.uses.Search.{Search}
 use Rattle.node_search.specs.declared.uses.Use.the-variants.{Skipped, Used}
 use Rattle.node_search.specs.Uses.{usedUrn, CaseIgnored, comparedOver, useOf, findName, nothing, coversBy, metWith, countedIn, lookBy, lookAt, searchFrom, foundIn, fewer, usedBy, usesOf}

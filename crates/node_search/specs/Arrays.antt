@@ -9,7 +9,7 @@ use lib.ListN.{getD, length, take, drop}
 use Rattle.resolution.specs.Names.{Name}
 use Rattle.resolution.specs.Table.{Table}
 use Rattle.resolution.specs.Nodes.{nodes, nodeAt, hasUnder}
-use Rattle.alert_urn.specs.Text.{fields, common}
+use Rattle.text_bytes.specs.Text.{fields, common}
 
 -- the bytes of t at the i-th of the places in `at`, as many as `len` says
 abbrev pub stretch : List ℕ → List ℕ → List ℕ → ℕ → List ℕ

@@ -11,8 +11,8 @@ use Rattle.resolution.specs.Names.{Name, Parts, sameName, sameParts, below}
 use Rattle.resolution.specs.Lists.{memberBy, indexBy}
 use Rattle.resolution.specs.Table.{Urn, urn, Table}
 use Rattle.resolution.specs.Nodes.{nodes, number, leaf, deepest}
-use Rattle.alert_urn.specs.Text.{fields, textOf, someBelow, commonNext, comparedBytes, endsAt}
-use Rattle.alert_urn.specs.Urn.{lowered, alertUrn, categoryOf, pathOf}
+use Rattle.text_bytes.specs.Text.{fields, textOf, someBelow, commonNext, comparedBytes, endsAt, lowered}
+use Rattle.alert_urn.specs.Urn.{alertUrn, categoryOf, pathOf}
 use Rattle.node_search.specs.Arrays.{stretch}
 use Rattle.node_search.specs.declared.uses.Search.{Search}
 use Rattle.node_search.specs.declared.uses.Use.{Use}

@@ -60,7 +60,7 @@ fn path_before<'a, 'b>(
         }
         j = k;
     }
-    alert_urn::text::part(t, 0, 0)
+    text_bytes::cut::part(t, 0, 0)
 }
 
 // A number below 256 as a byte.
@@ -87,7 +87,7 @@ fn share_paths<'a>(
     while i < n {
         let before = path_before(t, category[i], i, category, at, len);
         let path = crate::uses::path_at(t, at, len, i);
-        let k = alert_urn::text::common_from(before, path, 0);
+        let k = text_bytes::compare::common_from(before, path, 0);
         shared[i] = small(k);
         i += 1;
     }

@@ -3,8 +3,7 @@ ghost use mathlib.Core.Bool.{cond, _&&_};
 ghost use Prim.Native.Nat.{_+_, _*_, _≤_, _<_, min};
 ghost use lib.Dec.{eqb, leb};
 ghost use lib.ListN.{length};
-ghost use Rattle.alert_urn.specs.Text.{differAt, endsAt};
-ghost use Rattle.alert_urn.specs.Urn.{lowered};
+ghost use Rattle.text_bytes.specs.Text.{differAt, endsAt, lowered};
 ghost use Rattle.node_search.specs.Arrays.{stretch};
 ghost use Rattle.node_search.specs.Uses.{findName, nothing, metWith, countedIn, lookBy, searchFrom, fewer, usesOf};
 
@@ -58,7 +57,7 @@ fn find_name<'a>(
     while i < n {
         let from = wide16(name_at[i]);
         let size = wide8(name_len[i]);
-        if alert_urn::urn::same_lowered(s, alert_urn::text::part(t, from, size)) {
+        if text_bytes::letter_case::same_lowered(s, text_bytes::cut::part(t, from, size)) {
             return i;
         }
         i += 1;
@@ -79,7 +78,7 @@ pub(crate) fn path_at<'a, 'b>(
 {
     let from = wide16(at[i]);
     let size = wide8(len[i]);
-    alert_urn::text::part(t, from, size)
+    text_bytes::cut::part(t, from, size)
 }
 
 // A path of so many bytes, n of them in common with w, is w or above it.
@@ -89,7 +88,7 @@ fn covers_by(all: usize, w: &[u8], n: usize) -> bool
     if n < all {
         return false;
     }
-    alert_urn::text::ends_at(w, all)
+    text_bytes::cut::ends_at(w, all)
 }
 
 // How many bytes are compared of a path of so many bytes, n of them in common with another.
@@ -161,7 +160,7 @@ fn departs(p: &[u8], w: &[u8], same: usize, l: usize) -> bool
     ensures { λ r. ⌜ r ≡ (eqb same l && differAt (now (p .entry)) (lowered (now (w .entry))) l) ⌝ }
 {
     if same == l {
-        return alert_urn::urn::differ_at(p, w, l);
+        return text_bytes::letter_case::differ_at(p, w, l);
     }
     false
 }
@@ -188,7 +187,7 @@ fn look<'a>(
     if departs(p, w, s.same, l) {
         return counted(s);
     }
-    let n = alert_urn::urn::common_lowered_next(p, w, s.same, l);
+    let n = text_bytes::letter_case::common_lowered_next(p, w, s.same, l);
     let k = i as u8 + 1;
     met(p, w, inner[i], k, n, s)
 }
@@ -262,14 +261,14 @@ pub fn uses<'a>(
 {
     if alert_urn::urn::is_alert_urn(uri) {
         let n = uri.len();
-        let s = alert_urn::text::part(uri, 10, n);
-        let colon = alert_urn::text::find(s, 58);
-        let name = alert_urn::text::part(s, 0, colon);
+        let s = text_bytes::cut::part(uri, 10, n);
+        let colon = text_bytes::cut::find(s, 58);
+        let name = text_bytes::cut::part(s, 0, colon);
         let c = find_name(t, name_at, name_len, name, at_most(categories, 8));
         if c < 8 {
             let found = c as u8;
             let path = colon + 1;
-            let w = alert_urn::text::part(s, path, n);
+            let w = text_bytes::cut::part(s, path, n);
             let most = at_most(nodes, 64);
             let e = search_nodes(t, category, at, len, shared, inner, found, w, most);
             return Use::Used {

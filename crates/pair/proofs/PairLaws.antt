@@ -8,7 +8,7 @@ use lib.ListN.{length, getD}
 use borrow.Author.Tests.{eq-eqb, ne-eqb}
 use native.Mathlib.Omega.{arith}
 use Rattle.alert_info.specs.Value.{refusalOf}
-use Rattle.alert_urn.proofs.Fields.{byTest}
+use Rattle.text_bytes.proofs.Fields.{byTest}
 use Rattle.resolution.specs.Lists.{all, memberBy, indexBy}
 use Rattle.resolution.specs.Names.{Name, sameName}
 use Rattle.resolution.proofs.Lists.{all-stop, mem-at, member-of, index-member}

@@ -11,8 +11,8 @@ use Rattle.resolution.specs.Names.{Name, Parts, sameName}
 use Rattle.resolution.specs.Table.{Urn, urn, Table}
 use Rattle.resolution.specs.Direct.{direct, usedOf}
 use Rattle.resolution.proofs.TableStep.{state-direct, state-signal}
-use Rattle.alert_urn.specs.Text.{fields}
-use Rattle.alert_urn.specs.Urn.{lowered, alertUrn, categoryOf, pathOf}
+use Rattle.text_bytes.specs.Text.{fields, lowered}
+use Rattle.alert_urn.specs.Urn.{alertUrn, categoryOf, pathOf}
 use Rattle.node_search.specs.Uses.{usedUrn}
 use Rattle.pair_table.specs.Pairs.{pairs, pairNumber, pairUri, pairBy, PairLaw}
 use Rattle.pair_table.proofs.Pairs.{pair-one}

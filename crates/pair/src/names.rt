@@ -27,7 +27,7 @@ fn name<'a, 'b>(t: &'a [u8], at: &'b [u16; 8], len: &'b [u8; 8], i: usize) -> &'
 {
     let from = wide16(at[i]);
     let size = wide8(len[i]);
-    alert_urn::text::part(t, from, size)
+    text_bytes::cut::part(t, from, size)
 }
 
 // None of the n categories has the name s.
@@ -37,7 +37,7 @@ fn none_is<'a>(s: &[u8], t: &[u8], at: &'a [u16; 8], len: &'a [u8; 8], n: usize)
 {
     let mut j = 0;
     while j < n {
-        if alert_urn::text::same(s, name(t, at, len, j)) {
+        if text_bytes::compare::same(s, name(t, at, len, j)) {
             return false;
         }
         j += 1;

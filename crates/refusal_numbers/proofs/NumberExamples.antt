@@ -19,8 +19,10 @@ use Rattle.resolution.specs.Nodes.{deepest, leaf, nodes}
 use Rattle.resolution.specs.Symbols.{symbols, stepAt}
 use Rattle.resolution.proofs.Direct.{state-exact}
 use Rattle.resolution.proofs.Discovery.{discover-distinct, discover-reached}
-use Rattle.alert_urn.specs.Text.{all, fields, labelByte, labelOk, nameOk, onFirst, past, upTo}
-use Rattle.alert_urn.specs.Urn.{alertUrn, begins, lowered, noCapital, storedName, restOk, urnOk, bytesFrom, bytes}
+use Rattle.text_bytes.specs.Text.{all, fields, onFirst, past, upTo, lowered}
+use Rattle.alert_urn.specs.Names.{labelByte, labelOk, nameOk}
+use Rattle.ascii.specs.Ascii.{bytesFrom, bytes}
+use Rattle.alert_urn.specs.Urn.{alertUrn, begins, noCapital, storedName, restOk, urnOk}
 use Rattle.node_search.specs.Uses.{usedUrn}
 use Rattle.machine_image.specs.Image.{statusBytes, machineIn, imageOf, joined}
 use Rattle.machine_image.specs.Refusals.{buildRefusal, formOf, stateFormed, checkOf}

@@ -15,8 +15,8 @@ use Rattle.alert_info.proofs.Agree.{refused-exactly}
 use Rattle.alert_info.proofs.Examples.{each-number as each-value, each-entry-number as each-entry}
 use Rattle.resolution.specs.Build.{discovered}
 use Rattle.resolution.proofs.Theorems.{build-law}
-use Rattle.alert_urn.specs.Urn.{bytes}
-use Rattle.alert_urn.proofs.Fields.{byTest}
+use Rattle.ascii.specs.Ascii.{bytes}
+use Rattle.text_bytes.proofs.Fields.{byTest}
 use Rattle.machine_image.specs.Image.{machineImage}
 use Rattle.machine_image.specs.Refusals.{buildRefusal, formOf, checkOf}
 use Rattle.stored_table.specs.Tables.{tableOf, tableRefusal}

@@ -1,25 +1,17 @@
 -- One table as an example: the bound on changes is reached, and signals are not available.
-use Prim.Native.Nat.{ℕ, zero, suc}
-use Prim.Native.String.{String, len, charAt}
-use Prim.Native.Char.{code}
+use Prim.Native.Nat.{ℕ}
+use Prim.Native.String.{String}
 use mathlib.Core.Path.{_≡_}
 use mathlib.Core.Bool.{Bool, false, not}
 use mathlib.Core.Option.{some}
 use mathlib.Core.List.{List, [], _∷_, map}
 use lib.Dec.{eqb}
+use Rattle.ascii.specs.Ascii.{bytes}
 use Rattle.resolution.specs.Table.{Urn, urn, Table, mostParts}
 use Rattle.resolution.specs.Direct.{start, envOf, step, stepUri, changes}
 use Rattle.resolution.specs.Machine.{Machine, walkStep, signalAt}
 use Rattle.resolution.specs.Build.{discovered, machineOf}
 use Rattle.resolution.specs.Available.{directAvailable}
-
-abbrev bytesFrom : String → ℕ → ℕ → List ℕ
-bytesFrom s i zero = []
-bytesFrom s i (suc n) = code (charAt s i) ∷ bytesFrom s (suc i) n
-
--- a text of ASCII characters as its bytes
-abbrev bytes : String → List ℕ
-bytes s = bytesFrom s 0 (len s)
 
 -- the URN of category source with these parts
 abbrev source : List String → Urn

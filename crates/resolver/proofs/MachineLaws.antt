@@ -6,7 +6,7 @@ use mathlib.Core.List.{List}
 use lib.Dec.{eqb}
 use borrow.Author.Tests.{eq-eqb, le-leb}
 use Rattle.alert_info.specs.Value.{refusalOf, urisOf}
-use Rattle.alert_urn.proofs.Fields.{byTest}
+use Rattle.text_bytes.proofs.Fields.{byTest}
 use Rattle.resolution.proofs.Claim.{run-used}
 use Rattle.machine_image.specs.Image.{signalIn, targetIn}
 use Rattle.machine_image.specs.Refusals.{formOf}

@@ -9,7 +9,7 @@ use borrow.Author.Tests.{ne-eqb, eqb-false}
 use native.Mathlib.Omega.{arith}
 use Rattle.alert_info.specs.Value.{refusalOf, urisOf}
 use Rattle.alert_info.proofs.ReadingLaws.{refusal-long}
-use Rattle.alert_urn.proofs.Fields.{byTest}
+use Rattle.text_bytes.proofs.Fields.{byTest}
 use Rattle.resolution.specs.Direct.{usedOf}
 use Rattle.resolution.specs.Direct as direct
 use Rattle.node_step.specs.Step.{coded}

@@ -8,8 +8,8 @@ use native.Mathlib.Omega.{arith}
 use lib.ListN.{length, getD}
 use lib.Dec.{eqb, ltb}
 use borrow.Author.Tests.{eq-eqb, ne-eqb, eqb-true, eqb-false, lt-ltb}
-use Rattle.alert_urn.specs.Text.{all}
-use Rattle.alert_urn.proofs.Fields.{byTest}
+use Rattle.text_bytes.specs.Text.{all}
+use Rattle.text_bytes.proofs.Fields.{byTest}
 use Rattle.resolution.specs.Lists.{tabulate}
 use Rattle.resolution.specs.Names.{Parts}
 use Rattle.resolution.specs.Table.{Urn, Table, placeIn}

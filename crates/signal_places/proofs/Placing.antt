@@ -9,8 +9,8 @@ use native.Mathlib.Nat.{zero-add}
 use lib.ListN.{length, getD, List·getD-eq-default}
 use lib.Dec.{eqb, ltb}
 use borrow.Author.Tests.{eq-eqb, ne-eqb, eqb-true, le-leb, lt-leb, ltb-true, ltb-false}
-use Rattle.alert_urn.specs.Text.{all, fields}
-use Rattle.alert_urn.proofs.Fields.{byTest, same-fields, fields-first}
+use Rattle.text_bytes.specs.Text.{all, fields}
+use Rattle.text_bytes.proofs.Fields.{byTest, same-fields, fields-first}
 use Rattle.resolution.specs.Lists.{tabulate}
 use Rattle.resolution.specs.Names.{Parts, sameParts}
 use Rattle.resolution.specs.Table.{Urn, Table, Row, placeIn, place, rowFrom, rowOf, sameRow}

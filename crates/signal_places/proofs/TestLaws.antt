@@ -4,8 +4,8 @@ use mathlib.Core.Path.{_≡_, refl, ap, sym, _∙_}
 use mathlib.Core.Bool.{Bool, true, false, cond, not, _&&_, and-false, and-assoc, and-eq-true-iff, true≢false, false≢true}
 use mathlib.Core.List.{List, [], _∷_, _++_}
 use native.Mathlib.Omega.{arith}
-use Rattle.alert_urn.specs.Text.{all}
-use Rattle.alert_urn.proofs.Fields.{byTest}
+use Rattle.text_bytes.specs.Text.{all}
+use Rattle.text_bytes.proofs.Fields.{byTest}
 use Rattle.resolution.specs.Lists.{tabulate}
 use Rattle.table_sections.proofs.Tabulated.{tab-suc, tab-split, tab-same-end}
 use Rattle.signal_places.specs.Tests.{any, noTwo}

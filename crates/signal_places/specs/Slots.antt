@@ -9,7 +9,7 @@ use Rattle.resolution.specs.Lists.{tabulate}
 use Rattle.resolution.specs.Names.{Parts, sameName}
 use Rattle.resolution.specs.Table.{Urn, urn, Table, rowOf}
 use Rattle.resolution.specs.Nodes.{nodes, number}
-use Rattle.alert_urn.specs.Text.{all}
+use Rattle.text_bytes.specs.Text.{all}
 use Rattle.node_search.specs.Arrays.{stretch}
 use Rattle.node_step.specs.Rows.{pack, numbersFrom}
 use Rattle.table_sections.specs.Held.{Tagged, tag, taggedFrom, Padded}

@@ -6,7 +6,7 @@ use lib.ListN.{length, getD}
 use lib.Dec.{leb, eqb}
 use Rattle.resolution.specs.Table.{Urn, Table, rowFrom, sameRow}
 use Rattle.resolution.specs.Nodes.{nodes}
-use Rattle.alert_urn.specs.Text.{all}
+use Rattle.text_bytes.specs.Text.{all}
 use Rattle.signal_places.specs.Tests.{noTwo}
 
 -- 9: no signal has two URNs of one category

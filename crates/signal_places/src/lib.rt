@@ -13,7 +13,7 @@ ghost use lib.ListN.{length};
 ghost use Rattle.resolution.specs.Names.{Parts};
 ghost use Rattle.resolution.specs.Table.{Table};
 ghost use Rattle.resolution.specs.Nodes.{nodes};
-ghost use Rattle.alert_urn.specs.Text.{fields};
+ghost use Rattle.text_bytes.specs.Text.{fields};
 ghost use Rattle.node_search.specs.Arrays.{stretch};
 ghost use Rattle.table_sections.specs.Held.{Padded};
 ghost use Rattle.signal_places.specs.Verdict.{verdict};

@@ -7,7 +7,7 @@ ghost use Prim.Native.Nat.{ℕ, _≤_, _<_, _+_, _*_, _-_};
 ghost use lib.ListN.{getD};
 ghost use lib.Dec.{eqb};
 ghost use Rattle.resolution.specs.Lists.{tabulate};
-ghost use Rattle.alert_urn.specs.Text.{all};
+ghost use Rattle.text_bytes.specs.Text.{all};
 ghost use Rattle.table_sections.specs.Held.{Padded};
 ghost use Rattle.signal_places.specs.Tests.{any, noTwo};
 ghost use Rattle.signal_places.specs.Slots.{placeNumber, packedFrom, sameSlots, samePlacesAt};
@@ -99,7 +99,7 @@ fn same_slot(t: &[u8], x: usize, y: usize, at: &[u16; 256], len: &[u8; 256]) -> 
     }
     let i = x - 1;
     let j = y - 1;
-    alert_urn::text::same(urn_text(t, at, len, i), urn_text(t, at, len, j))
+    text_bytes::compare::same(urn_text(t, at, len, i), urn_text(t, at, len, j))
 }
 
 // Signals a and b have the same places in n categories.

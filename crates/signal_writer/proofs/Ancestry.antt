@@ -14,7 +14,8 @@ use Rattle.resolution.specs.Names.{Name, Parts}
 use Rattle.resolution.specs.Table.{Urn, Table}
 use Rattle.resolution.specs.Nodes.{nodeAt}
 use Rattle.resolution.proofs.Lists.{mem-at, tabulate-at, tabulate-length}
-use Rattle.alert_urn.specs.Text.{all, within, afterColons}
+use Rattle.ascii.specs.Ascii.{within}
+use Rattle.text_bytes.specs.Text.{all, afterColons}
 use Rattle.node_search.specs.Arrays.{stretch}
 use Rattle.table_sections.specs.Held.{joined}
 use Rattle.signal_places.specs.Verdict.{verdict}

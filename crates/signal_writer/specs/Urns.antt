@@ -6,7 +6,7 @@ use mathlib.Core.List.{List, [], _∷_, _++_}
 use lib.ListN.{getD}
 use Rattle.resolution.specs.Lists.{tabulate}
 use Rattle.resolution.specs.Names.{Name}
-use Rattle.alert_urn.specs.Text.{within}
+use Rattle.ascii.specs.Ascii.{within}
 use Rattle.node_search.specs.Arrays.{stretch}
 use Rattle.tree_sections.specs.Held.{TreeHeld}
 use Rattle.tree_sections.specs.declared.Counts.{Counts}

@@ -8,9 +8,11 @@ use native.Mathlib.Omega.{arith}
 use lib.ListN.{length, getD, length-append}
 use lib.Dec.{leb, ltb}
 use borrow.Author.Tests.{le-leb, leb-true, ltb-true, ltb-false}
-use Rattle.alert_urn.specs.Text.{all, upTo, past, fields, within, nameOk, labelOk}
+use Rattle.ascii.specs.Ascii.{within}
+use Rattle.text_bytes.specs.Text.{all, upTo, past, fields}
+use Rattle.alert_urn.specs.Names.{nameOk, labelOk}
 use Rattle.alert_urn.specs.Urn.{noCapital, storedName, urnOk, categoryOf}
-use Rattle.alert_urn.proofs.Fields.{byTest, fields-first, fields-more, fields-last}
+use Rattle.text_bytes.proofs.Fields.{byTest, fields-first, fields-more, fields-last}
 use Rattle.resolution.specs.Lists.{memberBy, indexBy}
 use Rattle.resolution.specs.Names.{Name, sameName}
 use Rattle.resolution.specs.Table.{Urn, urn, Table, rowOf, sameRow}

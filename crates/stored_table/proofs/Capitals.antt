@@ -3,7 +3,8 @@ use Prim.Native.Nat.{ℕ}
 use mathlib.Core.Path.{_≡_, refl, ap, ap₂, _∙_}
 use mathlib.Core.Bool.{Bool, true, false, cond, _&&_}
 use mathlib.Core.List.{List, [], _∷_}
-use Rattle.alert_urn.specs.Text.{all, nameOk}
+use Rattle.text_bytes.specs.Text.{all}
+use Rattle.alert_urn.specs.Names.{nameOk}
 use Rattle.alert_urn.specs.Urn.{noCapital, storedName, urnOk}
 use Rattle.alert_urn.proofs.Capitals.{exchange, all-two, name-two}
 use Rattle.table_sections.specs.Stored.{Read, fault, got, Stored, sections}

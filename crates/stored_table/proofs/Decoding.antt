@@ -7,7 +7,7 @@ use mathlib.Core.List.{List, [], _∷_, _++_, map, foldl}
 use native.Mathlib.Omega.{arith}
 use borrow.Author.Tests.{lt-leb, ne-eqb}
 use lib.ListN.{length, getD, length-append}
-use Rattle.alert_urn.specs.Text.{fields}
+use Rattle.text_bytes.specs.Text.{fields}
 use Rattle.resolution.specs.Lists.{tabulate}
 use Rattle.resolution.specs.Names.{Name, Parts}
 use Rattle.resolution.specs.Table.{Urn, urn, Table}

@@ -8,8 +8,10 @@ use lib.ListN.{length, getD, List·getD-map}
 use Rattle.resolution.specs.Lists.{tabulate}
 use Rattle.resolution.specs.Nodes.{nodes}
 use Rattle.resolution.proofs.Lists.{tabulate-at}
-use Rattle.alert_urn.specs.Text.{all, fields, labelByte, labelOk, nameOk, onFirst, past, upTo}
-use Rattle.alert_urn.specs.Urn.{noCapital, storedName, urnOk, bytesFrom, bytes}
+use Rattle.text_bytes.specs.Text.{all, fields, onFirst, past, upTo}
+use Rattle.alert_urn.specs.Names.{labelByte, labelOk, nameOk}
+use Rattle.ascii.specs.Ascii.{bytesFrom, bytes}
+use Rattle.alert_urn.specs.Urn.{noCapital, storedName, urnOk}
 use Rattle.table_sections.specs.Stored.{andThen, byteIn, counted, stored, storedFrom, text, times}
 use Rattle.stored_table.specs.Tables.{any, distinct, fewNodes, formed, isListed, judged, judgedRead, listed, noTwo, plain, single, tableOf, tableRead, tableRefusal, uses, verdict, EachNumber}
 use Rattle.stored_table.specs.Examples.{least, fullest, refusedTables}

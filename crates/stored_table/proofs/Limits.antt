@@ -8,8 +8,8 @@ use lib.ListN.{length, getD}
 use Rattle.resolution.specs.Names.{Parts}
 use Rattle.resolution.specs.Table.{Urn}
 use Rattle.resolution.specs.Nodes.{nodes}
-use Rattle.alert_urn.specs.Text.{fields, onFirst, past, upTo}
-use Rattle.alert_urn.specs.Urn.{bytesFrom, bytes}
+use Rattle.text_bytes.specs.Text.{fields, onFirst, past, upTo}
+use Rattle.ascii.specs.Ascii.{bytesFrom, bytes}
 use Rattle.table_sections.specs.Stored.{andThen, byteIn, counted, stored, storedFrom, text, times}
 use Rattle.stored_table.specs.Tables.{tableOf, tableRead, tableRefusal}
 use Rattle.stored_table.specs.Limits.{Limits, Least, Most, Categories, Signals, Nodes, PathOf}

@@ -4,7 +4,9 @@ use mathlib.Core.Path.{_≡_}
 use mathlib.Core.Bool.{Bool, true, false, cond, _&&_}
 use mathlib.Core.List.{List}
 use lib.ListN.{length}
-use Rattle.alert_urn.specs.Text.{within, all, fields, nameOk}
+use Rattle.ascii.specs.Ascii.{within}
+use Rattle.text_bytes.specs.Text.{all, fields}
+use Rattle.alert_urn.specs.Names.{nameOk}
 use Rattle.alert_urn.specs.Urn.{noCapital}
 use Rattle.table_sections.specs.Stored.{got, Stored, sections}
 use Rattle.stored_table.specs.Tables.{listed, tableIn, verdict, tableRefusal}

@@ -6,7 +6,7 @@ use mathlib.Core.List.{List}
 use lib.ListN.{length}
 use Rattle.resolution.specs.Lists.{tabulate}
 use Rattle.resolution.specs.Nodes.{nodes}
-use Rattle.alert_urn.specs.Text.{fields}
+use Rattle.text_bytes.specs.Text.{fields}
 use Rattle.node_search.specs.Arrays.{stretch}
 use Rattle.table_sections.specs.Held.{Padded, ReadAs}
 use Rattle.table_sections.specs.declared.Counts.{Counts}

@@ -8,7 +8,7 @@ use lib.ListN.{length}
 use Rattle.resolution.specs.Lists.{indexBy}
 use Rattle.resolution.specs.Names.{Name, sameName}
 use Rattle.resolution.specs.Table.{Urn, urn, Table}
-use Rattle.alert_urn.specs.Text.{all, fields}
+use Rattle.text_bytes.specs.Text.{all, fields}
 use Rattle.alert_urn.specs.Urn.{storedName, urnOk, categoryOf, pathOf}
 use Rattle.table_sections.specs.Stored.{Read, fault, got, Stored, stored, sections}
 unfoldable pub use Rattle.signal_places.specs.Tests.{any, noTwo}

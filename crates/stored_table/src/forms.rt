@@ -2,7 +2,7 @@ use table_sections::texts::urn_text;
 ghost use mathlib.Core.Path.{_≡_};
 ghost use Prim.Native.Nat.{_≤_};
 ghost use Rattle.resolution.specs.Lists.{tabulate};
-ghost use Rattle.alert_urn.specs.Text.{all};
+ghost use Rattle.text_bytes.specs.Text.{all};
 ghost use Rattle.alert_urn.specs.Urn.{urnOk};
 ghost use Rattle.node_search.specs.Arrays.{stretch};
 

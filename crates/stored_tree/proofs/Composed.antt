@@ -12,9 +12,10 @@ use Rattle.resolution.specs.Names.{Name, Parts, sameName}
 use Rattle.resolution.specs.Table.{Table}
 use Rattle.resolution.specs.Nodes.{nodeAt}
 use Rattle.resolution.proofs.Lists.{mem-at, tabulate-at, tabulate-length}
-use Rattle.alert_urn.specs.Text.{all, within}
+use Rattle.ascii.specs.Ascii.{within}
+use Rattle.text_bytes.specs.Text.{all}
 use Rattle.alert_urn.specs.Urn.{storedName}
-use Rattle.alert_urn.proofs.Fields.{byTest}
+use Rattle.text_bytes.proofs.Fields.{byTest}
 use Rattle.node_search.specs.Arrays.{stretch}
 use Rattle.table_sections.specs.Stored.{fault}
 use Rattle.table_sections.specs.Held.{joined, Padded}

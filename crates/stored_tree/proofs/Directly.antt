@@ -14,9 +14,11 @@ use Rattle.resolution.specs.Table.{Urn, urn, Table}
 use Rattle.resolution.specs.Nodes.{nodes}
 use Rattle.resolution.proofs.Lists.{mem-at, member-of, index-at, same-test}
 use Rattle.resolution.proofs.Names.{name-exact}
-use Rattle.alert_urn.specs.Text.{all, within, nameOk, fields, afterColons}
+use Rattle.ascii.specs.Ascii.{within}
+use Rattle.text_bytes.specs.Text.{all, fields, afterColons}
+use Rattle.alert_urn.specs.Names.{nameOk}
 use Rattle.alert_urn.specs.Urn.{storedName, urnOk, categoryOf}
-use Rattle.alert_urn.proofs.Fields.{byTest}
+use Rattle.text_bytes.proofs.Fields.{byTest}
 use Rattle.signal_places.specs.Tests.{any, noTwo}
 use Rattle.stored_table.specs.Tables.{formed, uses, listed, tableIn, judged}
 use Rattle.table_categories.specs.Categories.{isListed}

@@ -9,8 +9,8 @@ use lib.ListN.{length, getD, set, drop, length-take, length-drop}
 use lib.Seq.{getD-set-same, getD-set-other}
 use lib.Dec.{eqb, leb}
 use borrow.Author.Tests.{eq-eqb, ne-eqb, eqb-false, le-leb, lt-leb}
-use Rattle.alert_urn.specs.Text.{all}
-use Rattle.alert_urn.proofs.Fields.{byTest}
+use Rattle.text_bytes.specs.Text.{all}
+use Rattle.text_bytes.proofs.Fields.{byTest}
 use Rattle.resolution.specs.Lists.{tabulate}
 use Rattle.node_search.specs.Arrays.{stretch}
 use Rattle.signal_places.proofs.TestLaws.{all-next, all-fails}

@@ -14,7 +14,8 @@ use Rattle.resolution.specs.Names.{Parts, sameName}
 use Rattle.resolution.specs.Table.{Urn, urn, Table}
 use Rattle.resolution.specs.Nodes.{nodes, number, nodeAt}
 use Rattle.resolution.proofs.Lists.{tabulate-same, mem-at, tabulate-at, tabulate-length}
-use Rattle.alert_urn.specs.Text.{all, within, afterColons}
+use Rattle.ascii.specs.Ascii.{within}
+use Rattle.text_bytes.specs.Text.{all, afterColons}
 use Rattle.signal_places.specs.Slots.{urnOf as listedUrn, Listing, Numbering}
 use Rattle.signal_places.specs.Tests.{any, noTwo}
 use Rattle.table_sections.specs.Held.{tag, taggedFrom, joined}

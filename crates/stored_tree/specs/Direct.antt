@@ -7,7 +7,7 @@ use lib.Dec.{leb, eqb}
 use Rattle.resolution.specs.Lists.{tabulate}
 use Rattle.resolution.specs.Names.{Name, sameName}
 use Rattle.resolution.specs.Table.{Table}
-use Rattle.alert_urn.specs.Text.{all}
+use Rattle.text_bytes.specs.Text.{all}
 use Rattle.signal_places.specs.Tests.{any, noTwo}
 use Rattle.signal_places.specs.Verdict.{verdict}
 use Rattle.tree_sections.specs.Tree.{Tree}

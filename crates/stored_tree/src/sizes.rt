@@ -7,7 +7,7 @@ ghost use Prim.Native.Nat.{_≤_, _-_};
 ghost use lib.ListN.{length, getD};
 ghost use lib.Dec.{eqb, leb};
 ghost use Rattle.resolution.specs.Lists.{tabulate};
-ghost use Rattle.alert_urn.specs.Text.{all};
+ghost use Rattle.text_bytes.specs.Text.{all};
 ghost use Rattle.stored_tree.specs.Stages.{Parented, Sizes, Depths, UrnCategories, Nodes};
 
 // What node p has, or `first` if p is 0.

@@ -11,9 +11,9 @@ use lib.ListN.{length, getD, set, take, drop, length-take, length-drop, drop-of-
 use lib.Seq.{getD-set-same, getD-set-other, drop-drop, take-nil}
 use lib.Dec.{eqb, ltb}
 use borrow.Author.Tests.{eq-eqb, eqb-true, eqb-false, ne-eqb, ltb-true, ltb-false}
-use Rattle.alert_urn.specs.Text.{upTo}
+use Rattle.text_bytes.specs.Text.{upTo}
 use Rattle.alert_urn.specs.Urn.{categoryOf, pathOf}
-use Rattle.alert_urn.proofs.Fields.{byTest, upTo-take, past-drop}
+use Rattle.text_bytes.proofs.Fields.{byTest, upTo-take, past-drop}
 use Rattle.resolution.specs.Lists.{tabulate, memberBy, indexBy}
 use Rattle.resolution.specs.Names.{sameName}
 use Rattle.node_search.specs.Arrays.{stretch}

@@ -14,7 +14,7 @@ ghost use lib.ListN.{length, getD};
 ghost use lib.Dec.{eqb};
 ghost use Rattle.resolution.specs.Lists.{tabulate, indexBy};
 ghost use Rattle.resolution.specs.Names.{sameName};
-ghost use Rattle.alert_urn.specs.Text.{all};
+ghost use Rattle.text_bytes.specs.Text.{all};
 ghost use Rattle.alert_urn.specs.Urn.{storedName};
 ghost use Rattle.node_search.specs.Arrays.{stretch};
 ghost use Rattle.signal_places.specs.Tests.{any, noTwo};
@@ -42,7 +42,7 @@ fn name_index(t: &[u8], s: &[u8], n: usize, at: &[u16; 8], len: &[u8; 8]) -> usi
 {
     let mut i = 0;
     while i < n {
-        if alert_urn::text::same(s, name_text(t, at, len, i)) {
+        if text_bytes::compare::same(s, name_text(t, at, len, i)) {
             return i;
         }
         i += 1;
@@ -101,7 +101,7 @@ pub fn index_urns(
     while i < m {
         let u = urn_text(t, at, len, i);
         let a = 0;
-        let k = alert_urn::text::find(u, 58);
+        let k = text_bytes::cut::find(u, 58);
         let c = name_index(t, &u[a..k], n, name_at, name_len);
         if c < n {
             let e = path_start(u.len(), k);

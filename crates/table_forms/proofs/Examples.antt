@@ -4,8 +4,10 @@ use mathlib.Core.List.{[], _∷_, map}
 use lib.ListN.{length}
 use Rattle.resolution.specs.Lists.{all as forall}
 use Rattle.resolution.specs.Nodes.{nodes}
-use Rattle.alert_urn.specs.Text.{all, labelByte, labelOk, upTo, past, nameOk, fields, onFirst, afterColons}
-use Rattle.alert_urn.specs.Urn.{bytesFrom, bytes, noCapital, storedName, urnOk}
+use Rattle.text_bytes.specs.Text.{all, upTo, past, fields, onFirst, afterColons}
+use Rattle.alert_urn.specs.Names.{labelByte, labelOk, nameOk}
+use Rattle.ascii.specs.Ascii.{bytesFrom, bytes}
+use Rattle.alert_urn.specs.Urn.{noCapital, storedName, urnOk}
 use Rattle.table_sections.specs.Stored.{andThen, byteIn, text, times, counted, storedFrom, stored}
 use Rattle.signal_places.specs.Tests.{any, noTwo}
 use Rattle.stored_table.specs.Tables.{formed, uses, listed, judged}

@@ -18,8 +18,9 @@ use Rattle.resolution.proofs.Lists.{same-test, all-to, all-of, Extends, extends
 use Rattle.resolution.proofs.Names.{snoc-view}
 use Rattle.resolution.proofs.Nodes.{urn-exact, root-free, nodes-all, urn-node}
 use Rattle.resolution.proofs.Numbers.{Parents, nodes-ordered, number-node}
-use Rattle.alert_urn.specs.Text.{all, within}
-use Rattle.alert_urn.proofs.Fields.{byTest}
+use Rattle.ascii.specs.Ascii.{within}
+use Rattle.text_bytes.specs.Text.{all}
+use Rattle.text_bytes.proofs.Fields.{byTest}
 use Rattle.table_nodes.specs.Nodes.{Numbered}
 use Rattle.stored_table.proofs.Accepting.{all-mem}
 use Rattle.tree_sections.specs.Tree.{Node, nodeOf, Tree}

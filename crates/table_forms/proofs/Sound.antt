@@ -16,7 +16,9 @@ use Rattle.resolution.proofs.Lists.{mem-at}
 use Rattle.resolution.proofs.Names.{snoc-view}
 use Rattle.resolution.proofs.Nodes.{nodes-all, urn-node}
 use Rattle.resolution.proofs.Numbers.{number-node, number-le}
-use Rattle.alert_urn.specs.Text.{all, within, upTo, past, nameOk, fields, afterColons}
+use Rattle.ascii.specs.Ascii.{within}
+use Rattle.text_bytes.specs.Text.{all, upTo, past, fields, afterColons}
+use Rattle.alert_urn.specs.Names.{nameOk}
 use Rattle.alert_urn.specs.Urn.{noCapital, storedName, urnOk}
 use Rattle.table_sections.specs.Stored.{got, Stored, stored}
 use Rattle.stored_table.specs.Tables.{toUrn, tableIn}

@@ -13,9 +13,11 @@ use Rattle.resolution.specs.Names.{Name, Parts, sameName}
 use Rattle.resolution.specs.Table.{Urn, urn, Table}
 use Rattle.resolution.proofs.Lists.{index-member, index-at, mem-at}
 use Rattle.resolution.proofs.Names.{name-exact}
-use Rattle.alert_urn.specs.Text.{all, within, labelByte, labelOk, upTo, past, nameOk, fields, onFirst, afterColons}
+use Rattle.ascii.specs.Ascii.{within}
+use Rattle.text_bytes.specs.Text.{all, upTo, past, fields, onFirst, afterColons}
+use Rattle.alert_urn.specs.Names.{labelByte, labelOk, nameOk}
 use Rattle.alert_urn.specs.Urn.{notCapital, noCapital, storedName, urnOk}
-use Rattle.alert_urn.proofs.Fields.{byTest, past-drop, fields-first, fields-more, fields-last, fields-join}
+use Rattle.text_bytes.proofs.Fields.{byTest, past-drop, fields-first, fields-more, fields-last, fields-join}
 use Rattle.table_sections.specs.Stored.{Stored}
 use Rattle.signal_places.proofs.TestLaws.{all-join}
 use Rattle.signal_places.specs.Tests.{noTwo, any}

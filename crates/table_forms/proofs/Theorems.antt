@@ -11,9 +11,9 @@ use lib.Seq.{take-append-seam, drop-append-seam}
 use lib.Dec.{eqb, leb, ltb}
 use borrow.Author.Tests.{le-ltb, leb-true, eq-eqb}
 use Rattle.resolution.specs.Names.{sameName}
-use Rattle.alert_urn.specs.Text.{all}
+use Rattle.text_bytes.specs.Text.{all}
 use Rattle.alert_urn.specs.Urn.{storedName, urnOk}
-use Rattle.alert_urn.proofs.Fields.{byTest}
+use Rattle.text_bytes.proofs.Fields.{byTest}
 use Rattle.table_sections.specs.Stored.{Read, fault, got, text, counted, Stored, stored, sections}
 use Rattle.signal_places.specs.Tests.{noTwo}
 use Rattle.stored_table.specs.Tables.{formed, listed, tableIn, judged, tableRefusal, tableRead, tableOf}

@@ -11,8 +11,8 @@ use lib.ListN.{length, getD, take, drop, length-append, length-drop, take-append
 use lib.Seq.{drop-cons, drop-drop, drop-append-seam, take-append-seam, length-take-le}
 use lib.Dec.{leb, ltb}
 use borrow.Author.Tests.{le-ltb, leb-true, ltb-false}
-use Rattle.alert_urn.specs.Text.{within}
-use Rattle.alert_urn.proofs.Fields.{byTest}
+use Rattle.ascii.specs.Ascii.{within}
+use Rattle.text_bytes.proofs.Fields.{byTest}
 use Rattle.table_sections.specs.Stored.{Read, fault, got, andThen, byteIn, text, times, counted, Stored, storedFrom, stored}
 use Rattle.table_sections.proofs.Readings.{byte-good, byte-read, text-good, after-got}
 use Rattle.tree_sections.specs.Tree.{Node, Tree, anyByte, node, signalsFrom, nodesFrom, tree}

@@ -3,7 +3,7 @@ use Prim.Native.Nat.{ℕ}
 use Prim.Native.String.{String}
 use mathlib.Core.List.{List, [], _∷_, _++_}
 use lib.ListN.{replicate}
-use Rattle.alert_urn.specs.Urn.{bytes}
+use Rattle.ascii.specs.Ascii.{bytes}
 use Rattle.stored_table.specs.Written.{written}
 use Rattle.tree_sections.specs.Tree.{Node, Tree}
 use Rattle.table_forms.specs.Bytes.{treeBytes}

@@ -5,7 +5,7 @@ use lib.ListN.{length, getD, take}
 use Rattle.resolution.specs.Names.{Name, Parts}
 use Rattle.resolution.specs.Table.{Urn, urn, Table}
 use Rattle.resolution.specs.Nodes.{nodes, number, nodeAt}
-use Rattle.alert_urn.specs.Text.{afterColons}
+use Rattle.text_bytes.specs.Text.{afterColons}
 use Rattle.table_sections.specs.Stored.{Stored}
 use Rattle.stored_table.specs.Tables.{tableIn}
 use Rattle.tree_sections.specs.Tree.{Node, Tree}

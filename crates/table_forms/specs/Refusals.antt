@@ -7,7 +7,8 @@ use lib.Dec.{leb, ltb, eqb}
 use Rattle.resolution.specs.Lists.{sameList, all as forall}
 use Rattle.resolution.specs.Table.{Table}
 use Rattle.resolution.specs.Nodes.{sameUrn, nodes}
-use Rattle.alert_urn.specs.Text.{all, within}
+use Rattle.ascii.specs.Ascii.{within}
+use Rattle.text_bytes.specs.Text.{all}
 use Rattle.alert_urn.specs.Urn.{storedName}
 use Rattle.table_sections.specs.Stored.{Read, fault, got, Stored}
 use Rattle.stored_table.specs.Tables.{judged}

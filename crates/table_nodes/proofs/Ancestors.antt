@@ -7,7 +7,7 @@ use mathlib.Core.List.{List, [], _∷_, _++_, foldl, foldl-append, append-assoc}
 use native.Mathlib.Omega.{arith}
 use lib.ListN.{length, length-append}
 use lib.Dec.{eqb}
-use Rattle.alert_urn.proofs.Fields.{byTest}
+use Rattle.text_bytes.proofs.Fields.{byTest}
 use Rattle.resolution.specs.Lists.{addBy}
 use Rattle.resolution.specs.Names.{Name, Parts, sameParts}
 use Rattle.resolution.specs.Table.{Urn, urn, Table}

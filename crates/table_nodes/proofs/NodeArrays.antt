@@ -10,8 +10,8 @@ use lib.ListN.{length, getD, set, take, drop, length-append, length-take, length
 use lib.Seq.{getD-set-same, getD-set-other, take-all, getD-drop, drop-cons}
 use lib.Dec.{eqb}
 use borrow.Author.Tests.{eq-eqb, ne-eqb, eqb-true, eqb-false}
-use Rattle.alert_urn.specs.Text.{upTo, fields}
-use Rattle.alert_urn.proofs.Fields.{byTest, same-fields, upTo-le, upTo-stop, upTo-take, fields-first, fields-upTo, fields-join, part-end}
+use Rattle.text_bytes.specs.Text.{upTo, fields}
+use Rattle.text_bytes.proofs.Fields.{byTest, same-fields, upTo-le, upTo-stop, upTo-take, fields-first, fields-upTo, fields-join, part-end}
 use Rattle.resolution.specs.Lists.{tabulate, memberBy, indexBy, addBy}
 use Rattle.resolution.specs.Names.{Name, Parts, sameName}
 use Rattle.resolution.specs.Table.{Urn, urn}

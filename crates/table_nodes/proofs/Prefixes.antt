@@ -6,8 +6,8 @@ use native.Mathlib.Numerals.{add-one}
 use lib.ListN.{length, getD, take, drop, drop-of-length-le}
 use lib.Seq.{take-suc, take-add, drop-cons, drop-drop, append-snoc}
 use Rattle.resolution.specs.Nodes.{past as begins}
-use Rattle.alert_urn.specs.Text.{upTo, fields}
-use Rattle.alert_urn.proofs.Fields.{upTo-take, fields-first, fields-upTo, fields-join, fields-tail}
+use Rattle.text_bytes.specs.Text.{upTo, fields}
+use Rattle.text_bytes.proofs.Fields.{upTo-take, fields-first, fields-upTo, fields-join, fields-tail}
 
 -- the nodes of a URN's text that are still to come when the first i bytes are done
 abbrev pub coming : List ℕ → ℕ → List (List (List ℕ))

@@ -9,7 +9,7 @@ use Rattle.resolution.specs.Lists.{tabulate, addBy}
 use Rattle.resolution.specs.Names.{Name, Parts}
 use Rattle.resolution.specs.Table.{Urn, urn}
 use Rattle.resolution.specs.Nodes.{sameUrn, nodeAt, isNode, addUrn}
-use Rattle.alert_urn.specs.Text.{fields}
+use Rattle.text_bytes.specs.Text.{fields}
 use Rattle.node_search.specs.Arrays.{stretch}
 use Rattle.table_sections.specs.Held.{Padded}
 use Rattle.table_nodes.specs.declared.Added.{Added}

@@ -12,7 +12,7 @@ ghost use lib.Dec.{eqb};
 ghost use Rattle.resolution.specs.Lists.{tabulate};
 ghost use Rattle.resolution.specs.Table.{urn};
 ghost use Rattle.resolution.specs.Nodes.{sameUrn, isNode, number};
-ghost use Rattle.alert_urn.specs.Text.{fields};
+ghost use Rattle.text_bytes.specs.Text.{fields};
 ghost use Rattle.node_search.specs.Arrays.{stretch};
 ghost use Rattle.table_nodes.specs.Nodes.{nodeUrn, pathUrn, Clear, AddsNode, AddsPath, AddsUrn, AllAdded};
 
@@ -23,7 +23,7 @@ fn node_text<'a>(t: &'a [u8], at: &[u16; 64], len: &[u8; 64], i: usize) -> &'a [
 {
     let a = wider(at[i]);
     let n = wide(len[i]);
-    alert_urn::text::part(t, a, n)
+    text_bytes::cut::part(t, a, n)
 }
 
 // Node i + 1 has the category c and the path s.
@@ -41,7 +41,7 @@ fn node_is(
 {
     let x = cats[i];
     if c == x {
-        return alert_urn::text::same(s, node_text(t, at, len, i));
+        return text_bytes::compare::same(s, node_text(t, at, len, i));
     }
     false
 }
@@ -119,7 +119,7 @@ fn add_node(
     let m = find_unless(
         t,
         c,
-        alert_urn::text::part(t, from, k),
+        text_bytes::cut::part(t, from, k),
         n,
         new,
         cats,
@@ -179,9 +179,9 @@ fn add_path(
         (now (cats .exit)) (now (parents .exit)) (now (at .exit)) (now (len .exit)) r ⌝ }
     ensures few { λ r. ⌜ (r .node ≤ 64) × (r .count ≤ 64) ⌝ }
 {
-    let w = alert_urn::text::part(t, from, k);
+    let w = text_bytes::cut::part(t, from, k);
     let e = w.len();
-    let mut i = alert_urn::text::find(w, 58);
+    let mut i = text_bytes::cut::find(w, 58);
     let first = surely_new(false, i, e);
     let mut r = add_node(t, c, from, i, 0, n, first, cats, parents, at, len);
     while i < e {
@@ -189,7 +189,7 @@ fn add_path(
             return r;
         }
         let a = i + 1;
-        i = a + alert_urn::text::find(&w[a..e], 58);
+        i = a + text_bytes::cut::find(&w[a..e], 58);
         let new = surely_new(r.new, i, e);
         r = add_node(t, c, from, i, r.node, r.count, new, cats, parents, at, len);
     }
@@ -213,7 +213,7 @@ fn add_urn(
         (now (cats .exit)) (now (parents .exit)) (now (at .exit)) (now (len .exit)) r ⌝ }
     ensures few { λ r. ⌜ (r .node ≤ 64) × (r .count ≤ 64) ⌝ }
 {
-    let m = find_node(t, c, alert_urn::text::part(t, from, k), n, cats, at, len);
+    let m = find_node(t, c, text_bytes::cut::part(t, from, k), n, cats, at, len);
     if 0 < m {
         return Added {
             node: m,

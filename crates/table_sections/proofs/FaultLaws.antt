@@ -7,7 +7,7 @@ use mathlib.Core.List.{List, [], _∷_}
 use native.Mathlib.Omega.{arith}
 use lib.ListN.{length, getD}
 use lib.Dec.{leb, ltb}
-use Rattle.alert_urn.specs.Text.{within}
+use Rattle.ascii.specs.Ascii.{within}
 use Rattle.table_sections.specs.Stored.{Read, fault, got, andThen, byteIn, text, times, counted, signal, storedFrom, Stored, stored, sections}
 use Rattle.table_sections.proofs.Readings.{after-got, byte-read, times-length}
 

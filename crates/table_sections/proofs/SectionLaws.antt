@@ -11,8 +11,8 @@ use lib.Seq.{getD-set-same, getD-set-other}
 use Rattle.node_search.specs.Arrays.{stretch}
 use lib.Dec.{leb, ltb}
 use borrow.Author.Tests.{lt-ltb, le-ltb, ltb-false}
-use Rattle.alert_urn.specs.Text.{within}
-use Rattle.alert_urn.proofs.Fields.{byTest}
+use Rattle.ascii.specs.Ascii.{within}
+use Rattle.text_bytes.proofs.Fields.{byTest}
 use Rattle.resolution.specs.Lists.{tabulate}
 use Rattle.resolution.proofs.Lists.{tabulate-same}
 use Rattle.table_sections.specs.Stored.{Read, fault, got, andThen, byteIn, text, times, counted, categories, signal, storedFrom, Stored, stored, sections}

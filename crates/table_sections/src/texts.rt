@@ -12,9 +12,9 @@ pub fn name_text<'a>(t: &'a [u8], at: &[u16; 8], len: &[u8; 8], i: usize) -> &'a
     if i < 8 {
         let a = wider(at[i]);
         let n = wide(len[i]);
-        return alert_urn::text::part(t, a, n);
+        return text_bytes::cut::part(t, a, n);
     }
-    alert_urn::text::part(t, 0, 0)
+    text_bytes::cut::part(t, 0, 0)
 }
 
 // The i-th URN, or its path, if there is room for so many.
@@ -25,7 +25,7 @@ pub fn urn_text<'a>(t: &'a [u8], at: &[u16; 256], len: &[u8; 256], i: usize) -> 
     if i < 256 {
         let a = wider(at[i]);
         let n = wide(len[i]);
-        return alert_urn::text::part(t, a, n);
+        return text_bytes::cut::part(t, a, n);
     }
-    alert_urn::text::part(t, 0, 0)
+    text_bytes::cut::part(t, 0, 0)
 }

@@ -11,8 +11,9 @@ use borrow.Author.Tests.{ne-eqb, le-leb, leb-true, leb-false}
 use Rattle.resolution.specs.Lists.{tabulate, all as forall}
 use Rattle.resolution.specs.Names.{Name}
 use Rattle.resolution.proofs.Lists.{tabulate-at, tabulate-length}
-use Rattle.alert_urn.specs.Text.{all, within}
-use Rattle.alert_urn.proofs.Fields.{byTest}
+use Rattle.ascii.specs.Ascii.{within}
+use Rattle.text_bytes.specs.Text.{all}
+use Rattle.text_bytes.proofs.Fields.{byTest}
 use Rattle.signal_places.specs.Tests.{noTwo}
 use Rattle.table_sections.specs.Held.{joined}
 use Rattle.stored_table.proofs.Accepting.{all-mem}

@@ -20,8 +20,9 @@ use Rattle.resolution.proofs.Lists.{Extends, extends-self, extends-trans, at-ex
 use Rattle.resolution.proofs.Names.{name-exact, snoc-injective}
 use Rattle.resolution.proofs.Nodes.{urn-exact}
 use Rattle.resolution.proofs.Numbers.{nodes-ordered}
-use Rattle.alert_urn.specs.Text.{within, all as every}
-use Rattle.alert_urn.proofs.Fields.{byTest}
+use Rattle.ascii.specs.Ascii.{within}
+use Rattle.text_bytes.specs.Text.{all as every}
+use Rattle.text_bytes.proofs.Fields.{byTest}
 use Rattle.signal_places.specs.Tests.{any, noTwo}
 use Rattle.table_sections.specs.Held.{joined}
 use Rattle.signal_places.proofs.TestLaws.{same-test}

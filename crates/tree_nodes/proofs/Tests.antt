@@ -10,7 +10,8 @@ use borrow.Author.Tests.{eq-eqb, ne-eqb, lt-leb, le-leb, lt-ltb, le-ltb, leb-tru
 use Rattle.resolution.specs.Lists.{tabulate}
 use Rattle.resolution.specs.Names.{sameName}
 use Rattle.resolution.proofs.Lists.{mem-at, tabulate-at, tabulate-length}
-use Rattle.alert_urn.specs.Text.{all, within}
+use Rattle.ascii.specs.Ascii.{within}
+use Rattle.text_bytes.specs.Text.{all}
 use Rattle.node_search.specs.Arrays.{stretch}
 use Rattle.signal_places.specs.Tests.{noTwo}
 use Rattle.stored_table.proofs.Accepting.{all-mem}

@@ -7,7 +7,8 @@ use lib.ListN.{length, getD}
 use lib.Dec.{eqb, leb, ltb}
 use Rattle.resolution.specs.Lists.{tabulate}
 use Rattle.resolution.specs.Names.{Name}
-use Rattle.alert_urn.specs.Text.{all, within}
+use Rattle.ascii.specs.Ascii.{within}
+use Rattle.text_bytes.specs.Text.{all}
 use Rattle.table_sections.specs.Held.{joined}
 use Rattle.signal_places.specs.Tests.{noTwo}
 use Rattle.tree_sections.specs.Held.{nodeFrom}

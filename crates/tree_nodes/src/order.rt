@@ -4,7 +4,8 @@ ghost use mathlib.Core.List.{foldl};
 ghost use Prim.Native.Nat.{ℕ, _≤_, _<_};
 ghost use lib.ListN.{getD};
 ghost use Rattle.resolution.specs.Lists.{tabulate};
-ghost use Rattle.alert_urn.specs.Text.{all, within};
+ghost use Rattle.ascii.specs.Ascii.{within};
+ghost use Rattle.text_bytes.specs.Text.{all};
 ghost use Rattle.tree_nodes.specs.Tests.{linkedBy, stepBy};
 
 // The number is that of one of n nodes.

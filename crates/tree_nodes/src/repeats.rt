@@ -26,7 +26,7 @@ fn alike(
         let p = parent[i];
         let q = parent[j];
         if p == q {
-            return alert_urn::text::same(last_text(t, at, len, i), last_text(t, at, len, j));
+            return text_bytes::compare::same(last_text(t, at, len, i), last_text(t, at, len, j));
         }
         return false;
     }

@@ -4,7 +4,7 @@ ghost use mathlib.Core.Path.{_≡_};
 ghost use Prim.Native.Nat.{_≤_, _<_};
 ghost use lib.ListN.{length};
 ghost use Rattle.resolution.specs.Lists.{tabulate};
-ghost use Rattle.alert_urn.specs.Text.{all};
+ghost use Rattle.text_bytes.specs.Text.{all};
 ghost use Rattle.alert_urn.specs.Urn.{storedName};
 ghost use Rattle.node_search.specs.Arrays.{stretch};
 
@@ -16,9 +16,9 @@ pub fn last_text<'a>(t: &'a [u8], at: &[u16; 64], len: &[u8; 64], i: usize) -> &
     if i < 64 {
         let a = wider(at[i]);
         let n = wide(len[i]);
-        return alert_urn::text::part(t, a, n);
+        return text_bytes::cut::part(t, a, n);
     }
-    alert_urn::text::part(t, 0, 0)
+    text_bytes::cut::part(t, 0, 0)
 }
 
 // Every last name has its form.

@@ -10,7 +10,7 @@ use lib.Dec.{ltb}
 use borrow.Author.Tests.{le-leb}
 use Rattle.resolution.specs.Table.{Table}
 use Rattle.resolution.specs.Nodes.{nodes}
-use Rattle.alert_urn.proofs.Fields.{byTest}
+use Rattle.text_bytes.proofs.Fields.{byTest}
 use Rattle.table_sections.specs.Stored.{Read, fault, got}
 use Rattle.table_sections.proofs.FaultLaws.{fault-if, fault-some}
 use Rattle.signal_places.specs.Verdict.{single, plain, distinct, fewNodes, verdict}

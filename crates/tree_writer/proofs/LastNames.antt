@@ -6,8 +6,8 @@ use native.Mathlib.Omega.{arith}
 use lib.ListN.{length, getD, take, drop, length-take, length-drop, drop-of-length-le}
 use lib.Seq.{drop-cons}
 use borrow.Author.Tests.{ne-eqb}
-use Rattle.alert_urn.specs.Text.{fields, onFirst}
-use Rattle.alert_urn.proofs.Fields.{fields-join, part-end}
+use Rattle.text_bytes.specs.Text.{fields, onFirst}
+use Rattle.text_bytes.proofs.Fields.{fields-join, part-end}
 use Rattle.table_forms.specs.Bytes.{textBytes, nodeBytes}
 use Rattle.table_forms.specs.Meaning.{lastName}
 use Rattle.table_forms.proofs.Growing.{last-snoc}

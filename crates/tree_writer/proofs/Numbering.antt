@@ -15,8 +15,8 @@ use Rattle.resolution.specs.Table.{Urn, urn, Table}
 use Rattle.resolution.specs.Nodes.{nodes, number, nodeAt, addUrn}
 use Rattle.resolution.proofs.Lists.{mem-at, tabulate-same}
 use Rattle.resolution.proofs.Numbers.{number-at, root-number}
-use Rattle.alert_urn.specs.Text.{all, fields}
-use Rattle.alert_urn.proofs.Fields.{byTest}
+use Rattle.text_bytes.specs.Text.{all, fields}
+use Rattle.text_bytes.proofs.Fields.{byTest}
 use Rattle.node_search.specs.Arrays.{stretch}
 use Rattle.table_sections.specs.Stored.{got, Stored, stored}
 use Rattle.table_sections.specs.Held.{Tagged, tag, taggedFrom, joined, urnAt, ReadAs, Reads}

@@ -5,7 +5,7 @@ use mathlib.Core.List.{List, [], _∷_, _++_}
 use lib.ListN.{length, getD}
 use Rattle.resolution.specs.Names.{Name, Parts}
 use Rattle.resolution.specs.Nodes.{nodes as nodesOf, nodeAt, number as numberOf}
-use Rattle.alert_urn.specs.Text.{fields}
+use Rattle.text_bytes.specs.Text.{fields}
 use Rattle.node_search.specs.Arrays.{stretch, NamesIn, NodesIn}
 use Rattle.stored_table.specs.Tables.{tableRefusal, tableOf, categoryNames}
 use Rattle.tree_sections.specs.Tree.{Node}

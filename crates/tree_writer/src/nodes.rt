@@ -6,7 +6,7 @@ ghost use mathlib.Core.Path.{_≡_};
 ghost use Prim.Native.Nat.{_+_, _≤_, _<_};
 ghost use lib.ListN.{length, take, drop};
 ghost use Rattle.resolution.specs.Lists.{tabulate};
-ghost use Rattle.alert_urn.specs.Text.{fields};
+ghost use Rattle.text_bytes.specs.Text.{fields};
 ghost use Rattle.table_forms.specs.Bytes.{section, nodeBytes};
 ghost use Rattle.table_forms.specs.Meaning.{lastName};
 ghost use Rattle.form_bytes.specs.Laid.{Puts};

@@ -1,5 +1,5 @@
 use mathlib.Core.Path.{refl}
-use Rattle.alert_urn.specs.Text.{fields}
+use Rattle.text_bytes.specs.Text.{fields}
 use Rattle.node_search.specs.Arrays.{stretch}
 use Rattle.table_sections.proofs.Padding.{clear}
 use Rattle.stored_table.specs.Tables.{tableOf}

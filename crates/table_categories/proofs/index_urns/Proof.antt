@@ -7,8 +7,8 @@ use mathlib.Core.Bool.{true, false≢true}
 use lib.ListN.{length, getD, length-set}
 use Rattle.resolution.specs.Lists.{tabulate}
 use Rattle.resolution.proofs.Lists.{tabulate-length}
-use Rattle.alert_urn.specs.Text.{all}
-use Rattle.alert_urn.proofs.Fields.{upTo-le}
+use Rattle.text_bytes.specs.Text.{all}
+use Rattle.text_bytes.proofs.Fields.{upTo-le}
 use Rattle.node_search.specs.Arrays.{stretch}
 use Rattle.table_categories.specs.Categories.{isListed}
 use Rattle.table_categories.specs.Categories.{Fits, Indexed}

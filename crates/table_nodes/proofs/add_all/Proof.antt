@@ -6,7 +6,7 @@ use lib.ListN.{length, getD, length-set, take, drop}
 use Rattle.resolution.specs.Lists.{tabulate}
 use Rattle.resolution.specs.Table.{urn}
 use Rattle.resolution.specs.Nodes.{addUrn}
-use Rattle.alert_urn.specs.Text.{fields}
+use Rattle.text_bytes.specs.Text.{fields}
 use Rattle.node_search.specs.Arrays.{stretch}
 use Rattle.table_nodes.specs.Nodes.{pathUrn, Clear, Nodes, Numbered}
 use Rattle.table_nodes.proofs.NodeArrays.{all-over, all-nodes, all-numbered, nodes-none, all-end}

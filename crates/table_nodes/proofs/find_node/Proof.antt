@@ -5,7 +5,7 @@ use mathlib.Core.Bool.{false}
 use Rattle.resolution.specs.Lists.{tabulate, memberBy}
 use Rattle.resolution.specs.Table.{urn}
 use Rattle.resolution.specs.Nodes.{sameUrn}
-use Rattle.alert_urn.specs.Text.{fields}
+use Rattle.text_bytes.specs.Text.{fields}
 use Rattle.table_nodes.specs.Nodes.{nodeUrn}
 use Rattle.table_sections.proofs.Tabulated.{index-start, index-next}
 use Rattle.table_nodes.proofs.NodeArrays.{number-hit, number-none}

@@ -1,6 +1,6 @@
 use native.Mathlib.Omega.{arith}
 use Rattle.alert_urn.specs.Urn.{storedName}
-use Rattle.alert_urn.proofs.Fields.{upTo-le}
+use Rattle.text_bytes.proofs.Fields.{upTo-le}
 use Rattle.alert_urn.proofs.Runs.{front-named, front-unnamed}
 use borrow.Author.Needs.{needs}
 use Rattle.alert_urn.proofs.stored.any_stored_end.Statement.{statement}

@@ -1,7 +1,7 @@
 use native.Mathlib.Omega.{arith}
 use Prim.Native.Nat.{_≤_, _+_, _-_}
 use lib.ListN.{length, drop}
-use Rattle.alert_urn.specs.Text.{runBy}
+use Rattle.alert_urn.specs.Names.{runBy}
 use Rattle.alert_urn.specs.Urn.{storedByte}
 use Rattle.alert_urn.proofs.Runs.{run-more, run-stop, run-end}
 use mathlib.Core.Path.{_≡_}

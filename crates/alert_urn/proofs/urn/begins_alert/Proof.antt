@@ -2,7 +2,8 @@ use native.Mathlib.Omega.{arith}
 use Prim.Native.Nat.{_≤_, _-_}
 use mathlib.Core.Path.{_≡_, ap}
 use lib.ListN.{drop}
-use Rattle.alert_urn.specs.Urn.{begins, bytes}
+use Rattle.ascii.specs.Ascii.{bytes}
+use Rattle.alert_urn.specs.Urn.{begins}
 use Rattle.alert_urn.proofs.Turns.{scheme, scheme-bytes, begins-small, begins-short, begins-more, begins-less, begins-end}
 use borrow.Author.Needs.{needs}
 use Rattle.alert_urn.proofs.urn.begins_alert.Statement.{statement}

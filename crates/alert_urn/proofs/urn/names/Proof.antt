@@ -2,7 +2,7 @@ use native.Mathlib.Omega.{arith}
 use Prim.Native.Nat.{_≤_, _-_, _+_}
 use mathlib.Core.Path.{_≡_}
 use lib.ListN.{length, drop}
-use Rattle.alert_urn.specs.Text.{nameOk}
+use Rattle.alert_urn.specs.Names.{nameOk}
 use Rattle.alert_urn.specs.Urn.{namesBy}
 use Rattle.alert_urn.proofs.Runs.{name-some}
 use Rattle.alert_urn.proofs.Turns.{namesFrom, names-start, field-le, names-stop, names-step, names-done}

@@ -3,7 +3,7 @@ use Prim.Native.Nat.{_≤_, _-_}
 use mathlib.Core.Path.{_≡_}
 use mathlib.Core.Bool.{not, _&&_}
 use lib.ListN.{length, drop}
-use Rattle.alert_urn.specs.Text.{all}
+use Rattle.text_bytes.specs.Text.{all}
 use Rattle.alert_urn.specs.Urn.{notCapital, noCapital}
 use Rattle.alert_urn.proofs.Cases.{small-start, small-more, small-end}
 use borrow.Author.Needs.{needs}

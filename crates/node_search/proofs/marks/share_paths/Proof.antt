@@ -2,7 +2,7 @@ use native.Mathlib.Omega.{arith}
 use Prim.Native.Nat.{_-_, _≤_}
 use mathlib.Core.Path.{_≡_, _∙_}
 use lib.ListN.{length, length-set}
-use Rattle.alert_urn.proofs.Turns.{common-le}
+use Rattle.text_bytes.proofs.Turns.{common-le}
 use Rattle.node_search.specs.Arrays.{SharedIn}
 use Rattle.node_search.proofs.MarkLaws.{shared-more}
 use borrow.Author.Needs.{needs}

@@ -1,4 +1,4 @@
-use Rattle.alert_urn.specs.Urn.{lowered}
+use Rattle.text_bytes.specs.Text.{lowered}
 use native.Mathlib.Omega.{arith}
 use mathlib.Core.Path.{ap}
 use Rattle.node_search.specs.declared.uses.Search.{Search}

@@ -1,4 +1,4 @@
-use Rattle.alert_urn.specs.Urn.{lowered}
+use Rattle.text_bytes.specs.Text.{lowered}
 use native.Mathlib.Omega.{arith}
 use Prim.Native.Nat.{ℕ, _+_, _*_, _-_, _≤_}
 use mathlib.Core.Path.{_≡_, refl, ap, sym, subst}

@@ -5,7 +5,7 @@ use mathlib.Core.Bool.{true}
 use lib.ListN.{getD}
 use lib.Dec.{leb}
 use Rattle.resolution.specs.Lists.{tabulate}
-use Rattle.alert_urn.specs.Text.{all}
+use Rattle.text_bytes.specs.Text.{all}
 use Rattle.signal_places.proofs.TestLaws.{all-start, all-ends}
 use Rattle.stored_tree.proofs.Filling.{most-next, most-fails}
 use borrow.Author.Needs.{needs}

@@ -5,7 +5,7 @@ use mathlib.Core.Bool.{true}
 use lib.ListN.{getD}
 use lib.Dec.{eqb}
 use Rattle.resolution.specs.Lists.{tabulate}
-use Rattle.alert_urn.specs.Text.{all}
+use Rattle.text_bytes.specs.Text.{all}
 use Rattle.signal_places.proofs.TestLaws.{all-start}
 use Rattle.tree_nodes.proofs.Tests.{link-next, link-fails, link-ends}
 use borrow.Author.Needs.{needs}

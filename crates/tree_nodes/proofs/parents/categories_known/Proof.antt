@@ -5,7 +5,7 @@ use mathlib.Core.Bool.{true}
 use lib.ListN.{getD}
 use lib.Dec.{ltb}
 use Rattle.resolution.specs.Lists.{tabulate}
-use Rattle.alert_urn.specs.Text.{all}
+use Rattle.text_bytes.specs.Text.{all}
 use Rattle.signal_places.proofs.TestLaws.{all-start, all-ends}
 use Rattle.tree_nodes.proofs.Tests.{lower-next, lower-fails}
 use borrow.Author.Needs.{needs}

@@ -1,0 +1,1 @@
+// This crate has no code. Its definitions are in specs/Ascii.antt.

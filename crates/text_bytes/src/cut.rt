@@ -1,0 +1,44 @@
+// Texts cut, and searched for a byte.
+ghost use mathlib.Core.Path.{_≡_};
+ghost use lib.ListN.{length, take, drop};
+ghost use Rattle.text_bytes.specs.Text.{upTo, endsAt};
+
+// How many bytes stand before the first c.
+pub fn find(s: &[u8], c: u8) -> usize
+    ensures { λ r. ⌜ r ≡ length (upTo c (now (s .entry))) ⌝ }
+{
+    let mut i = 0;
+    while i < s.len() {
+        if s[i] == c {
+            return i;
+        }
+        i += 1;
+    }
+    i
+}
+
+// The len bytes from at, as far as the table has them.
+pub fn part(t: &[u8], at: usize, len: usize) -> &[u8]
+    ensures { λ r. ⌜ now r ≡ take len (drop at (now (t .entry))) ⌝ }
+{
+    let n = t.len();
+    if n <= at {
+        return &t[n..n];
+    }
+    let left = n - at;
+    if left <= len {
+        return &t[at..n];
+    }
+    let end = at + len;
+    &t[at..end]
+}
+
+// A part of the text ends before the byte at n: with the text, or at a colon.
+pub fn ends_at(w: &[u8], n: usize) -> bool
+    ensures { λ r. ⌜ r ≡ endsAt (now (w .entry)) n ⌝ }
+{
+    if n < w.len() {
+        return w[n] == 58;
+    }
+    true
+}
