@@ -14,7 +14,7 @@ use Rattle.resolution.specs.Names.{sameName}
 use Rattle.resolution.proofs.Names.{name-exact}
 use Rattle.text_bytes.specs.Text.{all, upTo, past, fields, lower}
 use Rattle.alert_urn.specs.Names.{nameOk, lengthBy, labelOk}
-use Rattle.ascii.specs.Ascii.{bytes, bytesFrom}
+use Rattle.ascii.specs.Ascii.{bytes}
 use Rattle.alert_urn.specs.Urn.{begins, namesBy, restOk, alertUrn}
 use Rattle.text_bytes.proofs.Fields.{byTest, upTo-take, upTo-le, past-drop, past-at, part-end, fields-first, fields-more, fields-last}
 use Rattle.alert_urn.proofs.Runs.{length-bad, length-good}

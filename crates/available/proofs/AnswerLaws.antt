@@ -11,7 +11,7 @@ use Rattle.alert_info.specs.Value.{refusalOf, urisOf}
 use Rattle.alert_info.proofs.ReadingLaws.{refusal-long}
 use Rattle.text_bytes.proofs.Fields.{byTest}
 use Rattle.resolution.specs.Direct.{State}
-use Rattle.node_search.specs.Uses.{fewer}
+use Rattle.node_search.specs.Search.{fewer}
 use Rattle.stored_table.specs.Tables.{tableRefusal, tableOf}
 use Rattle.stored_table.specs.Decoded.{Holds}
 use Rattle.stored_table.specs.declared.Decoded.{Decoded}

@@ -14,7 +14,7 @@ use entry_run::run::at_start;
 use node_search::uses::at_most;
 use stored_table::Decoded;
 ghost use mathlib.Core.Path.{_≡_};
-ghost use Rattle.node_search.specs.Uses.{fewer};
+ghost use Rattle.node_search.specs.Search.{fewer};
 ghost use Rattle.stored_table.specs.Decoded.{Means};
 ghost use Rattle.available.specs.Available.{hasBit, known, availableOf};
 ghost use Rattle.available.specs.Rows.{rowsAmong, among as amongOf};

@@ -11,7 +11,7 @@ use native.Mathlib.Decide.{decLt}
 use native.Mathlib.Numerals.{add-one}
 use native.Mathlib.Omega.{arith}
 use Rattle.text_bytes.proofs.Fields.{byTest}
-use Rattle.resolution.specs.Lists.{all}
+use Rattle.resolution.specs.Lists.{allBelow}
 use Rattle.resolution.specs.Table.{Table, WellFormed, place}
 use Rattle.resolution.specs.Nodes.{nodes}
 use Rattle.resolution.proofs.Lists.{all-to, all-of, all-stop}
@@ -37,18 +37,18 @@ module _ (rows ps : List ℕ) (inner : List Bool) (category : List ℕ) (n cats 
 
 -- the loop over them
 module _ (f : ℕ → Bool) (c : ℕ) where
-  pub all-next : {b : Bool} → all c f ≡ true → b ≡ f c → b ≡ true → all (c + 1) f ≡ true
-  unfolding all
-  all-next h e t = rw (add-one c) (and-eq-true-iff (all c f) (f c) .1 (h, sym e ∙ t))
+  pub all-next : {b : Bool} → allBelow c f ≡ true → b ≡ f c → b ≡ true → allBelow (c + 1) f ≡ true
+  unfolding allBelow
+  all-next h e t = rw (add-one c) (and-eq-true-iff (allBelow c f) (f c) .1 (h, sym e ∙ t))
 
-  pub all-fails : {b : Bool} (n : ℕ) → c < n → b ≡ f c → b ≡ false → false ≡ all n f
+  pub all-fails : {b : Bool} (n : ℕ) → c < n → b ≡ f c → b ≡ false → false ≡ allBelow n f
   all-fails n h e t = sym (all-stop n f c h (sym e ∙ t))
 
-  pub all-done : (n : ℕ) → c ≤ n → n ≤ c → all c f ≡ true → true ≡ all n f
-  all-done n h k e = let z : c ≡ n = omega arith in sym (ap (λ m. all m f) (sym z) ∙ e)
+  pub all-done : (n : ℕ) → c ≤ n → n ≤ c → allBelow c f ≡ true → true ≡ allBelow n f
+  all-done n h k e = let z : c ≡ n = omega arith in sym (ap (λ m. allBelow m f) (sym z) ∙ e)
 
-pub all-none : (f : ℕ → Bool) → all 0 f ≡ true
-unfolding all
+pub all-none : (f : ℕ → Bool) → allBelow 0 f ≡ true
+unfolding allBelow
 all-none f = refl
 
 -- a record, test by test
@@ -62,12 +62,12 @@ module _ (rows ps : List ℕ) (inner : List Bool) (category : List ℕ) (n signa
     unfolding fitsBy
     fits-values k = simp (lt-ltb (r .signal) signals h, lt-leb (r .values) 16 k)
 
-    pub fits-rest : {b : Bool} → r .values ≤ 16 → b ≡ all 8 (statusAt rows ps inner category n cats (r .signal) (r .status)) → b ≡ fitsBy rows ps inner category n signals cats r
+    pub fits-rest : {b : Bool} → r .values ≤ 16 → b ≡ allBelow 8 (statusAt rows ps inner category n cats (r .signal) (r .status)) → b ≡ fitsBy rows ps inner category n signals cats r
     unfolding fitsBy
     fits-rest k e = simp (lt-ltb (r .signal) signals h, le-leb (r .values) 16 k) e
 
-all-same : (n : ℕ) (f g : ℕ → Bool) → ((k : ℕ) → k < n → f k ≡ g k) → all n f ≡ all n g
-unfolding all
+all-same : (n : ℕ) (f g : ℕ → Bool) → ((k : ℕ) → k < n → f k ≡ g k) → allBelow n f ≡ allBelow n g
+unfolding allBelow
 all-same zero f g h = refl
 all-same (suc n) f g h = ap₂ _&&_ (all-same n f g (λ k i. h k (omega arith))) (h n (omega arith))
 
@@ -86,24 +86,24 @@ module _ (t ca pos len : List ℕ) (n : ℕ) (T : Table) (ni : NodesIn t ca pos 
   pub record-right : fitsBy rows ps inner ca n signals (T .cats) r ≡ carriedFits T r
   unfolding fitsBy carriedFits
   record-right =
-      ap (λ z. ltb (r .signal) z && (leb (r .values) 16 && all 8 (statusAt rows ps inner ca n (T .cats) (r .signal) (r .status)))) (sym (nu .all-signals))
+      ap (λ z. ltb (r .signal) z && (leb (r .values) 16 && allBelow 8 (statusAt rows ps inner ca n (T .cats) (r .signal) (r .status)))) (sym (nu .all-signals))
       ∙ go (ltb (r .signal) (length (T .signals))) refl
     where
       go : (b : Bool) → ltb (r .signal) (length (T .signals)) ≡ b
-          → (b && (leb (r .values) 16 && all 8 (statusAt rows ps inner ca n (T .cats) (r .signal) (r .status))))
-          ≡ (b && (leb (r .values) 16 && all (length (r .status)) (statusFits T r)))
+          → (b && (leb (r .values) 16 && allBelow 8 (statusAt rows ps inner ca n (T .cats) (r .signal) (r .status))))
+          ≡ (b && (leb (r .values) 16 && allBelow (length (r .status)) (statusFits T r)))
       go false e = refl
       go true e =
           let h : r .signal < signals = omega (arith, ltb-true (r .signal) (length (T .signals)) e, nu .all-signals) in
           ap (λ z. leb (r .values) 16 && z)
-          (all-same 8 (statusAt rows ps inner ca n (T .cats) (r .signal) (r .status)) (statusFits T r) (λ c i. status-right h c) ∙ ap (λ m. all m (statusFits T r)) (sym wide))
+          (all-same 8 (statusAt rows ps inner ca n (T .cats) (r .signal) (r .status)) (statusFits T r) (λ c i. status-right h c) ∙ ap (λ m. allBelow m (statusFits T r)) (sym wide))
 
 -- what a record that fits has
 pub fits-to : (T : Table) (r : Carried) → carriedFits T r ≡ true → Fits T r
 unfolding carriedFits
 fits-to T r e =
-    let p = and-eq-true-iff (ltb (r .signal) (length (T .signals))) (leb (r .values) 16 && all (length (r .status)) (statusFits T r)) .0 e in
-    let q = and-eq-true-iff (leb (r .values) 16) (all (length (r .status)) (statusFits T r)) .0 (p .1) in
+    let p = and-eq-true-iff (ltb (r .signal) (length (T .signals))) (leb (r .values) 16 && allBelow (length (r .status)) (statusFits T r)) .0 e in
+    let q = and-eq-true-iff (leb (r .values) 16) (allBelow (length (r .status)) (statusFits T r)) .0 (p .1) in
     record { signal = ltb-true _ _ (p .0); values = leb-true _ _ (q .0); statuses = all-to (length (r .status)) (statusFits T r) (q .1) }
 
 pub fits-of : (T : Table) (r : Carried) → Fits T r → carriedFits T r ≡ true

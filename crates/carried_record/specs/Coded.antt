@@ -6,7 +6,7 @@ use mathlib.Core.Bool.{Bool, true, cond, _&&_}
 use mathlib.Core.List.{List}
 use lib.Dec.{eqb, leb, ltb}
 use lib.ListN.{length, getD}
-use Rattle.resolution.specs.Lists.{tabulate, all}
+use Rattle.resolution.specs.Lists.{tabulate, allBelow}
 use Rattle.resolution.specs.Table.{Table}
 use Rattle.node_step.specs.declared.Progress.{Progress}
 use Rattle.node_step.specs.declared.State.{State}
@@ -27,7 +27,7 @@ statusAt rows ps inner category nodes cats s l c = statusBy rows ps inner catego
 -- a record fits so many signals and categories
 unfoldable pub fitsBy : List ℕ → List ℕ → List Bool → List ℕ → ℕ → ℕ → ℕ → Carried → Bool
 fitsBy rows ps inner category nodes signals cats r =
-    ltb (r .signal) signals && (leb (r .values) 16 && all 8 (statusAt rows ps inner category nodes cats (r .signal) (r .status)))
+    ltb (r .signal) signals && (leb (r .values) 16 && allBelow 8 (statusAt rows ps inner category nodes cats (r .signal) (r .status)))
 
 -- what a record has that fits a table
 pub record Fits (T : Table) (r : Carried) : Type 0 where

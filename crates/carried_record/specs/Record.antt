@@ -6,7 +6,7 @@ use mathlib.Core.Bool.{Bool, true, cond, _&&_}
 use mathlib.Core.List.{List, [], _∷_, _++_}
 use lib.Dec.{eqb, leb, ltb}
 use lib.ListN.{length, getD, replicate}
-use Rattle.resolution.specs.Lists.{tabulate, all}
+use Rattle.resolution.specs.Lists.{tabulate, allBelow}
 use Rattle.resolution.specs.Table.{Table, place}
 use Rattle.resolution.specs.Nodes.{nodes}
 use Rattle.resolution.specs.Direct.{Status, Open, State, StateOf}
@@ -44,7 +44,7 @@ statusFits T r c = cond (ltb c (T .cats)) (byteFits (nodes T) c (place T (r .sig
 
 -- unless 28: a signal of the table, at most 16 values, and statuses that fit
 unfoldable pub carriedFits : Table → Carried → Bool
-carriedFits T r = ltb (r .signal) (length (T .signals)) && (leb (r .values) 16 && all (length (r .status)) (statusFits T r))
+carriedFits T r = ltb (r .signal) (length (T .signals)) && (leb (r .values) 16 && allBelow (length (r .status)) (statusFits T r))
 
 -- that test, in words
 pub record Fitting (T : Table) (r : Carried) : Type 0 where

@@ -7,7 +7,7 @@ use node_step::stored::byte_of;
 use node_step::stored::progress_of;
 ghost use mathlib.Core.Path.{_≡_};
 ghost use lib.ListN.{length};
-ghost use Rattle.resolution.specs.Lists.{tabulate, all};
+ghost use Rattle.resolution.specs.Lists.{tabulate, allBelow};
 ghost use Rattle.carried_record.specs.Record.{fresh as freshRecord, carriedIn, carriedBytes};
 ghost use Rattle.carried_record.specs.Coded.{statusBy, statusAt, fitsBy, progressAt, byteAt, stateWith, carriedWith};
 
@@ -62,7 +62,7 @@ fn statuses_fit<'a>(
     status: &[u8; 8],
 ) -> bool
     requires { ⌜ length (now status) ≡ 8 ⌝ }
-    ensures { λ r. ⌜ r ≡ all 8 (statusAt (now (rows .entry)) (now (parents .entry)) (now (inner .entry)) (now (category .entry)) nodes categories s (now (status .entry))) ⌝ }
+    ensures { λ r. ⌜ r ≡ allBelow 8 (statusAt (now (rows .entry)) (now (parents .entry)) (now (inner .entry)) (now (category .entry)) nodes categories s (now (status .entry))) ⌝ }
 {
     let mut c: usize = 0;
     while c < 8 {

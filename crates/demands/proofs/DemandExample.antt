@@ -11,21 +11,20 @@ use Rattle.resolution.specs.Nodes.{leaf, nodes}
 use Rattle.resolution.proofs.Theorems.{build-law}
 use Rattle.text_bytes.specs.Text.{all, fields, onFirst, past, upTo}
 use Rattle.alert_urn.specs.Names.{labelByte, labelOk, nameOk}
-use Rattle.ascii.specs.Ascii.{bytes, bytesFrom}
 use Rattle.alert_urn.specs.Urn.{noCapital, storedName, urnOk}
 use Rattle.table_sections.specs.Stored.{andThen, byteIn, counted, stored, storedFrom, text, times}
-use Rattle.stored_table.specs.Tables.{any, distinct, fewNodes, formed, isListed, judged, judgedRead, listed, noTwo, plain, single, tableOf, tableRead, tableRefusal, uses, verdict}
+use Rattle.stored_table.specs.Tables.{any, distinct, fewNodes, formed, isListed, judged, judgedRead, listed, noTwo, zeroSilent, single, tableOf, tableRead, tableRefusal, uses, verdict}
 use Rattle.signal_table.specs.Claims.{TooManyStates}
 use Rattle.demands.specs.Examples.{T1}
 use Rattle.demands.specs.DemandExample.{DemandExample}
 use Rattle.demands.proofs.DemandLaws.{demand-three}
 
 well-formed : tableRefusal T1 ≡ 0
-unfolding all fields labelByte labelOk nameOk onFirst past upTo bytes bytesFrom noCapital storedName urnOk andThen byteIn counted stored storedFrom text times any distinct fewNodes formed isListed judged judgedRead listed noTwo plain single tableRefusal uses verdict nodes
+unfolding all fields labelByte labelOk nameOk onFirst past upTo noCapital storedName urnOk andThen byteIn counted stored storedFrom text times any distinct fewNodes formed isListed judged judgedRead listed noTwo zeroSilent single tableRefusal uses verdict nodes
 well-formed = refl
 
 four-states : length (discovered (tableOf T1) 256) ≡ 4
-unfolding fields onFirst past upTo bytes bytesFrom andThen byteIn counted stored storedFrom text times tableOf tableRead step discover expand tabulate leaf nodes
+unfolding fields onFirst past upTo andThen byteIn counted stored storedFrom text times tableOf tableRead step discover expand tabulate leaf nodes
 four-states = refl
 
 few-states : TooManyStates T1 → ⊥

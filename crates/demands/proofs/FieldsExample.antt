@@ -11,14 +11,14 @@ use Rattle.alert_info.specs.Value.{readingFrom, readingOf, refusalOf, spansOf, 
 use Rattle.alert_info.specs.Walk.{run, runAt, walk, walkAt}
 use Rattle.text_bytes.specs.Text.{all, fields, onFirst, past, upTo, lowered}
 use Rattle.alert_urn.specs.Names.{labelByte, labelOk, nameOk}
-use Rattle.ascii.specs.Ascii.{bytes, bytesFrom}
+use Rattle.ascii.specs.Ascii.{bytes}
 use Rattle.alert_urn.specs.Urn.{alertUrn, begins, noCapital, storedName, restOk, urnOk}
 use Rattle.node_search.specs.Uses.{usedUrn}
 use Rattle.resolution.specs.Direct.{step}
 use Rattle.resolution.specs.Nodes.{nodes}
 use Rattle.resolution.specs.Lists as lists
 use Rattle.table_sections.specs.Stored.{andThen, byteIn, counted, stored, storedFrom, text, times}
-use Rattle.stored_table.specs.Tables.{any, categoryNames, distinct, fewNodes, formed, isListed, judged, judgedRead, listed, namesRead, noTwo, plain, single, tableOf, tableRead, tableRefusal, uses, verdict}
+use Rattle.stored_table.specs.Tables.{any, categoryNames, distinct, fewNodes, formed, isListed, judged, judgedRead, listed, namesRead, noTwo, zeroSilent, single, tableOf, tableRead, tableRefusal, uses, verdict}
 use Rattle.carried_record.specs.Record.{carriedFits}
 use Rattle.resolver.specs.Feed.{feedOf}
 use Rattle.demands.specs.Feeding.{AllAccepted, Joinable}
@@ -30,21 +30,21 @@ all-same zero v e = tt
 all-same (suc n) v e = (e, all-same n v e)
 
 short : refusalOf (bytes "<a>") ≡ 0
-unfolding isBlank isEscapable isText isToken isUri blankAt endingAt endingStep entryAt followingAt paramAt quoteAt quotedAt quotedFrom quotedStep settingAt tokenAt whiteAt whiteStep readingFrom readingOf refusalOf spansOf urisOf valueStep run runAt walk walkAt bytes bytesFrom
+unfolding isBlank isEscapable isText isToken isUri blankAt endingAt endingStep entryAt followingAt paramAt quoteAt quotedAt quotedFrom quotedStep settingAt tokenAt whiteAt whiteStep readingFrom readingOf refusalOf spansOf urisOf valueStep run runAt walk walkAt
 short = refl
 
 sixteen : Joinable (bytes "<a>") (replicate 15 (bytes "<a>"))
-unfolding isBlank isEscapable isText isToken isUri blankAt endingAt endingStep entryAt followingAt paramAt quoteAt quotedAt quotedFrom quotedStep settingAt tokenAt whiteAt whiteStep readingFrom readingOf refusalOf spansOf urisOf valueStep run runAt walk walkAt bytes bytesFrom
+unfolding isBlank isEscapable isText isToken isUri blankAt endingAt endingStep entryAt followingAt paramAt quoteAt quotedAt quotedFrom quotedStep settingAt tokenAt whiteAt whiteStep readingFrom readingOf refusalOf spansOf urisOf valueStep run runAt walk walkAt
 sixteen = (omega arith, all-same 16 (bytes "<a>") short, omega arith, omega arith)
 
 entries : Joinable (entriesMore 63) []
-unfolding isBlank isEscapable isText isToken isUri blankAt endingAt endingStep entryAt followingAt paramAt quoteAt quotedAt quotedFrom quotedStep settingAt tokenAt whiteAt whiteStep readingFrom readingOf refusalOf spansOf urisOf valueStep run runAt walk walkAt bytes bytesFrom
+unfolding isBlank isEscapable isText isToken isUri blankAt endingAt endingStep entryAt followingAt paramAt quoteAt quotedAt quotedFrom quotedStep settingAt tokenAt whiteAt whiteStep readingFrom readingOf refusalOf spansOf urisOf valueStep run runAt walk walkAt
 entries = (omega arith, (refl, tt), omega arith, omega arith)
 
 long : Joinable (longValue 4094) []
-unfolding isBlank isEscapable isText isToken isUri blankAt endingAt endingStep entryAt followingAt paramAt quoteAt quotedAt quotedFrom quotedStep settingAt tokenAt whiteAt whiteStep readingFrom readingOf refusalOf spansOf urisOf valueStep run runAt walk walkAt bytes bytesFrom
+unfolding isBlank isEscapable isText isToken isUri blankAt endingAt endingStep entryAt followingAt paramAt quoteAt quotedAt quotedFrom quotedStep settingAt tokenAt whiteAt whiteStep readingFrom readingOf refusalOf spansOf urisOf valueStep run runAt walk walkAt
 long = (omega arith, (refl, tt), omega arith, omega arith)
 
 pub fields-example : FieldsExample
-unfolding isBlank isEscapable isText isToken isUri blankAt endingAt endingStep entryAt followingAt paramAt quoteAt quotedAt quotedFrom quotedStep settingAt tokenAt whiteAt whiteStep readingFrom readingOf refusalOf spansOf urisOf valueStep run runAt walk walkAt all fields labelByte labelOk nameOk onFirst past upTo alertUrn begins bytes bytesFrom restOk lowered noCapital storedName urnOk usedUrn step nodes andThen byteIn counted stored storedFrom text times any categoryNames distinct fewNodes formed isListed judged judgedRead listed namesRead noTwo plain single tableOf tableRead tableRefusal uses verdict lists.tabulate lists.all carriedFits feedOf
+unfolding isBlank isEscapable isText isToken isUri blankAt endingAt endingStep entryAt followingAt paramAt quoteAt quotedAt quotedFrom quotedStep settingAt tokenAt whiteAt whiteStep readingFrom readingOf refusalOf spansOf urisOf valueStep run runAt walk walkAt all fields labelByte labelOk nameOk onFirst past upTo alertUrn begins restOk lowered noCapital storedName urnOk usedUrn step nodes andThen byteIn counted stored storedFrom text times any categoryNames distinct fewNodes formed isListed judged judgedRead listed namesRead noTwo zeroSilent single tableOf tableRead tableRefusal uses verdict lists.tabulate lists.all carriedFits feedOf
 fields-example = record { all-accepted = (refl, (refl, (refl, tt))); high-internal = refl; low = refl; held = refl; reason = refl; refused = refl; answers = refl; sixteen-values = sixteen; most-entries = entries; most-bytes = long }

@@ -11,7 +11,7 @@ use native.Mathlib.Omega.{arith}
 use Rattle.alert_info.specs.Value.{refusalOf, urisOf, entryRefusalOf}
 use Rattle.alert_info.proofs.Agree.{refusal-numbers as value-numbers}
 use Rattle.alert_info.proofs.EntryLaws.{entry-refusal-numbers}
-use Rattle.resolution.specs.Lists.{all}
+use Rattle.resolution.specs.Lists.{allBelow}
 use Rattle.resolution.specs.Direct.{start, sameState}
 use Rattle.resolution.specs.Machine.{machineState, rowRight}
 use Rattle.resolution.specs.Build.{discovered}
@@ -115,7 +115,7 @@ check-number t im =
     of-table CheckNumber (λ n h. inr (inl h)) t
     (by-cond CheckNumber (formOf (tableOf t) im)
     (by-cond CheckNumber (sameState (machineState (machineIn (tableOf t) im) 0 .pair) (start (tableOf t .cats)))
-    (by-cond CheckNumber (all (length (machineIn (tableOf t) im)) (rowRight (tableOf t) (machineIn (tableOf t) im))) (inl refl) (inr (inr (omega arith, omega arith))))
+    (by-cond CheckNumber (allBelow (length (machineIn (tableOf t) im)) (rowRight (tableOf t) (machineIn (tableOf t) im))) (inl refl) (inr (inr (omega arith, omega arith))))
     (inr (inr (omega arith, omega arith))))
     (inr (inr (omega arith, omega arith))))
 

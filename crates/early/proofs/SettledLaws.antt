@@ -8,29 +8,29 @@ use native.Mathlib.Omega.{arith}
 use lib.Dec.{eqb}
 use lib.ListN.{getD}
 use borrow.Author.Tests.{le-leb, lt-leb, eq-eqb, ne-eqb}
-use Rattle.resolution.specs.Lists.{all}
+use Rattle.resolution.specs.Lists.{allBelow}
 use Rattle.resolution.proofs.Lists.{all-stop}
 use Rattle.node_step.specs.Step.{digit, put, rowAt}
 use Rattle.node_step.specs.StatusByte.{samePacked, stepPacked}
-use Rattle.node_search.specs.Uses.{fewer}
+use Rattle.node_search.specs.Search.{fewer}
 use Rattle.node_step.specs.declared.stored.Packed.{Packed}
 use Rattle.node_step.proofs.PackedStep.{packed-exact}
 use Rattle.early.specs.SettledBy.{keepsAt, beside, besideKeeps, signalKeeps, heldKeeps, categoryKeeps}
 
 -- a row of tests
 module _ (f : ℕ → Bool) (n k : ℕ) {m : ℕ} (is : m ≡ n) where
-  pub all-false : {b : Bool} → k < m → b ≡ f k → b ≡ false → false ≡ all n f
+  pub all-false : {b : Bool} → k < m → b ≡ f k → b ≡ false → false ≡ allBelow n f
   all-false h e z = sym (all-stop n f k (omega arith) (sym e ∙ z))
 
-  pub all-true : m ≤ k → k ≤ m → all k f ≡ true → true ≡ all n f
-  all-true h l e = sym (ap (λ x. all x f) (let z : n ≡ k = omega arith in z) ∙ e)
+  pub all-true : m ≤ k → k ≤ m → allBelow k f ≡ true → true ≡ allBelow n f
+  all-true h l e = sym (ap (λ x. allBelow x f) (let z : n ≡ k = omega arith in z) ∙ e)
 
-pub all-next : (f : ℕ → Bool) (k : ℕ) {b : Bool} → all k f ≡ true → b ≡ f k → b ≡ true → all (k + 1) f ≡ true
-unfolding all
+pub all-next : (f : ℕ → Bool) (k : ℕ) {b : Bool} → allBelow k f ≡ true → b ≡ f k → b ≡ true → allBelow (k + 1) f ≡ true
+unfolding allBelow
 all-next f k a e z = rw add-one (ap₂ _&&_ a (sym e ∙ z))
 
-pub all-none : (f : ℕ → Bool) → all 0 f ≡ true
-unfolding all
+pub all-none : (f : ℕ → Bool) → allBelow 0 f ≡ true
+unfolding allBelow
 all-none f = refl
 
 pub beside-is : (row other c : ℕ) {x : ℕ} → x ≡ put row c (digit other c) → eqb x other ≡ beside row other c
@@ -66,7 +66,7 @@ module _ (rows ps : List ℕ) (inner : List Bool) (n : ℕ) (st : Packed) (c : �
   held-at b h e = e ∙ sym (ap (λ z. cond z true (keepsAt rows ps inner n st c (b - 1) false)) (lt-leb b 1 h))
 
   abbrev rest : ℕ → Bool
-  rest b = heldKeeps rows ps inner n st c b && all (fewer n 32) (signalKeeps rows ps inner n st c)
+  rest b = heldKeeps rows ps inner n st c b && allBelow (fewer n 32) (signalKeeps rows ps inner n st c)
 
   module _ {b : ℕ} (is : b ≡ digit (st .statuses) c) where
     pub category-shut : b ≡ 1 → true ≡ categoryKeeps rows ps inner n st c
@@ -79,10 +79,10 @@ module _ (rows ps : List ℕ) (inner : List Bool) (n : ℕ) (st : Packed) (c : �
         i ∙ ap rest is ∙ sym (ap (λ z. cond z true (rest (digit (st .statuses) c))) (ne-eqb (digit (st .statuses) c) 1 (λ z. e (is ∙ z))))
 
   pub rest-no : (b : ℕ) {a : Bool} → a ≡ heldKeeps rows ps inner n st c b → a ≡ false → false ≡ rest b
-  rest-no b e z = sym (ap (λ x. x && all (fewer n 32) (signalKeeps rows ps inner n st c)) (sym e ∙ z))
+  rest-no b e z = sym (ap (λ x. x && allBelow (fewer n 32) (signalKeeps rows ps inner n st c)) (sym e ∙ z))
 
-  pub rest-on : (b : ℕ) {a r : Bool} → a ≡ heldKeeps rows ps inner n st c b → a ≡ true → r ≡ all (fewer n 32) (signalKeeps rows ps inner n st c) → r ≡ rest b
-  rest-on b e z i = i ∙ sym (ap (λ x. x && all (fewer n 32) (signalKeeps rows ps inner n st c)) (sym e ∙ z))
+  pub rest-on : (b : ℕ) {a r : Bool} → a ≡ heldKeeps rows ps inner n st c b → a ≡ true → r ≡ allBelow (fewer n 32) (signalKeeps rows ps inner n st c) → r ≡ rest b
+  rest-on b e z i = i ∙ sym (ap (λ x. x && allBelow (fewer n 32) (signalKeeps rows ps inner n st c)) (sym e ∙ z))
 
 -- two states are compared by their two numbers
 pub same-no : (a b : Packed) → (a .signal ≡ b .signal → ⊥) → false ≡ samePacked a b

@@ -10,7 +10,7 @@ use lib.Seq.{getD-set-same}
 use native.Mathlib.Omega.{arith}
 use native.Mathlib.Nat.{zero-add}
 use borrow.Author.Tests.{eqb-true, eq-eqb, ne-eqb, le-leb, lt-leb}
-use Rattle.resolution.specs.Lists.{all}
+use Rattle.resolution.specs.Lists.{allBelow}
 use Rattle.resolution.specs.Names.{Parts, properAncestor}
 use Rattle.resolution.specs.Table.{urn, Table, Row, rowOf, WellFormed}
 use Rattle.resolution.specs.Nodes.{nodes, number, isNode, RootOrNode, isInner}
@@ -28,7 +28,7 @@ use Rattle.node_step.specs.Step.{codedStatus, coded, digit, put, rowAt, stepNum
 use Rattle.node_search.specs.Arrays.{InnerIn}
 use Rattle.node_step.specs.Rows.{pack, numbersFrom, Numbers}
 use Rattle.node_step.specs.StatusByte.{byteOf, packedOf, stepPacked}
-use Rattle.node_search.specs.Uses.{fewer}
+use Rattle.node_search.specs.Search.{fewer}
 use Rattle.node_step.specs.declared.Status.the-variants.{Held}
 use Rattle.node_step.specs.declared.State as code
 use Rattle.node_step.specs.declared.stored.Packed.{Packed}
@@ -136,7 +136,7 @@ module _ (rows ps : List ℕ) (inner : List Bool) (n : ℕ) (t : Table) (wf : We
 
   -- what the tests ask of a category
   abbrev rest : ℕ → Bool
-  rest c = heldKeeps rows ps inner n now c (digit (now .statuses) c) && all (fewer n 32) (signalKeeps rows ps inner n now c)
+  rest c = heldKeeps rows ps inner n now c (digit (now .statuses) c) && allBelow (fewer n 32) (signalKeeps rows ps inner n now c)
 
   few-signals : fewer n 32 ≡ length (t .signals)
   few-signals = ap (λ b. cond b n 32) (le-leb n 32 (nu .few-signals)) ∙ sym (nu .all-signals)
@@ -159,7 +159,7 @@ module _ (rows ps : List ℕ) (inner : List Bool) (n : ℕ) (t : Table) (wf : We
       where
         by-signal : (c : ℕ) → c < t .cats → (status c ≡ direct.Shut → ⊥) → (p : Parts) (s : ℕ) → s < length (t .signals) → rowOf t s ≡ set row c p → step (envOf t) st (urn c p) .signal ≡ st .signal
         by-signal c h open-still p s l r =
-            let a = and-eq-true-iff (heldKeeps rows ps inner n now c (digit (now .statuses) c)) (all (fewer n 32) (signalKeeps rows ps inner n now c)) .0 (rest-to c h open-still (category-to e c h)) .1 in
+            let a = and-eq-true-iff (heldKeeps rows ps inner n now c (digit (now .statuses) c)) (allBelow (fewer n 32) (signalKeeps rows ps inner n now c)) .0 (rest-to c h open-still (category-to e c h)) .1 in
             let b = all-to (fewer n 32) (signalKeeps rows ps inner n now c) a s (omega (arith, few-signals)) in
             let place : getD (rowOf t s) c [] ≡ p = ap (λ z. getD z c []) r ∙ getD-set-same row c p [] (wide (st .signal) c h) in
             let keeps = sym (ap (λ z. cond z (keepsAt rows ps inner n now c (digit (getD rows s 0) c) true) true) (is-beside s c p l h r)) ∙ b in
@@ -170,7 +170,7 @@ module _ (rows ps : List ℕ) (inner : List Bool) (n : ℕ) (t : Table) (wf : We
         by-held c h w i =
             let b = held-byte c h w i in
             let not-shut : status c ≡ direct.Shut → ⊥ = λ z. let y = shut-byte c h z in omega (arith, b) in
-            let a = and-eq-true-iff (heldKeeps rows ps inner n now c (digit (now .statuses) c)) (all (fewer n 32) (signalKeeps rows ps inner n now c)) .0 (rest-to c h not-shut (category-to e c h)) .0 in
+            let a = and-eq-true-iff (heldKeeps rows ps inner n now c (digit (now .statuses) c)) (allBelow (fewer n 32) (signalKeeps rows ps inner n now c)) .0 (rest-to c h not-shut (category-to e c h)) .0 in
             let at : digit (now .statuses) c - 1 ≡ no c w = omega (arith, b) in
             let keeps = sym (ap (λ z. cond z true (keepsAt rows ps inner n now c (digit (now .statuses) c - 1) false)) (lt-leb (digit (now .statuses) c) 1 (omega (arith, b)))) ∙ a in
             keeps-to c h w (inr (held-node c h w i)) true at keeps
@@ -180,7 +180,7 @@ module _ (rows ps : List ℕ) (inner : List Bool) (n : ℕ) (t : Table) (wf : We
     unfolding settledBy categoryKeeps signalKeeps besideKeeps heldKeeps
     settled-tests e = all-of (fewer k 8) (categoryKeeps rows ps inner n now) (λ c h. by c (omega (arith, few-cats)) (status c) refl)
       where
-        places : (c : ℕ) → c < t .cats → all (fewer n 32) (signalKeeps rows ps inner n now c) ≡ true
+        places : (c : ℕ) → c < t .cats → allBelow (fewer n 32) (signalKeeps rows ps inner n now c) ≡ true
         places c h = all-of (fewer n 32) (signalKeeps rows ps inner n now c) (λ s l. each s (omega (arith, few-signals)) (beside (rowAt rows (st .signal)) (getD rows s 0) c))
           where
             each : (s : ℕ) → s < length (t .signals) → (b : Bool) → cond b (keepsAt rows ps inner n now c (digit (getD rows s 0) c) true) true ≡ true

@@ -15,7 +15,7 @@ use Rattle.alert_info.proofs.ReadingLaws.{reading-last, reading-more, reading-n
 use Rattle.node_step.specs.Step.{stepNumbers}
 use Rattle.node_step.specs.Tries.{triesNumbers}
 use Rattle.node_step.proofs.TriesLaws.{tries-bound}
-use Rattle.node_search.specs.Uses.{fewer}
+use Rattle.node_search.specs.Search.{fewer}
 use Rattle.node_step.specs.declared.State.{State}
 use Rattle.node_search.specs.declared.uses.Use.{Use}
 use Rattle.node_search.specs.declared.uses.Use.the-variants.{Skipped, Used}

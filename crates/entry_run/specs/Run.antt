@@ -9,7 +9,7 @@ use lib.Dec.{ltb}
 use Rattle.alert_info.specs.Value.{Reading, unfit, spans, add, partOf, readingFrom}
 use Rattle.node_step.specs.Step.{stepNumbers}
 use Rattle.node_step.specs.Tries.{triesNumbers}
-use Rattle.node_search.specs.Uses.{fewer, usesOf}
+use Rattle.node_search.specs.Search.{fewer, usesOf}
 use Rattle.node_step.specs.declared.Status.the-variants.{Open}
 use Rattle.node_step.specs.declared.State.{State}
 use Rattle.node_search.specs.declared.uses.Use.{Use}

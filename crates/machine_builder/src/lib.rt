@@ -8,7 +8,7 @@ mod states;
 ghost use mathlib.Core.Path.{_≡_};
 ghost use Prim.Native.Nat.{_+_, _*_, _≤_};
 ghost use lib.ListN.{length, replicate};
-ghost use Rattle.node_search.specs.Uses.{fewer};
+ghost use Rattle.node_search.specs.Search.{fewer};
 ghost use Rattle.machine_builder.specs.Built.{refused};
 ghost use Rattle.machine_symbols.specs.Steps.{nextState};
 ghost use Rattle.machine_builder.specs.States.{headBytes, builtBy, bufferBy};

@@ -8,7 +8,7 @@ use borrow.Author.Tests.{le-leb, lt-ltb, ltb-true}
 use lib.ListN.{length, getD, take, drop, List·getD-eq-default}
 use native.Mathlib.Omega.{arith}
 use native.Mathlib.Nat.{add-zero, zero-add}
-use Rattle.resolution.specs.Lists.{all, tabulate}
+use Rattle.resolution.specs.Lists.{allBelow, tabulate}
 use Rattle.resolution.specs.Names.{sameName}
 use Rattle.resolution.specs.Table.{Table, WellFormed, rowOf, place}
 use Rattle.resolution.specs.Nodes.{nodes}
@@ -38,8 +38,8 @@ use Rattle.machine_symbols.specs.Steps.{begin, nextState}
 use Rattle.machine_checker.specs.Checks.{packFrom, packedIn, statusFormedBy, stateFormedBy, formBy, targetRightBy, rowRightBy, checkBy}
 use Rattle.machine_symbols.proofs.StepRight.{code, code-start, next-code}
 
-all-same : (n : ℕ) (f g : ℕ → Bool) → ((k : ℕ) → k < n → f k ≡ g k) → all n f ≡ all n g
-unfolding all
+all-same : (n : ℕ) (f g : ℕ → Bool) → ((k : ℕ) → k < n → f k ≡ g k) → allBelow n f ≡ allBelow n g
+unfolding allBelow
 all-same zero f g h = refl
 all-same (suc n) f g h = ap₂ _&&_ (all-same n f g (λ k i. h k (omega arith))) (h n (omega arith))
 
@@ -81,16 +81,16 @@ module _ (t ca pos len : List ℕ) (n : ℕ) (T : Table) (ni : NodesIn t ca pos 
   state-right : (j : ℕ) → stateFormedBy fits signals (T .cats) im j ≡ stateFormed T im j
   unfolding stateFormedBy stateFormed
   state-right j =
-      ap (λ z. ltb (signalIn (T .cats) im j) z && (all (T .cats) (statusFormedBy fits (T .cats) im j) && all (symbolCount im) (targetBelow T im j))) (sym (nu .all-signals))
+      ap (λ z. ltb (signalIn (T .cats) im j) z && (allBelow (T .cats) (statusFormedBy fits (T .cats) im j) && allBelow (symbolCount im) (targetBelow T im j))) (sym (nu .all-signals))
       ∙ go (ltb (signalIn (T .cats) im j) (length (T .signals))) refl
     where
       go : (b : Bool) → ltb (signalIn (T .cats) im j) (length (T .signals)) ≡ b
-          → (b && (all (T .cats) (statusFormedBy fits (T .cats) im j) && all (symbolCount im) (targetBelow T im j)))
-          ≡ (b && (all (T .cats) (statusFormed T im j) && all (symbolCount im) (targetBelow T im j)))
+          → (b && (allBelow (T .cats) (statusFormedBy fits (T .cats) im j) && allBelow (symbolCount im) (targetBelow T im j)))
+          ≡ (b && (allBelow (T .cats) (statusFormed T im j) && allBelow (symbolCount im) (targetBelow T im j)))
       go false e = refl
       go true e =
           let l : signalIn (T .cats) im j < signals = omega (arith, ltb-true (signalIn (T .cats) im j) (length (T .signals)) e, nu .all-signals) in
-          ap (λ z. z && all (symbolCount im) (targetBelow T im j))
+          ap (λ z. z && allBelow (symbolCount im) (targetBelow T im j))
           (all-same (T .cats) (statusFormedBy fits (T .cats) im j) (statusFormed T im j)
           (λ c h. fits-right t ca pos len n T ni wf rows ps signals nu inner ii (signalIn (T .cats) im j) c l h (byteIn (T .cats) im j c)))
 
@@ -159,22 +159,22 @@ module _ (t ca pos len : List ℕ) (n : ℕ) (T : Table) (ni : NodesIn t ca pos 
         ∙ ap (λ b. b && sameState (machineState (machineIn T im) (targetIn (T .cats) im j k) .pair) (stepAt T (machineState (machineIn T im) j .pair) k))
         (lt-ltb (targetIn (T .cats) im j k) (length (machineIn T im)) (subst (λ (z : ℕ). targetIn (T .cats) im j k < z) (sym (machine-states T im)) l)))
 
-    rows-right : all (stateCount im) (rowRightBy next count (T .cats) im) ≡ all (length (machineIn T im)) (rowRight T (machineIn T im))
+    rows-right : allBelow (stateCount im) (rowRightBy next count (T .cats) im) ≡ allBelow (length (machineIn T im)) (rowRight T (machineIn T im))
     unfolding rowRightBy
     rows-right =
         all-same (stateCount im) (rowRightBy next count (T .cats) im) (rowRight T (machineIn T im))
         (λ j h. all-same count (targetRightBy next (T .cats) im j) (targetRight T (machineIn T im) j) (λ k i. target-right j k h i)
-        ∙ ap (λ n. all n (targetRight T (machineIn T im) j)) (sym (si .all-symbols)))
-        ∙ ap (λ n. all n (rowRight T (machineIn T im))) (sym (machine-states T im))
+        ∙ ap (λ n. allBelow n (targetRight T (machineIn T im) j)) (sym (si .all-symbols)))
+        ∙ ap (λ n. allBelow n (rowRight T (machineIn T im))) (sym (machine-states T im))
 
   pub check-right : checkBy fits next sy count signals (T .cats) im ≡ checkOf T im
   unfolding checkBy checkOf
   check-right =
-      ap (λ (b : Bool). cond {A = ℕ} b (cond (samePacked (packedIn (T .cats) im 0) begin) (cond (all (stateCount im) (rowRightBy next count (T .cats) im)) 0 17) 16) 15) form-right
+      ap (λ (b : Bool). cond {A = ℕ} b (cond (samePacked (packedIn (T .cats) im 0) begin) (cond (allBelow (stateCount im) (rowRightBy next count (T .cats) im)) 0 17) 16) 15) form-right
       ∙ go (formOf T im) refl
     where
       go : (b : Bool) → formOf T im ≡ b
-          → _≡_ {A = ℕ} (cond b (cond (samePacked (packedIn (T .cats) im 0) begin) (cond (all (stateCount im) (rowRightBy next count (T .cats) im)) 0 17) 16) 15)
-          (cond b (cond (sameState (machineState (machineIn T im) 0 .pair) (start (T .cats))) (cond (all (length (machineIn T im)) (rowRight T (machineIn T im))) 0 17) 16) 15)
+          → _≡_ {A = ℕ} (cond b (cond (samePacked (packedIn (T .cats) im 0) begin) (cond (allBelow (stateCount im) (rowRightBy next count (T .cats) im)) 0 17) 16) 15)
+          (cond b (cond (sameState (machineState (machineIn T im) 0 .pair) (start (T .cats))) (cond (allBelow (length (machineIn T im)) (rowRight T (machineIn T im))) 0 17) 16) 15)
       go false e = refl
       go true e = let ok = form-to T im e in ap₂ (λ (x : Bool) (y : Bool). cond {A = ℕ} x (cond y 0 17) 16) (begins ok) (rows-right ok)

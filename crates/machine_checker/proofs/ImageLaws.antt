@@ -11,7 +11,7 @@ use native.Mathlib.Omega.{arith}
 use native.Mathlib.Nat.{mul-le-mul-right, add-zero, sub-zero, pow-le-pow-right, pow-succ'}
 use native.Mathlib.Numerals.{add-one}
 use native.Mathlib.Decide.{decLt, ℕ-discrete}
-use Rattle.resolution.specs.Lists.{all}
+use Rattle.resolution.specs.Lists.{allBelow}
 use Rattle.resolution.specs.Names.{sameName}
 use Rattle.resolution.proofs.Lists.{same-test, all-to, all-of, all-stop}
 use Rattle.node_step.specs.StatusByte.{samePacked}
@@ -21,19 +21,19 @@ use Rattle.machine_symbols.specs.Steps.{begin, stateAt}
 use Rattle.machine_checker.specs.Checks.{packFrom, packedIn, Read, statusFormedBy, belowBy, stateFormedBy, formBy, targetRightBy, rowRightBy, checkBy}
 
 -- one number more of a test of all
-pub all-more : (f : ℕ → Bool) (k : ℕ) → all k f ≡ true → f k ≡ true → all (k + 1) f ≡ true
-unfolding all
+pub all-more : (f : ℕ → Bool) (k : ℕ) → allBelow k f ≡ true → f k ≡ true → allBelow (k + 1) f ≡ true
+unfolding allBelow
 all-more f k a b = rw (add-one, a) b
 
 -- the same by a test's answer r, and its end at the first no
-pub all-yes : (f : ℕ → Bool) (k : ℕ) {r : Bool} → r ≡ f k → not r ≡ false → all k f ≡ true → all (k + 1) f ≡ true
+pub all-yes : (f : ℕ → Bool) (k : ℕ) {r : Bool} → r ≡ f k → not r ≡ false → allBelow k f ≡ true → allBelow (k + 1) f ≡ true
 all-yes f k e t a = all-more f k a (sym e ∙ not-false _ t)
 
-pub all-no : (f : ℕ → Bool) (n k : ℕ) {r : Bool} → r ≡ f k → not r ≡ true → k < n → false ≡ all n f
+pub all-no : (f : ℕ → Bool) (n k : ℕ) {r : Bool} → r ≡ f k → not r ≡ true → k < n → false ≡ allBelow n f
 all-no f n k e t h = sym (all-stop n f k h (sym e ∙ not-true _ t))
 
-pub all-done : (f : ℕ → Bool) (n k : ℕ) → k ≤ n → n ≤ k → all k f ≡ true → true ≡ all n f
-all-done f n k a b e = let i : n ≡ k = omega arith in sym (ap (λ z. all z f) i ∙ e)
+pub all-done : (f : ℕ → Bool) (n k : ℕ) → k ≤ n → n ≤ k → allBelow k f ≡ true → true ≡ allBelow n f
+all-done f n k a b e = let i : n ≡ k = omega arith in sym (ap (λ z. allBelow z f) i ∙ e)
 
 -- the place of a state is a number of the machine's
 pub place-fits : (j m cats : ℕ) → j < 65536 → m < 256 → cats ≤ 8 → j * (m + cats + 1) ≤ 17301504
@@ -91,10 +91,10 @@ module _ (im : List ℕ) (cats j : ℕ) {i : ℕ} (e : i ≡ placeOf cats im j) 
     test-is : r ≡ statusFormedBy fits cats im j c
     test-is = t ∙ ap₂ (λ x y. fits x c y) g (status-is c f)
 
-    pub fits-no : c < cats → r ≡ false → false ≡ all cats (statusFormedBy fits cats im j)
+    pub fits-no : c < cats → r ≡ false → false ≡ allBelow cats (statusFormedBy fits cats im j)
     fits-no h n = sym (all-stop cats (statusFormedBy fits cats im j) c h (sym test-is ∙ n))
 
-    pub fits-yes : r ≡ true → all c (statusFormedBy fits cats im j) ≡ true → all (c + 1) (statusFormedBy fits cats im j) ≡ true
+    pub fits-yes : r ≡ true → allBelow c (statusFormedBy fits cats im j) ≡ true → allBelow (c + 1) (statusFormedBy fits cats im j) ≡ true
     fits-yes y a = all-more (statusFormedBy fits cats im j) c a (sym test-is ∙ y)
 
   -- a state's form
@@ -103,7 +103,7 @@ module _ (im : List ℕ) (cats j : ℕ) {i : ℕ} (e : i ≡ placeOf cats im j) 
     unfolding stateFormedBy
     state-signal h = let a : ltb (signalIn cats im j) signals ≡ false = ap (λ z. ltb z signals) (sym (signal-is f)) ∙ le-ltb s signals h in sym (rw a)
 
-    module _ (h : s < signals) {r : Bool} (g : r ≡ all cats (statusFormedBy fits cats im j)) where
+    module _ (h : s < signals) {r : Bool} (g : r ≡ allBelow cats (statusFormedBy fits cats im j)) where
       low : ltb (signalIn cats im j) signals ≡ true
       low = ap (λ z. ltb z signals) (sym (signal-is f)) ∙ lt-ltb s signals h
 
@@ -111,7 +111,7 @@ module _ (im : List ℕ) (cats j : ℕ) {i : ℕ} (e : i ≡ placeOf cats im j) 
       unfolding stateFormedBy
       state-status n = let a = sym g ∙ n in sym (rw (low, a))
 
-      pub state-rest : {b : Bool} → r ≡ true → b ≡ all (symbolCount im) (belowBy cats im j) → b ≡ stateFormedBy fits signals cats im j
+      pub state-rest : {b : Bool} → r ≡ true → b ≡ allBelow (symbolCount im) (belowBy cats im j) → b ≡ stateFormedBy fits signals cats im j
       unfolding stateFormedBy
       state-rest y e = let a = sym g ∙ y in e ∙ sym (rw (low, a))
 
@@ -133,7 +133,7 @@ pub read-all : (im : List ℕ) (cats : ℕ) (signal statuses : List ℕ) (j n : 
 read-all im cats signal statuses j n a b r = record { held = λ i h. r .held i (omega arith) }
 
 -- every byte is one of 256 states
-pub below-all : (im : List ℕ) (cats j : ℕ) {n : ℕ} → ((k : ℕ) → getD im k 0 < 256) → 256 ≤ n → n ≡ stateCount im → true ≡ all (symbolCount im) (belowBy cats im j)
+pub below-all : (im : List ℕ) (cats j : ℕ) {n : ℕ} → ((k : ℕ) → getD im k 0 < 256) → 256 ≤ n → n ≡ stateCount im → true ≡ allBelow (symbolCount im) (belowBy cats im j)
 below-all im cats j w h g =
     sym (all-of (symbolCount im) (belowBy cats im j) (λ k l. lt-ltb (targetIn cats im j k) (stateCount im) (omega (arith, w (placeOf cats im j + 1 + cats + k)))))
 
@@ -153,28 +153,28 @@ module _ (im : List ℕ) (cats j n : ℕ) {i m : ℕ} (e : i ≡ placeOf cats im
   short : length row ≤ m
   short = omega (arith, ap length h ∙ length-take m (drop (i + 1 + cats) im))
 
-  pub most-more : (k most : ℕ) → ltb most n ≡ all k (belowBy cats im j) → {v : ℕ} → k < length row → v ≡ max most (getD row k 0) → ltb v n ≡ all (k + 1) (belowBy cats im j)
-  unfolding all
+  pub most-more : (k most : ℕ) → ltb most n ≡ allBelow k (belowBy cats im j) → {v : ℕ} → k < length row → v ≡ max most (getD row k 0) → ltb v n ≡ allBelow (k + 1) (belowBy cats im j)
+  unfolding allBelow
   most-more k most w l o =
       ap (λ z. ltb z n) o ∙ below-max most (getD row k 0) n ∙ ap₂ (λ x y. x && y) w (ap₂ ltb (target-at k (omega (arith, short))) g)
-      ∙ ap (λ z. all z (belowBy cats im j)) (sym (add-one k))
+      ∙ ap (λ z. allBelow z (belowBy cats im j)) (sym (add-one k))
 
-  pub most-end : (k most : ℕ) → ltb most n ≡ all k (belowBy cats im j) → {v : ℕ} → k ≤ length row → length row ≤ k → 0 < n → v ≡ most → ltb v n ≡ all (symbolCount im) (belowBy cats im j)
-  most-end k most w a b p o = ap (λ z. ltb z n) o ∙ w ∙ same-test (all k (belowBy cats im j)) (all (symbolCount im) (belowBy cats im j)) to of
+  pub most-end : (k most : ℕ) → ltb most n ≡ allBelow k (belowBy cats im j) → {v : ℕ} → k ≤ length row → length row ≤ k → 0 < n → v ≡ most → ltb v n ≡ allBelow (symbolCount im) (belowBy cats im j)
+  most-end k most w a b p o = ap (λ z. ltb z n) o ∙ w ∙ same-test (allBelow k (belowBy cats im j)) (allBelow (symbolCount im) (belowBy cats im j)) to of
     where
       past : (x : ℕ) → k ≤ x → x < symbolCount im → belowBy cats im j x ≡ true
       past x l o =
           lt-ltb (targetIn cats im j x) (stateCount im)
           (omega (arith, g, target-at x (omega (arith, f)), List·getD-eq-default row 0 {n = x} (omega arith)))
 
-      to : all k (belowBy cats im j) ≡ true → all (symbolCount im) (belowBy cats im j) ≡ true
+      to : allBelow k (belowBy cats im j) ≡ true → allBelow (symbolCount im) (belowBy cats im j) ≡ true
       to t = all-of (symbolCount im) (belowBy cats im j) (λ x l. by x l (decLt x k))
         where
           by : (x : ℕ) → x < symbolCount im → Dec (x < k) → belowBy cats im j x ≡ true
           by x l (yes q) = all-to k (belowBy cats im j) t x q
           by x l (no q) = past x (omega arith) l
 
-      of : all (symbolCount im) (belowBy cats im j) ≡ true → all k (belowBy cats im j) ≡ true
+      of : allBelow (symbolCount im) (belowBy cats im j) ≡ true → allBelow k (belowBy cats im j) ≡ true
       of t = all-of k (belowBy cats im j) (λ x l. all-to (symbolCount im) (belowBy cats im j) t x (omega (arith, short, f)))
 
 -- the form, test by test
@@ -237,7 +237,7 @@ module _ (fits : ℕ → ℕ → ℕ → Bool) (sy : List ℕ) (count signals ca
                   let a : leb (stateCount im) 256 ≡ false = lt-leb (stateCount im) 256 (omega arith) in
                   sym (rw (le-leb cats 8 h₁, le-leb count 128 h₂, long, long-right, same, some, a))
 
-              pub form-states : {r : Bool} → n ≤ 256 → r ≡ all (stateCount im) (stateFormedBy fits signals cats im) → r ≡ formBy fits sy count signals cats im
+              pub form-states : {r : Bool} → n ≤ 256 → r ≡ allBelow (stateCount im) (stateFormedBy fits signals cats im) → r ≡ formBy fits sy count signals cats im
               unfolding formBy
               form-states h k =
                   let a : leb (stateCount im) 256 ≡ true = le-leb (stateCount im) 256 (omega arith) in
@@ -281,9 +281,9 @@ module _ (fits : ℕ → ℕ → ℕ → Bool) (next : Packed → ℕ → Packed
     unfolding checkBy
     check-start n = let a = sym e ∙ h in let c = start-test ∙ n in sym (rw (a, c))
 
-    module _ (z : s ≡ true) {n : ℕ} {r : Bool} (g : n ≡ stateCount im) (k : r ≡ all n (rowRightBy next count cats im)) where
-      rows : r ≡ all (stateCount im) (rowRightBy next count cats im)
-      rows = k ∙ ap (λ z. all z (rowRightBy next count cats im)) g
+    module _ (z : s ≡ true) {n : ℕ} {r : Bool} (g : n ≡ stateCount im) (k : r ≡ allBelow n (rowRightBy next count cats im)) where
+      rows : r ≡ allBelow (stateCount im) (rowRightBy next count cats im)
+      rows = k ∙ ap (λ z. allBelow z (rowRightBy next count cats im)) g
 
       pub check-wrong : r ≡ false → 17 ≡ checkBy fits next sy count signals cats im
       unfolding checkBy

@@ -5,7 +5,7 @@ use mathlib.Core.Bool.{Bool, cond, _&&_}
 use mathlib.Core.List.{List}
 use lib.Dec.{eqb, ltb, leb}
 use lib.ListN.{length, getD, take, drop}
-use Rattle.resolution.specs.Lists.{all}
+use Rattle.resolution.specs.Lists.{allBelow}
 use Rattle.resolution.specs.Names.{sameName}
 use Rattle.node_step.specs.StatusByte.{samePacked}
 use Rattle.node_step.specs.declared.stored.Packed.{Packed}
@@ -37,8 +37,8 @@ belowBy cats im j k = ltb (targetIn cats im j k) (stateCount im)
 unfoldable pub stateFormedBy : (ℕ → ℕ → ℕ → Bool) → ℕ → ℕ → List ℕ → ℕ → Bool
 stateFormedBy fits signals cats im j =
     ltb (signalIn cats im j) signals
-    && (all cats (statusFormedBy fits cats im j)
-    && all (symbolCount im) (belowBy cats im j))
+    && (allBelow cats (statusFormedBy fits cats im j)
+    && allBelow (symbolCount im) (belowBy cats im j))
 
 unfoldable pub formBy : (ℕ → ℕ → ℕ → Bool) → List ℕ → ℕ → ℕ → ℕ → List ℕ → Bool
 formBy fits sy count signals cats im =
@@ -49,17 +49,17 @@ formBy fits sy count signals cats im =
     && (sameName (take (3 * symbolCount im) (drop 1 im)) (take (3 * count) (drop 0 sy))
     && (leb 1 (stateCount im)
     && (leb (stateCount im) 256
-    && all (stateCount im) (stateFormedBy fits signals cats im)))))))
+    && allBelow (stateCount im) (stateFormedBy fits signals cats im)))))))
 
 -- the target of state j for symbol k is the right state; so are all; and the checker's number
 unfoldable pub targetRightBy : (Packed → ℕ → Packed) → ℕ → List ℕ → ℕ → ℕ → Bool
 targetRightBy next cats im j k = samePacked (packedIn cats im (targetIn cats im j k)) (next (packedIn cats im j) k)
 
 unfoldable pub rowRightBy : (Packed → ℕ → Packed) → ℕ → ℕ → List ℕ → ℕ → Bool
-rowRightBy next count cats im j = all count (targetRightBy next cats im j)
+rowRightBy next count cats im j = allBelow count (targetRightBy next cats im j)
 
 unfoldable pub checkBy : (ℕ → ℕ → ℕ → Bool) → (Packed → ℕ → Packed) → List ℕ → ℕ → ℕ → ℕ → List ℕ → ℕ
 checkBy fits next sy count signals cats im =
     cond (formBy fits sy count signals cats im)
     (cond (samePacked (packedIn cats im 0) begin)
-    (cond (all (stateCount im) (rowRightBy next count cats im)) 0 17) 16) 15
+    (cond (allBelow (stateCount im) (rowRightBy next count cats im)) 0 17) 16) 15

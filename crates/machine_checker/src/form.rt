@@ -6,7 +6,7 @@ use crate::image::state_count;
 use machine_symbols::steps::wide;
 ghost use mathlib.Core.Path.{_≡_};
 ghost use Prim.Native.Nat.{_≤_, _<_, max};
-ghost use Rattle.resolution.specs.Lists.{all};
+ghost use Rattle.resolution.specs.Lists.{allBelow};
 ghost use Rattle.node_step.specs.StatusByte.{fitsBy};
 ghost use Rattle.machine_image.specs.Image.{symbolCount, stateCount, placeOf, signalIn};
 ghost use Rattle.machine_checker.specs.Checks.{statusFormedBy, belowBy, stateFormedBy, formBy};
@@ -25,7 +25,7 @@ fn larger(a: u8, b: u8) -> u8
 // The loop has no way out in the middle, so that the compiler can read many bytes at a time.
 fn targets_below(im: &[u8], categories: usize, n: usize, j: usize) -> bool
     requires { ⌜ (categories ≤ 8) × (j < n) × (n ≤ 256) × (n ≡ stateCount (now im)) ⌝ }
-    ensures { λ r. ⌜ r ≡ all (symbolCount (now (im .entry))) (belowBy categories (now (im .entry)) j) ⌝ }
+    ensures { λ r. ⌜ r ≡ allBelow (symbolCount (now (im .entry))) (belowBy categories (now (im .entry)) j) ⌝ }
 {
     if 256 <= n {
         return true;
@@ -56,7 +56,7 @@ fn statuses_formed<'a>(
     j: usize,
 ) -> bool
     requires { ⌜ (categories ≤ 8) × (i < 18000000) × (i ≡ placeOf categories (now im) j) × (s ≡ signalIn categories (now im) j) ⌝ }
-    ensures { λ r. ⌜ r ≡ all categories (statusFormedBy (fitsBy (now (rows .entry)) (now (parents .entry)) (now (inner .entry)) (now (category .entry)) nodes) categories (now (im .entry)) j) ⌝ }
+    ensures { λ r. ⌜ r ≡ allBelow categories (statusFormedBy (fitsBy (now (rows .entry)) (now (parents .entry)) (now (inner .entry)) (now (category .entry)) nodes) categories (now (im .entry)) j) ⌝ }
 {
     let mut c = 0;
     while c < categories {
@@ -118,7 +118,7 @@ fn states_formed<'a>(
     n: usize,
 ) -> bool
     requires { ⌜ (categories ≤ 8) × (n ≤ 256) × (n ≡ stateCount (now im)) ⌝ }
-    ensures { λ r. ⌜ r ≡ all (stateCount (now (im .entry))) (stateFormedBy (fitsBy (now (rows .entry)) (now (parents .entry)) (now (inner .entry)) (now (category .entry)) nodes) signals categories (now (im .entry))) ⌝ }
+    ensures { λ r. ⌜ r ≡ allBelow (stateCount (now (im .entry))) (stateFormedBy (fitsBy (now (rows .entry)) (now (parents .entry)) (now (inner .entry)) (now (category .entry)) nodes) signals categories (now (im .entry))) ⌝ }
 {
     let mut j = 0;
     while j < n {

@@ -4,7 +4,7 @@ use node_step::stored::Packed;
 ghost use mathlib.Core.Path.{_≡_};
 ghost use Prim.Native.Nat.{_≤_, _<_};
 ghost use lib.ListN.{getD};
-ghost use Rattle.node_search.specs.Uses.{fewer};
+ghost use Rattle.node_search.specs.Search.{fewer};
 ghost use Rattle.machine_image.specs.Image.{stateCount, placeOf, signalIn, targetIn};
 ghost use Rattle.machine_checker.specs.Checks.{packFrom, packedIn};
 

@@ -8,7 +8,7 @@ use node_step::stored::Packed;
 ghost use mathlib.Core.Path.{_≡_};
 ghost use Prim.Native.Nat.{_≤_, _<_};
 ghost use lib.ListN.{length};
-ghost use Rattle.resolution.specs.Lists.{all};
+ghost use Rattle.resolution.specs.Lists.{allBelow};
 ghost use Rattle.node_step.specs.StatusByte.{samePacked};
 ghost use Rattle.machine_symbols.specs.Steps.{nextState};
 ghost use Rattle.machine_checker.specs.Checks.{packedIn, Read, rowRightBy};
@@ -101,7 +101,7 @@ pub(crate) fn rows_right<'a>(
     n: usize,
 ) -> bool
     requires { ⌜ (categories ≤ 8) × (count ≤ 128) × (n < 65536) ⌝ }
-    ensures { λ r. ⌜ r ≡ all n (rowRightBy (nextState (now (rows .entry)) (now (parents .entry)) (now (inner .entry)) signals (now (symbols .entry))) count categories (now (im .entry))) ⌝ }
+    ensures { λ r. ⌜ r ≡ allBelow n (rowRightBy (nextState (now (rows .entry)) (now (parents .entry)) (now (inner .entry)) signals (now (symbols .entry))) count categories (now (im .entry))) ⌝ }
 {
     let mut signal = [0u8; 256];
     let mut statuses = [0u64; 256];

@@ -23,7 +23,7 @@ use Rattle.resolution.proofs.Symbols.{symbol-exact, symbol-known}
 use Rattle.node_search.specs.Arrays.{childless, NodesIn}
 use Rattle.node_step.specs.Rows.{Numbers}
 use Rattle.machine_image.specs.Image.{kindOf}
-use Rattle.node_search.specs.Uses.{fewer}
+use Rattle.node_search.specs.Search.{fewer}
 use Rattle.machine_symbols.specs.Listed.{SymbolsIn, isTriple, tripleIndex, kindFor, indexFrom, symbolNumber}
 use Rattle.machine_symbols.proofs.SymbolLaws.{by-index}
 use Rattle.node_step.proofs.Leaves.{leaf-is}

@@ -12,7 +12,7 @@ use native.Mathlib.Nat.{sub-zero}
 use native.Mathlib.Numerals.{add-one}
 use native.Mathlib.Decide.{decLt, ℕ-discrete}
 use Rattle.node_search.specs.Arrays.{childless}
-use Rattle.node_search.specs.Uses.{fewer}
+use Rattle.node_search.specs.Search.{fewer}
 use Rattle.node_search.proofs.UseLaws.{fewer-le, fewer-gt}
 use Rattle.machine_symbols.specs.declared.Symbols.{Symbols}
 use Rattle.machine_symbols.specs.Listed.{triple, nodeTriples, nodesTriples, categoryTriples, tripleLists, symbolsOf, Listed, isTriple, tripleIndex, kindFor, slot, slotAt, indexFrom, entryAt, numberFrom, symbolNumber}

@@ -19,7 +19,7 @@ use Rattle.node_step.specs.Rows.{Numbers}
 use Rattle.node_step.proofs.Leaves.{leaf-is}
 use Rattle.machine_image.specs.Image.{joined, symbolBytes, storedSymbols}
 use Rattle.machine_image.proofs.Joined.{stored-length}
-use Rattle.node_search.specs.Uses.{fewer}
+use Rattle.node_search.specs.Search.{fewer}
 use Rattle.machine_symbols.specs.Listed.{triple, nodeTriples, nodesTriples, categoryTriples, tripleLists, Listed, SymbolsIn}
 
 joined-append : {A : Type 0} (f : A → List ℕ) (a b : List A) → joined f (a ++ b) ≡ joined f a ++ joined f b

@@ -8,7 +8,7 @@ use lib.ListN.{length, getD, set, take, drop, replicate}
 use Rattle.resolution.specs.Table.{Table}
 use Rattle.resolution.specs.Symbols.{symbols}
 use Rattle.node_search.specs.Arrays.{childless}
-use Rattle.node_search.specs.Uses.{fewer}
+use Rattle.node_search.specs.Search.{fewer}
 use Rattle.machine_image.specs.Image.{storedSymbols}
 use Rattle.machine_symbols.specs.declared.Symbols.{Symbols}
 

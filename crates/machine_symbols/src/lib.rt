@@ -10,7 +10,7 @@ ghost use mathlib.Core.List.{List, [], _∷_, _++_};
 ghost use Prim.Native.Nat.{ℕ, _+_, _*_, _≤_, _<_};
 ghost use lib.ListN.{replicate};
 ghost use Rattle.node_search.specs.Arrays.{childless};
-ghost use Rattle.node_search.specs.Uses.{fewer};
+ghost use Rattle.node_search.specs.Search.{fewer};
 ghost use Rattle.machine_symbols.specs.Listed.{nodeTriples, categoryTriples, tripleLists, symbolsOf, Listed, isTriple, tripleIndex, kindFor, slot, slotAt, indexFrom, entryAt, numberFrom, symbolNumber};
 
 // How many symbols there are, and three bytes for each.

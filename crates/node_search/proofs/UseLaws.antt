@@ -20,7 +20,7 @@ use Rattle.text_bytes.proofs.Fields.{upTo-take, upTo-le, past-drop}
 use Rattle.node_search.specs.declared.uses.Search.{Search}
 use Rattle.node_search.specs.declared.uses.Use.the-variants.{Skipped}
 use Rattle.node_search.specs.Arrays.{stretch}
-use Rattle.node_search.specs.Uses.{findName, nothing, coversBy, metWith, countedIn, lookBy, lookAt, searchFrom, foundIn, fewer, usedBy, usesOf}
+use Rattle.node_search.specs.Search.{findName, nothing, coversBy, metWith, countedIn, lookBy, lookAt, searchFrom, foundIn, fewer, usedBy, usesOf}
 
 module _ (t s na nl : List ℕ) (n i : ℕ) (v : findName t na nl s 0 n ≡ findName t na nl s i (n - i)) where
   module _ {b : Bool} (h : i < n) (e : b ≡ sameName s (stretch t na nl i)) where

@@ -32,7 +32,8 @@ use Rattle.alert_urn.proofs.Cases.{alert-case}
 use Rattle.text_bytes.proofs.Turns.{covers-level, covers-not, covers-ends, common-three, common-le, next-lesser}
 use Rattle.node_search.specs.declared.uses.Search.{Search}
 use Rattle.node_search.specs.declared.uses.Use.the-variants.{Skipped, Used}
-use Rattle.node_search.specs.Uses.{usedUrn, CaseIgnored, comparedOver, useOf, findName, nothing, coversBy, metWith, countedIn, lookBy, lookAt, searchFrom, foundIn, fewer, usedBy, usesOf}
+use Rattle.node_search.specs.Uses.{usedUrn, CaseIgnored, comparedOver, useOf}
+use Rattle.node_search.specs.Search.{findName, nothing, coversBy, metWith, countedIn, lookBy, lookAt, searchFrom, foundIn, fewer, usedBy, usesOf}
 use Rattle.node_search.specs.Arrays.{stretch, NamesIn, NodesIn, lastPath, SharedIn, InnerIn}
 
 -- the names

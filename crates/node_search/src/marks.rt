@@ -6,7 +6,7 @@ ghost use Prim.Native.Nat.{ℕ, _+_, _≤_, _<_};
 ghost use lib.Dec.{eqb};
 ghost use lib.ListN.{length, getD};
 ghost use Rattle.node_search.specs.Arrays.{lastPath, SharedIn, childless};
-ghost use Rattle.node_search.specs.Uses.{fewer};
+ghost use Rattle.node_search.specs.Search.{fewer};
 
 pub struct Marks {
     pub shared: [u8; 64],
@@ -23,7 +23,7 @@ fn mark(p: u8, inner: &mut [bool; 64])
         return;
     }
     if p <= 64 {
-        let i = crate::uses::wide8(p) - 1;
+        let i = text_bytes::cut::wide8(p) - 1;
         inner[i] = true;
     }
 }

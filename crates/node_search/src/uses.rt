@@ -5,7 +5,7 @@ ghost use lib.Dec.{eqb, leb};
 ghost use lib.ListN.{length};
 ghost use Rattle.text_bytes.specs.Text.{differAt, endsAt, lowered};
 ghost use Rattle.node_search.specs.Arrays.{stretch};
-ghost use Rattle.node_search.specs.Uses.{findName, nothing, metWith, countedIn, lookBy, searchFrom, fewer, usesOf};
+ghost use Rattle.node_search.specs.Search.{findName, nothing, metWith, countedIn, lookBy, searchFrom, fewer, usesOf};
 
 // What a URI is to the table: skipped, or used, with its deepest node, or the root, whether it is that node, and the
 // bytes compared to find it.
@@ -29,19 +29,6 @@ struct Search {
     compared: u32,
 }
 
-// A number as an index.
-pub(crate) fn wide8(x: u8) -> usize
-    ensures { λ r. ⌜ (r ≡ x) × (r ≤ 255) ⌝ }
-{
-    x as usize
-}
-
-fn wide16(x: u16) -> usize
-    ensures { λ r. ⌜ r ≡ x ⌝ }
-{
-    x as usize
-}
-
 // The number of the first of the n categories that has the name s, whatever its letter case, or 8.
 fn find_name<'a>(
     t: &[u8],
@@ -55,8 +42,8 @@ fn find_name<'a>(
 {
     let mut i = 0;
     while i < n {
-        let from = wide16(name_at[i]);
-        let size = wide8(name_len[i]);
+        let from = text_bytes::cut::wide16(name_at[i]);
+        let size = text_bytes::cut::wide8(name_len[i]);
         if text_bytes::letter_case::same_lowered(s, text_bytes::cut::part(t, from, size)) {
             return i;
         }
@@ -76,8 +63,8 @@ pub(crate) fn path_at<'a, 'b>(
     ensures { λ r. ⌜ now r ≡ stretch (now (t .entry)) (now (at .entry)) (now (len .entry)) i ⌝ }
     ensures short { λ r. ⌜ length (now r) ≤ 255 ⌝ }
 {
-    let from = wide16(at[i]);
-    let size = wide8(len[i]);
+    let from = text_bytes::cut::wide16(at[i]);
+    let size = text_bytes::cut::wide8(len[i]);
     text_bytes::cut::part(t, from, size)
 }
 
@@ -220,7 +207,7 @@ fn search_nodes<'a>(
     let mut i = 0;
     while i < n {
         if category[i] == c {
-            s = look(t, at, len, inner, w, i, wide8(shared[i]), s);
+            s = look(t, at, len, inner, w, i, text_bytes::cut::wide8(shared[i]), s);
             if s.ends {
                 return s;
             }

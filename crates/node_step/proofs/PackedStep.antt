@@ -20,7 +20,7 @@ use Rattle.node_step.specs.declared.Hit.{Hit}
 use Rattle.node_step.specs.declared.stored.Packed.{Packed}
 use Rattle.node_step.specs.Step.{few, digit, put, rowAt, seek, extends, statusIn, takes, statusFrom, moved, stepNumbers}
 use Rattle.node_step.specs.StatusByte.{byteOf, statusOf, packed, unpacked, packedOf, ofPacked, samePacked, stepPacked, movedPacked, fitsBy}
-use Rattle.node_search.specs.Uses.{fewer}
+use Rattle.node_search.specs.Search.{fewer}
 use Rattle.node_step.specs.Rows.{pack}
 use Rattle.node_step.proofs.PackedLaws.{pack-set}
 use Rattle.node_step.proofs.ProgressLaws.{same-lists}

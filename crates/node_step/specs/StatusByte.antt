@@ -11,7 +11,7 @@ use Rattle.node_step.specs.declared.State.{State}
 use Rattle.node_step.specs.declared.Hit.{Hit}
 use Rattle.node_step.specs.declared.stored.Packed.{Packed}
 use Rattle.node_step.specs.Step.{digit, put, rowAt, extends, statusIn, statusFrom, stepNumbers}
-use Rattle.node_search.specs.Uses.{fewer}
+use Rattle.node_search.specs.Search.{fewer}
 
 -- 0 open, 1 shut, 1 + n held at node n, which is at most 64
 abbrev pub byteOf : Status → ℕ

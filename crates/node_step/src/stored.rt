@@ -24,13 +24,6 @@ pub struct Packed {
     pub statuses: u64,
 }
 
-// A number as an index.
-fn wide8(x: u8) -> usize
-    ensures { λ r. ⌜ (r ≡ x) × (r ≤ 255) ⌝ }
-{
-    x as usize
-}
-
 // The byte of a category: 0 open, 1 shut, 1 + n held at node n.
 pub fn byte_of(progress: Progress) -> u8
     ensures { λ r. ⌜ r ≡ byteOf (progress .status) ⌝ }
@@ -156,7 +149,7 @@ pub fn fits<'a>(
     if n <= k {
         return false;
     }
-    if wide8(category[k]) != c {
+    if text_bytes::cut::wide8(category[k]) != c {
         return false;
     }
     if !inner[k] {

@@ -9,7 +9,7 @@ use borrow.Author.Tests.{eq-eqb, ne-eqb}
 use native.Mathlib.Omega.{arith}
 use Rattle.alert_info.specs.Value.{refusalOf}
 use Rattle.text_bytes.proofs.Fields.{byTest}
-use Rattle.resolution.specs.Lists.{all, memberBy, indexBy}
+use Rattle.resolution.specs.Lists.{allBelow, memberBy, indexBy}
 use Rattle.resolution.specs.Names.{Name, sameName}
 use Rattle.resolution.proofs.Lists.{all-stop, mem-at, member-of, index-member}
 use Rattle.resolution.proofs.Names.{name-exact}
@@ -54,15 +54,15 @@ module _ (ring lamp v : List ℕ) where
         with-both e f g = ap₂ (λ (x y : ℕ). record { refusal = 0; ring = x; lamp = y }) f g ∙ by-number 0 (last true e)
 
 -- a test that does not hold of all fails somewhere
-all-fails : (n : ℕ) (f : ℕ → Bool) → all n f ≡ false → (k : ℕ) × (k < n) × (f k ≡ false)
-unfolding all
+all-fails : (n : ℕ) (f : ℕ → Bool) → allBelow n f ≡ false → (k : ℕ) × (k < n) × (f k ≡ false)
+unfolding allBelow
 all-fails zero f e = absurd (true≢false e)
 all-fails (suc n) f e = go (f n) refl (all-fails n f)
   where
-    go : (b : Bool) → f n ≡ b → (all n f ≡ false → (k : ℕ) × (k < n) × (f k ≡ false)) → (k : ℕ) × (k < suc n) × (f k ≡ false)
+    go : (b : Bool) → f n ≡ b → (allBelow n f ≡ false → (k : ℕ) × (k < n) × (f k ≡ false)) → (k : ℕ) × (k < suc n) × (f k ≡ false)
     go false h ih = (n, omega arith, h)
     go true h ih =
-        let w = ih (sym (and-true (all n f)) ∙ ap (λ b. all n f && b) (sym h) ∙ e) in
+        let w = ih (sym (and-true (allBelow n f)) ∙ ap (λ b. allBelow n f && b) (sym h) ∙ e) in
         (w .0, omega (arith, w .1), w .2)
 
 not-same : (x y : Name) → not (sameName x y) ≡ false → x ≡ y

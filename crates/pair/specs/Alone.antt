@@ -2,10 +2,10 @@
 use Prim.Native.Nat.{ℕ}
 use mathlib.Core.Bool.{Bool, not}
 use mathlib.Core.List.{List}
-use Rattle.resolution.specs.Lists.{all}
+use Rattle.resolution.specs.Lists.{allBelow}
 use Rattle.resolution.specs.Names.{Name, sameName}
 use Rattle.node_search.specs.Arrays.{stretch}
-use Rattle.node_search.specs.Uses.{fewer}
+use Rattle.node_search.specs.Search.{fewer}
 
 -- the name x is not that of category j
 unfoldable pub otherAt : Name → List ℕ → List ℕ → List ℕ → ℕ → Bool
@@ -13,8 +13,8 @@ otherAt x t at len j = not (sameName x (stretch t at len j))
 
 -- the name of category i of the one table is that of none of the n categories of the other
 unfoldable pub noneAt : List ℕ → List ℕ → List ℕ → List ℕ → List ℕ → List ℕ → ℕ → ℕ → Bool
-noneAt ring rat rlen lamp lat llen n i = all n (otherAt (stretch ring rat rlen i) lamp lat llen)
+noneAt ring rat rlen lamp lat llen n i = allBelow n (otherAt (stretch ring rat rlen i) lamp lat llen)
 
 -- no category of the one table is one of the other's, of at most 8 each
 unfoldable pub apartBy : List ℕ → List ℕ → List ℕ → ℕ → List ℕ → List ℕ → List ℕ → ℕ → Bool
-apartBy ring rat rlen m lamp lat llen n = all (fewer m 8) (noneAt ring rat rlen lamp lat llen (fewer n 8))
+apartBy ring rat rlen m lamp lat llen n = allBelow (fewer m 8) (noneAt ring rat rlen lamp lat llen (fewer n 8))

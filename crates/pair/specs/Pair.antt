@@ -5,7 +5,7 @@ use mathlib.Core.List.{List, []}
 use lib.Dec.{eqb}
 use lib.ListN.{length, getD}
 use Rattle.alert_info.specs.Value.{refusalOf, urisOf}
-use Rattle.resolution.specs.Lists.{all}
+use Rattle.resolution.specs.Lists.{allBelow}
 use Rattle.resolution.specs.Names.{Name, sameName}
 use Rattle.resolution.specs.Direct.{direct, usedOf}
 use Rattle.stored_table.specs.Tables.{tableRefusal, tableOf, categoryNames}
@@ -17,10 +17,10 @@ abbrev pub otherName : Name → List Name → ℕ → Bool
 otherName x b j = not (sameName x (getD b j []))
 
 abbrev pub noneOf : List Name → List Name → ℕ → Bool
-noneOf a b i = all (length b) (otherName (getD a i []) b)
+noneOf a b i = allBelow (length b) (otherName (getD a i []) b)
 
 abbrev pub apart : List Name → List Name → Bool
-apart a b = all (length a) (noneOf a b)
+apart a b = allBelow (length a) (noneOf a b)
 
 -- refused with the value's number (1 to 3), then the ring table's, then the lamp table's (4 to 12), then with 24 if they have a category
 -- in common; or 0

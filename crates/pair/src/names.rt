@@ -3,37 +3,25 @@
 use node_search::uses::at_most;
 ghost use mathlib.Core.Path.{_≡_};
 ghost use Prim.Native.Nat.{_≤_, _<_};
-ghost use Rattle.resolution.specs.Lists.{all};
+ghost use Rattle.resolution.specs.Lists.{allBelow};
 ghost use Rattle.node_search.specs.Arrays.{stretch};
-ghost use Rattle.node_search.specs.Uses.{fewer};
+ghost use Rattle.node_search.specs.Search.{fewer};
 ghost use Rattle.pair.specs.Alone.{otherAt, noneAt, apartBy};
-
-fn wide8(x: u8) -> usize
-    ensures { λ r. ⌜ r ≡ x ⌝ }
-{
-    x as usize
-}
-
-fn wide16(x: u16) -> usize
-    ensures { λ r. ⌜ r ≡ x ⌝ }
-{
-    x as usize
-}
 
 // The name of category i, in the table's bytes.
 fn name<'a, 'b>(t: &'a [u8], at: &'b [u16; 8], len: &'b [u8; 8], i: usize) -> &'a [u8]
     requires { ⌜ i < 8 ⌝ }
     ensures { λ r. ⌜ now r ≡ stretch (now (t .entry)) (now (at .entry)) (now (len .entry)) i ⌝ }
 {
-    let from = wide16(at[i]);
-    let size = wide8(len[i]);
+    let from = text_bytes::cut::wide16(at[i]);
+    let size = text_bytes::cut::wide8(len[i]);
     text_bytes::cut::part(t, from, size)
 }
 
 // None of the n categories has the name s.
 fn none_is<'a>(s: &[u8], t: &[u8], at: &'a [u16; 8], len: &'a [u8; 8], n: usize) -> bool
     requires { ⌜ n ≤ 8 ⌝ }
-    ensures { λ r. ⌜ r ≡ all n (otherAt (now (s .entry)) (now (t .entry)) (now (at .entry)) (now (len .entry))) ⌝ }
+    ensures { λ r. ⌜ r ≡ allBelow n (otherAt (now (s .entry)) (now (t .entry)) (now (at .entry)) (now (len .entry))) ⌝ }
 {
     let mut j = 0;
     while j < n {

@@ -11,7 +11,7 @@ use lib.ListN.{length, getD, set, take, length-set}
 use lib.Seq.{getD-set-same, getD-set-other}
 use native.Mathlib.Omega.{arith}
 use native.Mathlib.Decide.{ℕ-discrete, decLt}
-use Rattle.resolution.specs.Lists.{all}
+use Rattle.resolution.specs.Lists.{allBelow}
 use Rattle.resolution.specs.Names.{Parts, sameParts, below, properAncestor, candidates}
 use Rattle.resolution.specs.Table.{Urn, urn, Table, Row, rowOf, WellFormed}
 use Rattle.resolution.specs.Direct.{Status, Open, Held, Shut, State, Env, Hit, start, firstHit, heldIf, openOr, statusAfter, takesUrn, ifTaken, step, envOf, direct, usedOf, stepUri, StateOf, Used, AllUsed}
@@ -29,8 +29,8 @@ use Rattle.resolution.proofs.Symbols.{symbol-at-index, symbol-known}
 use Rattle.resolution.proofs.Claim.{run-used}
 use Rattle.resolution.proofs.Lists.{mem-at}
 
-all-same : (n : ℕ) (f g : ℕ → Bool) → ((k : ℕ) → k < n → f k ≡ g k) → all n f ≡ all n g
-unfolding all
+all-same : (n : ℕ) (f g : ℕ → Bool) → ((k : ℕ) → k < n → f k ≡ g k) → allBelow n f ≡ allBelow n g
+unfolding allBelow
 all-same zero f g h = refl
 all-same (suc n) f g h = ap₂ _&&_ (all-same n f g (λ k i. h k (omega arith))) (h n (omega arith))
 

@@ -7,7 +7,7 @@ use mathlib.Core.Option.{Option}
 use mathlib.Core.List.{List, [], _∷_, _++_, foldl, List·Memᴰ}
 use lib.Dec.{eqb}
 use lib.ListN.{length, take}
-use Rattle.resolution.specs.Lists.{all}
+use Rattle.resolution.specs.Lists.{allBelow}
 use Rattle.resolution.specs.Table.{Urn, Table}
 use Rattle.resolution.specs.Direct.{State, start, step, envOf, direct, usedOf, stepUri, StateOf, Used, AllUsed}
 use Rattle.resolution.specs.Symbols.{symbols, bySymbols, stepAt}
@@ -22,7 +22,7 @@ keepsSignal t st k = eqb (stepAt t st k .signal) (st .signal)
 
 -- no single symbol leads to another signal
 abbrev pub isSettled : Table → State → Bool
-isSettled t st = all (length (symbols t)) (keepsSignal t st)
+isSettled t st = allBelow (length (symbols t)) (keepsSignal t st)
 
 -- how many URIs of the list are needed from a state on: those until the first settled state, or all of them
 abbrev pub neededFrom : Table → State → List (Option Urn) → ℕ

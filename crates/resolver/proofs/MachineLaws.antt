@@ -21,7 +21,7 @@ use Rattle.entry_run.specs.declared.answer.Ended.{Ended}
 use Rattle.entry_run.proofs.FoldLaws.{Steps, holds-reads}
 use Rattle.entry_run.proofs.AnswerLaws.{value-refused, refused-first, value-ends, end-answer}
 use Rattle.node_step.specs.StatusByte.{fitsBy}
-use Rattle.node_search.specs.Uses.{fewer}
+use Rattle.node_search.specs.Search.{fewer}
 use Rattle.machine_symbols.specs.Listed.{SymbolsIn, tripleLists, symbolsOf, indexFrom}
 use Rattle.machine_symbols.specs.declared.Symbols.{Symbols}
 use Rattle.machine_checker.specs.Checks.{formBy}

@@ -25,7 +25,7 @@ use Rattle.node_step.proofs.NumberLaws.{numbers-length, numbers-at, numbers-byt
 use Rattle.node_step.proofs.PackedLaws.{pack-same}
 use Rattle.table_sections.specs.Held.{Tagged, tag, Padded}
 use Rattle.signal_places.specs.Tests.{noTwo}
-use Rattle.signal_places.specs.Verdict.{samePlaces, single, plain, distinct, fewNodes, verdict}
+use Rattle.signal_places.specs.Verdict.{samePlaces, single, zeroSilent, distinct, fewNodes, verdict}
 use Rattle.signal_places.specs.Slots.{urnOf, Listing, Numbering, Placed, InRange, keyAt, sameKey, slotIn, placeNumber, packedFrom, sameSlots, samePlacesAt}
 use Rattle.signal_places.proofs.TestLaws.{same-test}
 use Rattle.signal_places.proofs.Flat.{all-alike, two-alike, tab-list, tab-shift, sameTag, single-tags, plain-tags, tagged-below, firstPlace, first-place, pathIn, slot-place}
@@ -81,8 +81,8 @@ module _ {T : Table} {signal category : List ℕ} {path : ℕ → Parts} {n m : 
   unfolding verdict
   is-nine e z = sym (rw (single-as e ∙ z))
 
-  plain-as : {b : Bool} → (m ≡ 0 → b ≡ true) → (0 < m → b ≡ ltb 0 (getD signal 0 0)) → plain T ≡ b
-  unfolding plain
+  plain-as : {b : Bool} → (m ≡ 0 → b ≡ true) → (0 < m → b ≡ ltb 0 (getD signal 0 0)) → zeroSilent T ≡ b
+  unfolding zeroSilent
   plain-as f g = sym (plain-tags (T .signals) (urnOf signal category path) m (L .urns) f g)
 
   pub is-ten : {a b : Bool} → (InRange signal category m → a ≡ noTwo sameKey (tabulate (keyAt signal category) m)) → a ≡ true
@@ -94,7 +94,7 @@ module _ {T : Table} {signal category : List ℕ} {path : ℕ → Parts} {n m : 
 pub record Slotted (T : Table) (signal category : List ℕ) (path : ℕ → Parts) (n m : ℕ) (slots : List ℕ) : Type 0 where
   pub listing : Listing T signal category path n m
   pub once : single T ≡ true
-  pub silent : plain T ≡ true
+  pub silent : zeroSilent T ≡ true
   pub slot : (s c : ℕ) → c < 8 → getD slots (8 * s + c) 0 ≡ slotIn (keyAt signal category) s c m
 
 pub slotted : {T : Table} {signal category : List ℕ} {path : ℕ → Parts} {n m : ℕ} (L : Listing T signal category path n m) {a b : Bool} {slots : List ℕ}

@@ -21,8 +21,8 @@ abbrev pub noUrn : List Urn → Bool
 noUrn [] = true
 noUrn (u ∷ us) = false
 
-unfoldable pub plain : Table → Bool
-plain T = noUrn (getD (T .signals) 0 [])
+unfoldable pub zeroSilent : Table → Bool
+zeroSilent T = noUrn (getD (T .signals) 0 [])
 
 -- 11: no two signals have the same places
 abbrev pub samePlaces : ℕ → List Urn → List Urn → Bool
@@ -37,4 +37,4 @@ fewNodes T = leb (length (nodes T)) 64
 
 -- the first of 9 to 12 that holds of a table, or 0
 unfoldable pub verdict : Table → ℕ
-verdict T = cond (single T) (cond (plain T) (cond (distinct T) (cond (fewNodes T) 0 12) 11) 10) 9
+verdict T = cond (single T) (cond (zeroSilent T) (cond (distinct T) (cond (fewNodes T) 0 12) 11) 10) 9

@@ -4,7 +4,7 @@ use mathlib.Core.Path.{_≡_, ap, sym, _∙_}
 use mathlib.Core.Bool.{Bool, cond}
 use mathlib.Core.List.{List}
 use borrow.Author.Tests.{eq-eqb, ne-eqb}
-use Rattle.node_search.specs.Uses.{usesOf}
+use Rattle.node_search.specs.Search.{usesOf}
 use Rattle.node_search.proofs.UseRight.{uses-right}
 use Rattle.node_search.specs.declared.uses.Use.{Use}
 use Rattle.node_search.specs.declared.uses.Use.the-variants.{Skipped, Used}

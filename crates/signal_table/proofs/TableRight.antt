@@ -9,7 +9,7 @@ use lib.ListN.{replicate}
 use native.Mathlib.Omega.{arith}
 use Rattle.resolution.proofs.SymbolCount.{few-symbols}
 use Rattle.node_step.specs.StatusByte.{fitsBy}
-use Rattle.node_search.specs.Uses.{fewer}
+use Rattle.node_search.specs.Search.{fewer}
 use Rattle.node_step.specs.declared.stored.Packed.{Packed}
 use Rattle.node_search.proofs.UseLaws.{fewer-le}
 use Rattle.machine_image.specs.Refusals.{formOf}

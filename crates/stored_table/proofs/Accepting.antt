@@ -22,7 +22,7 @@ use Rattle.resolution.proofs.Names.{name-exact, row-exact}
 use Rattle.resolution.proofs.Nodes.{nodes-all}
 use Rattle.table_sections.specs.Stored.{Read, fault, got, Stored, stored, sections}
 use Rattle.signal_places.specs.Verdict.{sameCat, noUrn, samePlaces}
-use Rattle.stored_table.specs.Tables.{any, noTwo, formed, uses, isListed, listed, toUrn, tableIn, single, plain, distinct, fewNodes, verdict, judged, judgedRead, tableRefusal, tableRead, tableOf}
+use Rattle.stored_table.specs.Tables.{any, noTwo, formed, uses, isListed, listed, toUrn, tableIn, single, zeroSilent, distinct, fewNodes, verdict, judged, judgedRead, tableRefusal, tableRead, tableOf}
 use Rattle.stored_table.specs.Accepted.{Accepted}
 use Rattle.table_sections.proofs.FaultLaws.{fault-some-number, stored-counts}
 use Rattle.table_sections.proofs.SectionLaws.{sections-read}
@@ -107,15 +107,15 @@ pub record Passed (s : Stored) : Type 0 where
   pub form : formed s ≡ true
   pub lists : listed s ≡ true
   pub once : single (tableIn s) ≡ true
-  pub silent : plain (tableIn s) ≡ true
+  pub silent : zeroSilent (tableIn s) ≡ true
   pub rows : distinct (tableIn s) ≡ true
   pub few : fewNodes (tableIn s) ≡ true
 
 pub judged-zero : (s : Stored) → judged s ≡ 0 → Passed s
 unfolding judged verdict
-judged-zero s e = go (formed s) (listed s) (single (tableIn s)) (plain (tableIn s)) (distinct (tableIn s)) (fewNodes (tableIn s)) refl refl refl refl refl refl e
+judged-zero s e = go (formed s) (listed s) (single (tableIn s)) (zeroSilent (tableIn s)) (distinct (tableIn s)) (fewNodes (tableIn s)) refl refl refl refl refl refl e
   where
-    go : (a b c d f g : Bool) → formed s ≡ a → listed s ≡ b → single (tableIn s) ≡ c → plain (tableIn s) ≡ d → distinct (tableIn s) ≡ f → fewNodes (tableIn s) ≡ g
+    go : (a b c d f g : Bool) → formed s ≡ a → listed s ≡ b → single (tableIn s) ≡ c → zeroSilent (tableIn s) ≡ d → distinct (tableIn s) ≡ f → fewNodes (tableIn s) ≡ g
         → _≡_ {A = ℕ} (cond a (cond b (cond c (cond d (cond f (cond g 0 12) 11) 10) 9) 8) 7) 0 → Passed s
     go true true true true true true p q r u v w e = record { form = p; lists = q; once = r; silent = u; rows = v; few = w }
     go true true true true true false p q r u v w e = absurd (omega arith)
@@ -212,7 +212,7 @@ module _ (t : List ℕ) (s : Stored) (q : ℕ) (r : stored t ≡ got s q) (g : P
   none (u ∷ us) e = absurd (false≢true e)
 
   silent : getD (tableIn s .signals) 0 [] ≡ []
-  unfolding plain
+  unfolding zeroSilent
   silent = none (getD (tableIn s .signals) 0 []) (g .silent)
 
   pub passed-accepted : Accepted (tableIn s)
@@ -263,7 +263,7 @@ two-of q (x ∷ xs) d h =
     ap₂ (λ a b. not a && b) (none-of (q x) xs d (λ j l. h 0 (suc j) (omega arith) (omega arith))) (two-of q xs d (λ i j k l. h (suc i) (suc j) (omega arith) (omega arith)))
 
 pub accepted-verdict : (T : Table) → Accepted T → verdict T ≡ 0
-unfolding verdict single plain distinct fewNodes
+unfolding verdict single zeroSilent distinct fewNodes
 accepted-verdict T A =
     let once : all (noTwo sameCat) (T .signals) ≡ true = all-of (noTwo sameCat) (T .signals) (A .once) in
     let silent : noUrn (getD (T .signals) 0 []) ≡ true = ap noUrn (A .well .silent) in

@@ -16,15 +16,15 @@ use Rattle.resolution.proofs.Lists.{tabulate-length, tabulate-at}
 use Rattle.resolution.proofs.Numbers.{number-at, root-number}
 use Rattle.node_search.specs.Arrays.{stretch, NamesIn, NodesIn, SharedIn, childless}
 use Rattle.node_step.specs.Rows.{Numbers}
-use Rattle.node_search.specs.Uses.{fewer}
+use Rattle.node_search.specs.Search.{fewer}
 use Rattle.node_step.proofs.Leaves.{inner-is}
 use Rattle.node_search.proofs.MarkLaws.{shared-of}
 use Rattle.node_search.proofs.UseLaws.{fewer-le}
 use Rattle.table_sections.specs.declared.Counts.{Counts}
-use Rattle.table_nodes.specs.Nodes.{nodeUrn, pathUrn, Numbered, Nodes, AllAdded}
+use Rattle.table_nodes.specs.Nodes.{nodeUrn, Numbered, Nodes, AllAdded}
 use Rattle.signal_places.specs.Slots.{urnOf, Listing, Numbering, Placed}
 use Rattle.signal_places.proofs.Flat.{map-tab, whatOf, tagged-what, nodes-joined}
-use Rattle.stored_table.specs.Tables.{single, plain, distinct, fewNodes, verdict, tableOf, tableRefusal, categoryNames}
+use Rattle.stored_table.specs.Tables.{single, zeroSilent, distinct, fewNodes, verdict, tableOf, tableRefusal, categoryNames}
 use Rattle.stored_table.specs.Stages.{ListedAs}
 use Rattle.stored_table.specs.Decoded.{Means}
 use Rattle.stored_table.proofs.Accepting.{accepted, node-parts}
@@ -38,7 +38,7 @@ snoc-same (z ∷ p) (w ∷ q) x y e = let a : z ≡ w = cc in let b : p ++ x ∷
 -- a table with too many nodes is refused
 pub many-nodes : (T : Table) → 64 < length (nodes T) → verdict T ≢ 0
 unfolding verdict fewNodes
-many-nodes T h e = go (single T) (plain T) (distinct T) (rw (lt-leb (length (nodes T)) 64 h) at e)
+many-nodes T h e = go (single T) (zeroSilent T) (distinct T) (rw (lt-leb (length (nodes T)) 64 h) at e)
   where
     go : (a b c : Bool) → _≡_ {A = ℕ} (cond a (cond b (cond c 12 11) 10) 9) 0 → ⊥
     go true true true z = omega arith
@@ -47,14 +47,14 @@ many-nodes T h e = go (single T) (plain T) (distinct T) (rw (lt-leb (length (nod
     go false b c z = omega arith
 
 module _ (t nameAt nameLen signal category pathAt pathLen : List ℕ) (l : Counts) (S : ListedAs t nameAt nameLen signal category pathAt pathLen l)
-    {node cats parents at len : List ℕ} {n : ℕ} (A : AllAdded t (pathUrn t category pathAt pathLen) (l .urns) node cats parents at len n) where
+    {node cats parents at len : List ℕ} {n : ℕ} (A : AllAdded t (nodeUrn t category pathAt pathLen) (l .urns) node cats parents at len n) where
   abbrev T : Table
   T = tableOf t
 
   abbrev path : ℕ → Parts
   path i = fields 58 (stretch t pathAt pathLen i)
 
-  nodes-are : nodes T ≡ foldl addUrn [] (tabulate (pathUrn t category pathAt pathLen) (l .urns))
+  nodes-are : nodes T ≡ foldl addUrn [] (tabulate (nodeUrn t category pathAt pathLen) (l .urns))
   nodes-are = nodes-joined T ∙ ap (foldl addUrn []) (sym (tagged-what 0 (T .signals)) ∙ ap (map whatOf) (sym (S .listing .urns)) ∙ map-tab whatOf (urnOf signal category path) (l .urns))
 
   pub over : 64 < n → 64 < length (nodes T)

@@ -10,10 +10,9 @@ use Rattle.resolution.specs.Nodes.{nodes}
 use Rattle.resolution.proofs.Lists.{tabulate-at}
 use Rattle.text_bytes.specs.Text.{all, fields, onFirst, past, upTo}
 use Rattle.alert_urn.specs.Names.{labelByte, labelOk, nameOk}
-use Rattle.ascii.specs.Ascii.{bytesFrom, bytes}
 use Rattle.alert_urn.specs.Urn.{noCapital, storedName, urnOk}
 use Rattle.table_sections.specs.Stored.{andThen, byteIn, counted, stored, storedFrom, text, times}
-use Rattle.stored_table.specs.Tables.{any, distinct, fewNodes, formed, isListed, judged, judgedRead, listed, noTwo, plain, single, tableOf, tableRead, tableRefusal, uses, verdict, EachNumber}
+use Rattle.stored_table.specs.Tables.{any, distinct, fewNodes, formed, isListed, judged, judgedRead, listed, noTwo, zeroSilent, single, tableOf, tableRead, tableRefusal, uses, verdict, EachNumber}
 use Rattle.stored_table.specs.Examples.{least, fullest, refusedTables}
 
 -- some element has the number n, if the elements' numbers are those from lo on
@@ -24,15 +23,15 @@ from-list f lo k l d e n h h2 =
     (getD l (n - lo) d, sym (List·getD-map f l (n - lo) d) ∙ ap (λ (x : List ℕ). getD x (n - lo) (f d)) e ∙ tabulate-at (λ i. lo + i) k (n - lo) (f d) (omega arith) ∙ back)
 
 numbers : map tableRefusal refusedTables ≡ tabulate (λ i. 4 + i) 9
-unfolding all fields labelByte labelOk nameOk onFirst past upTo noCapital storedName urnOk bytes bytesFrom andThen byteIn counted stored storedFrom text times any distinct fewNodes formed isListed judged judgedRead listed noTwo plain single tableRefusal uses verdict nodes tabulate
+unfolding all fields labelByte labelOk nameOk onFirst past upTo noCapital storedName urnOk andThen byteIn counted stored storedFrom text times any distinct fewNodes formed isListed judged judgedRead listed noTwo zeroSilent single tableRefusal uses verdict nodes tabulate
 numbers = refl
 
 pub least-formed : tableRefusal least ≡ 0
-unfolding all fields labelByte labelOk nameOk onFirst past upTo noCapital storedName urnOk bytes bytesFrom andThen byteIn counted stored storedFrom text times any distinct fewNodes formed isListed judged judgedRead listed noTwo plain single tableRefusal uses verdict nodes
+unfolding all fields labelByte labelOk nameOk onFirst past upTo noCapital storedName urnOk andThen byteIn counted stored storedFrom text times any distinct fewNodes formed isListed judged judgedRead listed noTwo zeroSilent single tableRefusal uses verdict nodes
 least-formed = refl
 
 pub fullest-formed : tableRefusal fullest ≡ 0
-unfolding all fields labelByte labelOk nameOk onFirst past upTo noCapital storedName urnOk bytes bytesFrom andThen byteIn counted stored storedFrom text times any distinct fewNodes formed isListed judged judgedRead listed noTwo plain single tableRefusal uses verdict nodes
+unfolding all fields labelByte labelOk nameOk onFirst past upTo noCapital storedName urnOk andThen byteIn counted stored storedFrom text times any distinct fewNodes formed isListed judged judgedRead listed noTwo zeroSilent single tableRefusal uses verdict nodes
 fullest-formed = refl
 
 pub each-number : EachNumber

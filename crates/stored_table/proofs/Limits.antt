@@ -9,7 +9,6 @@ use Rattle.resolution.specs.Names.{Parts}
 use Rattle.resolution.specs.Table.{Urn}
 use Rattle.resolution.specs.Nodes.{nodes}
 use Rattle.text_bytes.specs.Text.{fields, onFirst, past, upTo}
-use Rattle.ascii.specs.Ascii.{bytesFrom, bytes}
 use Rattle.table_sections.specs.Stored.{andThen, byteIn, counted, stored, storedFrom, text, times}
 use Rattle.stored_table.specs.Tables.{tableOf, tableRead, tableRefusal}
 use Rattle.stored_table.specs.Limits.{Limits, Least, Most, Categories, Signals, Nodes, PathOf}
@@ -33,19 +32,19 @@ not-empty (x ∷ p) n = omega arith
 
 -- what the example tables have
 least-counts : tableOf least .cats ∷ length (tableOf least .signals) ∷ [] ≡ 1 ∷ 2 ∷ []
-unfolding fields onFirst past upTo bytesFrom bytes andThen byteIn counted stored storedFrom text times tableOf tableRead
+unfolding fields onFirst past upTo andThen byteIn counted stored storedFrom text times tableOf tableRead
 least-counts = refl
 
 most-counts : tableOf fullest .cats ∷ length (tableOf fullest .signals) ∷ length (nodes (tableOf fullest)) ∷ [] ≡ 8 ∷ 32 ∷ 64 ∷ []
-unfolding fields onFirst past upTo bytesFrom bytes andThen byteIn counted stored storedFrom text times tableOf tableRead nodes
+unfolding fields onFirst past upTo andThen byteIn counted stored storedFrom text times tableOf tableRead nodes
 most-counts = refl
 
 shortest : PathOf (tableOf least) 1
-unfolding fields onFirst past upTo bytesFrom bytes andThen byteIn counted stored storedFrom text times tableOf tableRead
+unfolding fields onFirst past upTo andThen byteIn counted stored storedFrom text times tableOf tableRead
 shortest = (_, List·Memᴰ·tail (List·Memᴰ·head refl), _, List·Memᴰ·head refl, refl)
 
 longest : PathOf (tableOf fullest) 8
-unfolding fields onFirst past upTo bytesFrom bytes andThen byteIn counted stored storedFrom text times tableOf tableRead
+unfolding fields onFirst past upTo andThen byteIn counted stored storedFrom text times tableOf tableRead
 longest = (_, List·Memᴰ·tail (List·Memᴰ·head refl), _, List·Memᴰ·head refl, refl)
 
 -- the number at place i of two equal lists

@@ -6,7 +6,7 @@ use mathlib.Core.Bool.{Bool, true, false, cond}
 use native.Mathlib.Omega.{arith}
 use Rattle.table_sections.specs.Stored.{Read, fault, got, Stored, sections}
 use Rattle.table_sections.proofs.FaultLaws.{fault-sections}
-use Rattle.stored_table.specs.Tables.{formed, listed, tableIn, single, plain, distinct, fewNodes, verdict, judged, judgedRead, tableRefusal, RefusalNumber, RefusalNumbers}
+use Rattle.stored_table.specs.Tables.{formed, listed, tableIn, single, zeroSilent, distinct, fewNodes, verdict, judged, judgedRead, tableRefusal, RefusalNumber, RefusalNumbers}
 
 unless : (b : Bool) (x y : ℕ) → RefusalNumber x → RefusalNumber y → RefusalNumber (cond b x y)
 unless true x y p q = p
@@ -18,7 +18,7 @@ judged-number s =
     unless (formed s) _ 7
     (unless (listed s) _ 8
     (unless (single (tableIn s)) _ 9
-    (unless (plain (tableIn s)) _ 10
+    (unless (zeroSilent (tableIn s)) _ 10
     (unless (distinct (tableIn s)) _ 11
     (unless (fewNodes (tableIn s)) 0 12 (inl refl) (inr (omega arith, omega arith)))
     (inr (omega arith, omega arith)))

@@ -12,7 +12,7 @@ use Rattle.text_bytes.specs.Text.{all, fields}
 use Rattle.alert_urn.specs.Urn.{storedName, urnOk, categoryOf, pathOf}
 use Rattle.table_sections.specs.Stored.{Read, fault, got, Stored, stored, sections}
 unfoldable pub use Rattle.signal_places.specs.Tests.{any, noTwo}
-unfoldable pub use Rattle.signal_places.specs.Verdict.{single, plain, distinct, fewNodes, verdict}
+unfoldable pub use Rattle.signal_places.specs.Verdict.{single, zeroSilent, distinct, fewNodes, verdict}
 unfoldable pub use Rattle.table_categories.specs.Categories.{isListed}
 
 -- 7: every category name and every URN has its form, without capital letters, and a URN 1 to 8 parts

@@ -22,7 +22,7 @@ use Rattle.text_bytes.proofs.Fields.{byTest}
 use Rattle.signal_places.specs.Tests.{any, noTwo}
 use Rattle.stored_table.specs.Tables.{formed, uses, listed, tableIn, judged}
 use Rattle.table_categories.specs.Categories.{isListed}
-use Rattle.signal_places.specs.Verdict.{single, plain, distinct, fewNodes, verdict}
+use Rattle.signal_places.specs.Verdict.{single, zeroSilent, distinct, fewNodes, verdict}
 use Rattle.stored_table.proofs.Judging.{two-distinct}
 use Rattle.stored_table.proofs.Accepting.{all-mem}
 use Rattle.signal_places.proofs.Flat.{tab-list, all-alike}
@@ -161,7 +161,7 @@ tree-direct x =
 -- a tree that the tree form can hold is never refused with 12
 never-many : (T : Table) → fewNodes T ≡ true → verdict T ≢ 12
 unfolding verdict
-never-many T f e = go (single T) (plain T) (distinct T) (rw f at e)
+never-many T f e = go (single T) (zeroSilent T) (distinct T) (rw f at e)
   where
     go : (a b c : Bool) → _≡_ {A = ℕ} (cond a (cond b (cond c 0 11) 10) 9) 12 → ⊥
     go true true true z = omega arith

@@ -2,17 +2,17 @@
 use mathlib.Core.Path.{_≡_, refl}
 use mathlib.Core.List.{[], _∷_, map}
 use lib.ListN.{length}
-use Rattle.resolution.specs.Lists.{all as forall}
+use Rattle.resolution.specs.Lists.{allBelow as forall}
 use Rattle.resolution.specs.Nodes.{nodes}
 use Rattle.text_bytes.specs.Text.{all, upTo, past, fields, onFirst, afterColons}
 use Rattle.alert_urn.specs.Names.{labelByte, labelOk, nameOk}
-use Rattle.ascii.specs.Ascii.{bytesFrom, bytes}
+use Rattle.ascii.specs.Ascii.{bytes}
 use Rattle.alert_urn.specs.Urn.{noCapital, storedName, urnOk}
 use Rattle.table_sections.specs.Stored.{andThen, byteIn, text, times, counted, storedFrom, stored}
 use Rattle.signal_places.specs.Tests.{any, noTwo}
 use Rattle.stored_table.specs.Tables.{formed, uses, listed, judged}
 use Rattle.table_categories.specs.Categories.{isListed}
-use Rattle.signal_places.specs.Verdict.{single, plain, distinct, fewNodes, verdict}
+use Rattle.signal_places.specs.Verdict.{single, zeroSilent, distinct, fewNodes, verdict}
 use Rattle.tree_sections.specs.Tree.{node, signalsFrom, nodesFrom, tree}
 use Rattle.table_forms.specs.Bytes.{each, treeBytes, storedBytes}
 use Rattle.table_forms.specs.Meaning.{urnsAfter, treeIn, storedIn}
@@ -21,38 +21,36 @@ use Rattle.table_forms.specs.Conversion.{treeFormRead, treeForm, oldForm
 use Rattle.table_forms.specs.Examples.{fine, ungrown, refusedTrees, oldT1, treeT1}
 
 fine-judged : treeJudged fine ≡ 0
-unfolding nodes forall all labelByte labelOk upTo past nameOk fields onFirst bytesFrom bytes noCapital storedName urnOk any noTwo formed uses isListed listed single plain distinct fewNodes verdict judged urnsAfter treeIn afterColons storedIn named numbered parented allParented inOrder grown short treeJudged
+unfolding nodes forall all labelByte labelOk upTo past nameOk fields onFirst noCapital storedName urnOk any noTwo formed uses isListed listed single zeroSilent distinct fewNodes verdict judged urnsAfter treeIn afterColons storedIn named numbered parented allParented inOrder grown short treeJudged
 fine-judged = refl
 
 -- each of the others gives 21
 each-21 : map treeJudged ungrown ≡ 21 ∷ 21 ∷ 21 ∷ 21 ∷ 21 ∷ 21 ∷ 21 ∷ 21 ∷ 21 ∷ 21 ∷ []
-unfolding nodes forall all labelByte labelOk upTo past nameOk fields onFirst bytesFrom bytes noCapital storedName urnOk any noTwo formed uses isListed listed single plain distinct fewNodes verdict judged urnsAfter treeIn afterColons storedIn named numbered parented allParented inOrder grown short treeJudged
+unfolding nodes forall all labelByte labelOk upTo past nameOk fields onFirst noCapital storedName urnOk any noTwo formed uses isListed listed single zeroSilent distinct fewNodes verdict judged urnsAfter treeIn afterColons storedIn named numbered parented allParented inOrder grown short treeJudged
 each-21 = refl
 
 -- each other number
 each-number : map treeRefusal refusedTrees ≡ 4 ∷ 5 ∷ 6 ∷ 7 ∷ 8 ∷ 9 ∷ 10 ∷ 11 ∷ []
-unfolding nodes forall all labelByte labelOk upTo past nameOk fields onFirst bytesFrom bytes noCapital storedName urnOk any noTwo formed uses isListed listed single plain distinct fewNodes verdict judged urnsAfter treeIn afterColons storedIn named numbered parented allParented inOrder grown short treeJudged treeJudgedRead treeRefusal andThen byteIn text times counted storedFrom stored node signalsFrom nodesFrom tree each treeBytes
+unfolding nodes forall all labelByte labelOk upTo past nameOk fields onFirst noCapital storedName urnOk any noTwo formed uses isListed listed single zeroSilent distinct fewNodes verdict judged urnsAfter treeIn afterColons storedIn named numbered parented allParented inOrder grown short treeJudged treeJudgedRead treeRefusal andThen byteIn text times counted storedFrom stored node signalsFrom nodesFrom tree each treeBytes
 each-number = refl
 
 -- the bytes of the first come back through the old form
 fine-back : treeForm (oldForm (treeBytes fine)) ≡ treeBytes fine
-unfolding nodes forall all labelByte labelOk upTo past nameOk fields onFirst bytesFrom bytes noCapital storedName urnOk any noTwo formed uses isListed listed single plain distinct fewNodes verdict judged urnsAfter treeIn afterColons storedIn andThen byteIn text times counted storedFrom stored node signalsFrom nodesFrom tree each treeBytes storedBytes treeFormRead treeForm oldFormRead oldForm
+unfolding nodes forall all labelByte labelOk upTo past nameOk fields onFirst noCapital storedName urnOk any noTwo formed uses isListed listed single zeroSilent distinct fewNodes verdict judged urnsAfter treeIn afterColons storedIn andThen byteIn text times counted storedFrom stored node signalsFrom nodesFrom tree each treeBytes storedBytes treeFormRead treeForm oldFormRead oldForm
 fine-back = refl
 
 -- T1 has 44 bytes in the old form and 37 in the tree form
 old-length : length oldT1 ≡ 44
-unfolding bytesFrom bytes
 old-length = refl
 
 tree-length : length treeT1 ≡ 37
-unfolding bytesFrom bytes
 tree-length = refl
 
 -- each is the other, converted
 to-tree-T1 : treeForm oldT1 ≡ treeT1
-unfolding nodes forall all labelByte labelOk upTo past nameOk fields onFirst bytesFrom bytes noCapital storedName urnOk any noTwo formed uses isListed listed single plain distinct fewNodes verdict judged urnsAfter treeIn afterColons storedIn andThen byteIn text times counted storedFrom stored node signalsFrom nodesFrom tree each treeBytes storedBytes treeFormRead treeForm oldFormRead oldForm
+unfolding nodes forall all labelByte labelOk upTo past nameOk fields onFirst noCapital storedName urnOk any noTwo formed uses isListed listed single zeroSilent distinct fewNodes verdict judged urnsAfter treeIn afterColons storedIn andThen byteIn text times counted storedFrom stored node signalsFrom nodesFrom tree each treeBytes storedBytes treeFormRead treeForm oldFormRead oldForm
 to-tree-T1 = refl
 
 from-tree-T1 : oldForm treeT1 ≡ oldT1
-unfolding nodes forall all labelByte labelOk upTo past nameOk fields onFirst bytesFrom bytes noCapital storedName urnOk any noTwo formed uses isListed listed single plain distinct fewNodes verdict judged urnsAfter treeIn afterColons storedIn andThen byteIn text times counted storedFrom stored node signalsFrom nodesFrom tree each treeBytes storedBytes treeFormRead treeForm oldFormRead oldForm
+unfolding nodes forall all labelByte labelOk upTo past nameOk fields onFirst noCapital storedName urnOk any noTwo formed uses isListed listed single zeroSilent distinct fewNodes verdict judged urnsAfter treeIn afterColons storedIn andThen byteIn text times counted storedFrom stored node signalsFrom nodesFrom tree each treeBytes storedBytes treeFormRead treeForm oldFormRead oldForm
 from-tree-T1 = refl

@@ -10,7 +10,7 @@ use lib.ListN.{length, getD, take, drop, length-append, length-drop, List·getD-
 use lib.Seq.{drop-cons, take-append-seam, getD-append-seam}
 use lib.Dec.{eqb, leb, ltb}
 use borrow.Author.Tests.{eq-eqb, ne-eqb, eqb-true, leb-true, le-leb}
-use Rattle.resolution.specs.Lists.{sameList, indexBy, Distinct, all as forall}
+use Rattle.resolution.specs.Lists.{sameList, indexBy, Distinct, allBelow as forall}
 use Rattle.resolution.specs.Names.{Name, Parts}
 use Rattle.resolution.specs.Table.{Urn, urn, Table}
 use Rattle.resolution.specs.Nodes.{sameUrn, member, nodes, isNode, number, nodeAt}

@@ -4,7 +4,7 @@ use mathlib.Core.Bool.{Bool, cond, _&&_, _||_}
 use mathlib.Core.List.{List, []}
 use lib.ListN.{length}
 use lib.Dec.{leb, ltb, eqb}
-use Rattle.resolution.specs.Lists.{sameList, all as forall}
+use Rattle.resolution.specs.Lists.{sameList, allBelow as forall}
 use Rattle.resolution.specs.Table.{Table}
 use Rattle.resolution.specs.Nodes.{sameUrn, nodes}
 use Rattle.ascii.specs.Ascii.{within}

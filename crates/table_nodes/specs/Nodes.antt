@@ -14,13 +14,9 @@ use Rattle.node_search.specs.Arrays.{stretch}
 use Rattle.table_sections.specs.Held.{Padded}
 use Rattle.table_nodes.specs.declared.Added.{Added}
 
--- node k + 1, as the arrays hold it
+-- the k-th URN or node that the arrays hold, counted from 0
 abbrev pub nodeUrn : List ℕ → List ℕ → List ℕ → List ℕ → ℕ → Urn
 nodeUrn t cats at len k = urn (getD cats k 0) (fields 58 (stretch t at len k))
-
--- the i-th URN of the theory, as the arrays hold it
-abbrev pub pathUrn : List ℕ → List ℕ → List ℕ → List ℕ → ℕ → Urn
-pathUrn t category at len i = urn (getD category i 0) (fields 58 (stretch t at len i))
 
 -- k is the number of the path p of category c among the nodes ns: 0 for the root
 abbrev pub Numbered : List Urn → ℕ → Parts → ℕ → Type 0

@@ -14,7 +14,7 @@ ghost use Rattle.resolution.specs.Table.{urn};
 ghost use Rattle.resolution.specs.Nodes.{sameUrn, isNode, number};
 ghost use Rattle.text_bytes.specs.Text.{fields};
 ghost use Rattle.node_search.specs.Arrays.{stretch};
-ghost use Rattle.table_nodes.specs.Nodes.{nodeUrn, pathUrn, Clear, AddsNode, AddsPath, AddsUrn, AllAdded};
+ghost use Rattle.table_nodes.specs.Nodes.{nodeUrn, Clear, AddsNode, AddsPath, AddsUrn, AllAdded};
 
 // The path of node i + 1.
 fn node_text<'a>(t: &'a [u8], at: &[u16; 64], len: &[u8; 64], i: usize) -> &'a [u8]
@@ -238,7 +238,7 @@ pub fn add_all(
     len: &mut [u8; 64],
 ) -> usize
     ensures { λ r. ⌜ (m ≤ 256 → Clear (now (node .entry)) (now (cats .entry)) (now (parents .entry)) (now (at .entry)) (now (len .entry))
-        → AllAdded (now (t .entry)) (pathUrn (now (t .entry)) (now (category .entry)) (now («path_at» .entry)) (now («path_len» .entry))) m
+        → AllAdded (now (t .entry)) (nodeUrn (now (t .entry)) (now (category .entry)) (now («path_at» .entry)) (now («path_len» .entry))) m
         (now (node .exit)) (now (cats .exit)) (now (parents .exit)) (now (at .exit)) (now (len .exit)) r) ⌝ }
 {
     if 256 < m {

@@ -5,7 +5,6 @@ use crate::judge;
 use crate::records;
 use entry_run::Resolution;
 ghost use mathlib.Core.Path.{_≡_};
-ghost use Prim.Native.Nat.{min};
 ghost use lib.ListN.{take};
 ghost use Rattle.tally.specs.Tally.{needed as neededOf, Tallied};
 
@@ -23,20 +22,11 @@ pub fn needed(t: &[u8]) -> usize
     d.signals
 }
 
-fn at_most(n: usize, most: usize) -> usize
-    ensures { λ r. ⌜ r ≡ min n most ⌝ }
-{
-    if n < most {
-        return n;
-    }
-    most
-}
-
 // The value v on the first n records: answer, records and counts are those of `tally_value`.
 pub fn value(t: &[u8], records: [Tally; 32], n: usize, refusals: &mut [u32], v: &[u8]) -> Counted
     ensures { λ r. ⌜ Tallied (now (t .entry)) (take n records) (now (refusals .entry)) (now (v .entry)) (r .answer) (take n (r .records)) (now (refusals .exit)) ⌝ }
 {
-    let k = at_most(n, 32);
+    let k = text_bytes::compare::lesser(n, 32);
     let r = judge::judge(t, k, refusals, v);
     let s = records::place(r, k);
     if k <= s {

@@ -77,7 +77,7 @@ pub fn same(a: &[u8], b: &[u8]) -> bool
 }
 
 // The lesser of two numbers.
-pub(crate) fn lesser(a: usize, b: usize) -> usize
+pub fn lesser(a: usize, b: usize) -> usize
     ensures { λ r. ⌜ r ≡ min a b ⌝ }
 {
     if a <= b {

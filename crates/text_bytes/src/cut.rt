@@ -1,7 +1,21 @@
-// Texts cut, and searched for a byte.
+// Texts cut, and searched for a byte; stored numbers as indices into them.
 ghost use mathlib.Core.Path.{_≡_};
+ghost use Prim.Native.Nat.{_≤_};
 ghost use lib.ListN.{length, take, drop};
 ghost use Rattle.text_bytes.specs.Text.{upTo, endsAt};
+
+// A number as an index.
+pub fn wide8(x: u8) -> usize
+    ensures { λ r. ⌜ (r ≡ x) × (r ≤ 255) ⌝ }
+{
+    x as usize
+}
+
+pub fn wide16(x: u16) -> usize
+    ensures { λ r. ⌜ r ≡ x ⌝ }
+{
+    x as usize
+}
 
 // How many bytes stand before the first c.
 pub fn find(s: &[u8], c: u8) -> usize

@@ -8,7 +8,7 @@ use native.Mathlib.Omega.{arith}
 use lib.ListN.{length, getD}
 use lib.Dec.{eqb, leb, ltb}
 use borrow.Author.Tests.{ne-eqb, le-leb, leb-true, leb-false}
-use Rattle.resolution.specs.Lists.{tabulate, all as forall}
+use Rattle.resolution.specs.Lists.{tabulate, allBelow as forall}
 use Rattle.resolution.specs.Names.{Name}
 use Rattle.resolution.proofs.Lists.{tabulate-at, tabulate-length}
 use Rattle.ascii.specs.Ascii.{within}

@@ -12,7 +12,7 @@ use lib.ListN.{length, getD, take, length-append}
 use lib.Seq.{take-append-seam, getD-append-seam, take-suc, take-all, getD-take, length-take-le, getD-at}
 use lib.Dec.{eqb, leb, ltb}
 use borrow.Author.Tests.{eq-eqb, eqb-true, leb-true, leb-false}
-use Rattle.resolution.specs.Lists.{addBy, indexBy, sameList, Distinct, all}
+use Rattle.resolution.specs.Lists.{addBy, indexBy, sameList, Distinct, allBelow}
 use Rattle.resolution.specs.Names.{Name, Parts, sameName}
 use Rattle.resolution.specs.Table.{Urn, urn}
 use Rattle.resolution.specs.Nodes.{sameUrn, member, past, prefixes, addUrn, nodes, nodeAt}
@@ -162,14 +162,14 @@ module _ (ns : List Node) (us : List Urn) (size : length us ≡ length ns) (fact
     next-node i h = add-new (take i us) (nodeAt us i) (not-first i i (omega arith) h) ∙ sym (take-suc us i (urn 0 []) (omega arith))
 
     link-more : (m i : ℕ) → m < i → linked ns m (suc i) ≡ (linked ns m i && eqb (nodeOf ns i .parent) i)
-    unfolding linked all
+    unfolding linked allBelow
     link-more m i h =
         let k : suc i - suc m ≡ suc (i - suc m) = omega arith in
         let j : suc m + (i - suc m) ≡ i = omega arith in
         rw (k, j)
 
     link-start : (m : ℕ) → linked ns m (suc m) ≡ true
-    unfolding linked all
+    unfolding linked allBelow
     link-start m = let k : suc m - suc m ≡ 0 = omega arith in rw k
 
     -- linked nodes after the first m are the next ones

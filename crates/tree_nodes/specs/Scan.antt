@@ -5,7 +5,7 @@ use mathlib.Core.Option.{Option, none, some}
 use mathlib.Core.List.{List, [], _∷_}
 use lib.ListN.{length}
 use lib.Dec.{leb, eqb}
-use Rattle.resolution.specs.Lists.{all}
+use Rattle.resolution.specs.Lists.{allBelow}
 use Rattle.resolution.specs.Names.{sameName}
 use Rattle.signal_places.specs.Tests.{noTwo}
 use Rattle.table_sections.specs.Held.{joined}
@@ -17,7 +17,7 @@ sameNode a b = eqb (a .category) (b .category) && (eqb (a .parent) (b .parent) &
 
 -- each node after node m + 1 and up to node k has the node before it for its parent
 unfoldable pub linked : List Node → ℕ → ℕ → Bool
-linked ns m k = all (k - suc m) (λ i. eqb (nodeOf ns (suc m + i) .parent) (suc m + i))
+linked ns m k = allBelow (k - suc m) (λ i. eqb (nodeOf ns (suc m + i) .parent) (suc m + i))
 
 -- how many nodes are used, if the first m are, and then those with these numbers, ancestors first; none if not in order
 unfoldable pub reached : List Node → ℕ → List ℕ → Option ℕ

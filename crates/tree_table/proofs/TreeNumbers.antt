@@ -13,7 +13,7 @@ use Rattle.resolution.specs.Nodes.{nodes}
 use Rattle.text_bytes.proofs.Fields.{byTest}
 use Rattle.table_sections.specs.Stored.{Read, fault, got}
 use Rattle.table_sections.proofs.FaultLaws.{fault-if, fault-some}
-use Rattle.signal_places.specs.Verdict.{single, plain, distinct, fewNodes, verdict}
+use Rattle.signal_places.specs.Verdict.{single, zeroSilent, distinct, fewNodes, verdict}
 use Rattle.tree_sections.specs.Tree.{Tree, tree, treeSections}
 use Rattle.table_forms.specs.Meaning.{tableOfTree}
 use Rattle.table_forms.specs.Refusals.{named, grown, treeJudged, treeJudgedRead, treeRefusal}
@@ -39,7 +39,7 @@ few-verdict : (T : Table) → fewNodes T ≡ true → TreeNumber (verdict T)
 unfolding verdict
 few-verdict T f =
     rw f
-    (unless (single T) _ 9 (unless (plain T) _ 10 (unless (distinct T) 0 11 (inl refl) (low 11 (omega arith) (omega arith))) (low 10 (omega arith) (omega arith)))
+    (unless (single T) _ 9 (unless (zeroSilent T) _ 10 (unless (distinct T) 0 11 (inl refl) (low 11 (omega arith) (omega arith))) (low 10 (omega arith) (omega arith)))
     (low 9 (omega arith) (omega arith)))
 
 judged-number : (x : Tree) → FitsTree x → TreeNumber (treeJudged x)

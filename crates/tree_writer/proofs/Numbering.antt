@@ -23,7 +23,7 @@ use Rattle.table_sections.specs.Held.{Tagged, tag, taggedFrom, joined, urnAt, R
 use Rattle.table_sections.specs.declared.Counts.{Counts}
 use Rattle.table_sections.proofs.FaultLaws.{fault-some-number}
 use Rattle.table_sections.proofs.SectionLaws.{sections-read}
-use Rattle.table_nodes.specs.Nodes.{pathUrn, Numbered, AllAdded}
+use Rattle.table_nodes.specs.Nodes.{nodeUrn, Numbered, AllAdded}
 use Rattle.signal_places.proofs.Flat.{map-tab, whatOf, onWhat, tagged-what, tagged-map, all-joined, nodes-joined, tab-list}
 use Rattle.table_categories.specs.Categories.{isListed, Indexed}
 use Rattle.stored_table.specs.Tables.{toUrn, tableIn, judged, tableRefusal, namesRead, categoryNames, tableRead, tableOf}
@@ -96,14 +96,14 @@ module _ (t nameAt nameLen at len signal : List ℕ) (l : Counts) (R : Reads t n
       ∙ ap (λ (T : Table). taggedFrom 0 (T .signals)) (sym table)
 
   module _ {category pathAt pathLen : List ℕ} (X : Indexed t ns at len (l .urns) category pathAt pathLen) {number₁ cats parents at₁ len₁ : List ℕ} {n : ℕ}
-      (A : AllAdded t (pathUrn t category pathAt pathLen) (l .urns) number₁ cats parents at₁ len₁ n) where
-    urn-is : (i : ℕ) → i < l .urns → pathUrn t category pathAt pathLen i ≡ toUrn ns (stretch t at len i)
+      (A : AllAdded t (nodeUrn t category pathAt pathLen) (l .urns) number₁ cats parents at₁ len₁ n) where
+    urn-is : (i : ℕ) → i < l .urns → nodeUrn t category pathAt pathLen i ≡ toUrn ns (stretch t at len i)
     urn-is i h = ap₂ urn (X .cat-at i h) (ap (fields 58) (X .path-at i h))
 
-    nodes-are : foldl addUrn [] (tabulate (pathUrn t category pathAt pathLen) (l .urns)) ≡ nodes (tableOf t)
+    nodes-are : foldl addUrn [] (tabulate (nodeUrn t category pathAt pathLen) (l .urns)) ≡ nodes (tableOf t)
     nodes-are =
         ap (foldl addUrn [])
-        (tabulate-same (pathUrn t category pathAt pathLen) (λ i. whatOf (tagged i)) (l .urns) urn-is ∙ sym (map-tab whatOf tagged (l .urns)) ∙ ap (map whatOf) tagged-are
+        (tabulate-same (nodeUrn t category pathAt pathLen) (λ i. whatOf (tagged i)) (l .urns) urn-is ∙ sym (map-tab whatOf tagged (l .urns)) ∙ ap (map whatOf) tagged-are
         ∙ tagged-what 0 (tableOf t .signals))
         ∙ sym (nodes-joined (tableOf t))
 

@@ -3,7 +3,7 @@ use mathlib.Core.Path.{_≡_}
 use mathlib.Core.Bool.{true}
 use native.Mathlib.Omega.{arith}
 use borrow.Author.Tests.{not-true, not-false}
-use Rattle.resolution.specs.Lists.{all}
+use Rattle.resolution.specs.Lists.{allBelow}
 use Rattle.carried_record.specs.Coded.{statusAt}
 use Rattle.carried_record.proofs.FitLaws.{all-none, all-next, all-fails, all-done}
 use borrow.Author.Needs.{needs}
@@ -11,7 +11,7 @@ use Rattle.carried_record.proofs.statuses_fit.Statement.{statement}
 use Rattle.carried_record.proofs.statuses_fit.Tie as tie
 
 abbrev Inv-loop : tie.InvT-loop
-Inv-loop rows parents inner category nodes categories s status c₀ c = (c ≤ 8) × (all c (statusAt rows parents inner category nodes categories s status) ≡ true)
+Inv-loop rows parents inner category nodes categories s status c₀ c = (c ≤ 8) × (allBelow c (statusAt rows parents inner category nodes categories s status) ≡ true)
 
 abbrev μ-loop : tie.MeasureT-loop
 μ-loop rows parents inner category nodes categories s status c₀ c = 8 - c

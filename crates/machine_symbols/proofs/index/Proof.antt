@@ -1,7 +1,7 @@
 use native.Mathlib.Omega.{arith}
 use Prim.Native.Nat.{_-_, _≤_}
 use mathlib.Core.Path.{_≡_, refl}
-use Rattle.node_search.specs.Uses.{fewer}
+use Rattle.node_search.specs.Search.{fewer}
 use Rattle.machine_symbols.specs.Listed.{indexFrom}
 use Rattle.machine_symbols.proofs.SymbolLaws.{index-none, index-put, index-skip, index-all}
 use borrow.Author.Needs.{needs}

@@ -8,7 +8,7 @@ use Rattle.resolution.specs.Table.{urn}
 use Rattle.resolution.specs.Nodes.{addUrn}
 use Rattle.text_bytes.specs.Text.{fields}
 use Rattle.node_search.specs.Arrays.{stretch}
-use Rattle.table_nodes.specs.Nodes.{pathUrn, Clear, Nodes, Numbered}
+use Rattle.table_nodes.specs.Nodes.{nodeUrn, Clear, Nodes, Numbered}
 use Rattle.table_nodes.proofs.NodeArrays.{all-over, all-nodes, all-numbered, nodes-none, all-end}
 use Rattle.table_sections.proofs.Padding.{one-byte}
 use borrow.Author.Needs.{needs}
@@ -19,8 +19,8 @@ use Rattle.table_nodes.proofs.add_all.Lts as lts
 
 abbrev Inv-loop : tie.InvT-loop
 Inv-loop t m category path-at path-len node₀ cats₀ parents₀ at₀ len₀ n₀ i₀ node cats parents at len n i =
-    (i ≤ m) × (n ≤ 64) × (Clear node₀ cats₀ parents₀ at₀ len₀ → (length node ≡ 256) × Nodes t cats parents at len n (foldl addUrn [] (tabulate (pathUrn t category path-at path-len) i))
-    × ((j : ℕ) → j < i → Numbered (foldl addUrn [] (tabulate (pathUrn t category path-at path-len) i)) (getD category j 0) (fields 58 (stretch t path-at path-len j)) (getD node j 0)))
+    (i ≤ m) × (n ≤ 64) × (Clear node₀ cats₀ parents₀ at₀ len₀ → (length node ≡ 256) × Nodes t cats parents at len n (foldl addUrn [] (tabulate (nodeUrn t category path-at path-len) i))
+    × ((j : ℕ) → j < i → Numbered (foldl addUrn [] (tabulate (nodeUrn t category path-at path-len) i)) (getD category j 0) (fields 58 (stretch t path-at path-len j)) (getD node j 0)))
 
 abbrev μ-loop : tie.MeasureT-loop
 μ-loop t m category path-at path-len node₀ cats₀ parents₀ at₀ len₀ n₀ i₀ node cats parents at len n i = m - i
@@ -29,7 +29,7 @@ returns : tie.Need-returns Inv-loop μ-loop
 returns c = λ h. absurd (omega arith)
 
 loop-holds : tie.Need-loop-holds Inv-loop μ-loop
-loop-holds c = let a = c .before .before .args in (omega arith, omega arith, λ k. (k .0, nodes-none (a .t .now) (a .cats .now) (a .parents .now) (a .at .now) (a .len .now) (pathUrn (a .t .now) (a .category .now) (a .path-at .now) (a .path-len .now)) (k .1) (k .2) (k .3) (k .4), λ j h. absurd (omega arith)))
+loop-holds c = let a = c .before .before .args in (omega arith, omega arith, λ k. (k .0, nodes-none (a .t .now) (a .cats .now) (a .parents .now) (a .at .now) (a .len .now) (nodeUrn (a .t .now) (a .category .now) (a .path-at .now) (a .path-len .now)) (k .1) (k .2) (k .3) (k .4), λ j h. absurd (omega arith)))
 
 mul-wider : tie.Need-mul-wider Inv-loop μ-loop
 mul-wider c = search needs
@@ -54,7 +54,7 @@ add-urn-requires c κs = (c .before .before .before .before .before .before .bef
 
 returns-2 : tie.Need-returns-2 Inv-loop μ-loop
 returns-2 c = let a = c .before .before .before .before .before .before .before .before .before .before .before .before .before .before .before .before .args in
-    let f = pathUrn (a .t .now) (a .category .now) (a .path-at .now) (a .path-len .now) in
+    let f = nodeUrn (a .t .now) (a .category .now) (a .path-at .now) (a .path-len .now) in
     let l = c .before .before .before .before .before .before .before .before .before .before .before .before .before .loop in
     λ _ k. record { over = λ _. all-over (a .t .now) f (l .i) (ap₂ (λ x y. urn (getD (a .category .now) (l .i) 0) (fields 58 (take y (drop x (a .t .now))))) (c .before .before .before .before .before .before .before .before .before .before .wider .ensures .0) (c .before .before .before .before .before .before .before .before .wide .ensures .0)) (c .before .before .add-urn .ensures .0 (tabulate f (l .i)) (l .inv .2 k .1)) (a .m) (c .before .before .before .before .before .before .before .before .before .before .before .before .loop-test .taken) (c .if2 .taken); kept = λ z. absurd (omega arith); numbered = λ z. absurd (omega arith) }
 
@@ -72,7 +72,7 @@ loop-less c = omega arith
 
 loop-again : tie.Need-loop-again Inv-loop μ-loop
 loop-again c = let a = c .before .before .before .before .before .before .before .before .before .before .before .before .before .before .before .before .before .args in
-    let f = pathUrn (a .t .now) (a .category .now) (a .path-at .now) (a .path-len .now) in
+    let f = nodeUrn (a .t .now) (a .category .now) (a .path-at .now) (a .path-len .now) in
     let l = c .before .before .before .before .before .before .before .before .before .before .before .before .before .before .loop in
     let e = ap₂ (λ x y. urn (getD (a .category .now) (l .i) 0) (fields 58 (take y (drop x (a .t .now))))) (c .before .before .before .before .before .before .before .before .before .before .before .wider .ensures .0) (c .before .before .before .before .before .before .before .before .before .wide .ensures .0) in
     let g = one-byte (c .small .ensures) (omega (arith, c .before .before .before .add-urn .ensures .1 .0)) in (
@@ -90,7 +90,7 @@ loop-again c = let a = c .before .before .before .before .before .before .before
 
 returns-3 : tie.Need-returns-3 Inv-loop μ-loop
 returns-3 c = let a = c .before .before .before .before .args in
-    λ _ k. let v = c .before .loop .inv .2 k in all-end {t = a .t .now} {f = pathUrn (a .t .now) (a .category .now) (a .path-at .now) (a .path-len .now)} (c .before .loop .i) (a .m) (c .before .loop .inv .0) (c .loop-test .left) (c .before .loop .inv .1) (v .1) (v .2)
+    λ _ k. let v = c .before .loop .inv .2 k in all-end {t = a .t .now} {f = nodeUrn (a .t .now) (a .category .now) (a .path-at .now) (a .path-len .now)} (c .before .loop .i) (a .m) (c .before .loop .inv .0) (c .loop-test .left) (c .before .loop .inv .1) (v .1) (v .2)
 
 pub add-all-spec : {M : Type 1} → statement M
 add-all-spec =

@@ -3,7 +3,7 @@ use mathlib.Core.Path.{_≡_}
 use mathlib.Core.Bool.{true}
 use native.Mathlib.Omega.{arith}
 use borrow.Author.Tests.{not-true, not-false}
-use Rattle.resolution.specs.Lists.{all}
+use Rattle.resolution.specs.Lists.{allBelow}
 use Rattle.early.specs.SettledBy.{categoryKeeps, settledBy}
 use Rattle.early.proofs.SettledLaws.{all-false, all-true, all-next, all-none}
 use borrow.Author.Needs.{needs}
@@ -15,7 +15,7 @@ use Rattle.early.proofs.settled.category_keeps.Reads as category-keeps-
 use Rattle.node_search.proofs.uses.at_most.Reads as at-most-reads
 
 abbrev Inv-loop : tie.InvT-loop
-Inv-loop rows parents inner signals categories st k c₀ c = (c ≤ k) × (all c (categoryKeeps rows parents inner signals st) ≡ true)
+Inv-loop rows parents inner signals categories st k c₀ c = (c ≤ k) × (allBelow c (categoryKeeps rows parents inner signals st) ≡ true)
 
 abbrev μ-loop : tie.MeasureT-loop
 μ-loop rows parents inner signals categories st k c₀ c = k - c

@@ -3,7 +3,7 @@ use mathlib.Core.Path.{_≡_}
 use mathlib.Core.Bool.{true}
 use native.Mathlib.Omega.{arith}
 use borrow.Author.Tests.{not-true, not-false}
-use Rattle.resolution.specs.Lists.{all}
+use Rattle.resolution.specs.Lists.{allBelow}
 use Rattle.early.specs.SettledBy.{signalKeeps}
 use Rattle.early.proofs.SettledLaws.{all-false, all-true, all-next, all-none, signal-is}
 use borrow.Author.Needs.{needs}
@@ -16,7 +16,7 @@ use Rattle.early.proofs.settled.row_of.Reads as row-of-reads
 use Rattle.node_search.proofs.uses.at_most.Reads as at-most-reads
 
 abbrev Inv-loop : tie.InvT-loop
-Inv-loop rows parents inner signals st c row n s₀ s = (s ≤ n) × (all s (signalKeeps rows parents inner signals st c) ≡ true)
+Inv-loop rows parents inner signals st c row n s₀ s = (s ≤ n) × (allBelow s (signalKeeps rows parents inner signals st c) ≡ true)
 
 abbrev μ-loop : tie.MeasureT-loop
 μ-loop rows parents inner signals st c row n s₀ s = n - s

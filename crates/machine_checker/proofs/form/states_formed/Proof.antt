@@ -2,7 +2,7 @@ use native.Mathlib.Omega.{arith}
 use Prim.Native.Nat.{_≤_, _-_}
 use mathlib.Core.Path.{_≡_, refl, sym, _∙_}
 use mathlib.Core.Bool.{true}
-use Rattle.resolution.specs.Lists.{all}
+use Rattle.resolution.specs.Lists.{allBelow}
 use Rattle.node_step.specs.StatusByte.{fitsBy}
 use borrow.Author.Tests.{not-true, not-false}
 use Rattle.resolution.proofs.Lists.{all-stop}
@@ -14,13 +14,13 @@ use Rattle.machine_checker.proofs.form.states_formed.Statement.{stateme
 use Rattle.machine_checker.proofs.form.states_formed.Tie as tie
 
 abbrev Inv-loop : tie.InvT-loop
-Inv-loop rows parents inner category nodes signals categories im n j₀ j = (j ≤ n) × (all j (stateFormedBy (fitsBy rows parents inner category nodes) signals categories im) ≡ true)
+Inv-loop rows parents inner category nodes signals categories im n j₀ j = (j ≤ n) × (allBelow j (stateFormedBy (fitsBy rows parents inner category nodes) signals categories im) ≡ true)
 
 abbrev μ-loop : tie.MeasureT-loop
 μ-loop rows parents inner category nodes signals categories im n j₀ j = n - j
 
 loop-holds : tie.Need-loop-holds Inv-loop μ-loop
-unfolding all
+unfolding allBelow
 loop-holds c = (omega arith, refl)
 
 state-formed-requires : tie.Need-state-formed-requires Inv-loop μ-loop

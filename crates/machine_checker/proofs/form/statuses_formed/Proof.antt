@@ -2,7 +2,7 @@ use native.Mathlib.Omega.{arith}
 use Prim.Native.Nat.{_≤_, _-_}
 use mathlib.Core.Path.{_≡_, refl}
 use mathlib.Core.Bool.{true}
-use Rattle.resolution.specs.Lists.{all}
+use Rattle.resolution.specs.Lists.{allBelow}
 use Rattle.node_step.specs.StatusByte.{fitsBy}
 use borrow.Author.Tests.{not-true, not-false}
 use Rattle.machine_checker.specs.Checks.{statusFormedBy}
@@ -12,13 +12,13 @@ use Rattle.machine_checker.proofs.form.statuses_formed.Statement.{state
 use Rattle.machine_checker.proofs.form.statuses_formed.Tie as tie
 
 abbrev Inv-loop : tie.InvT-loop
-Inv-loop rows parents inner category nodes categories im i s j c₀ c = (c ≤ categories) × (all c (statusFormedBy (fitsBy rows parents inner category nodes) categories im j) ≡ true)
+Inv-loop rows parents inner category nodes categories im i s j c₀ c = (c ≤ categories) × (allBelow c (statusFormedBy (fitsBy rows parents inner category nodes) categories im j) ≡ true)
 
 abbrev μ-loop : tie.MeasureT-loop
 μ-loop rows parents inner category nodes categories im i s j c₀ c = categories - c
 
 loop-holds : tie.Need-loop-holds Inv-loop μ-loop
-unfolding all
+unfolding allBelow
 loop-holds c = (omega arith, refl)
 
 add-byte : tie.Need-add-byte Inv-loop μ-loop

@@ -4,7 +4,7 @@ use mathlib.Core.Path.{_≡_}
 use lib.Dec.{ltb}
 use lib.ListN.{length}
 use borrow.Author.Tests.{lt-ltb}
-use Rattle.resolution.specs.Lists.{all}
+use Rattle.resolution.specs.Lists.{allBelow}
 use Rattle.machine_checker.specs.Checks.{belowBy}
 use Rattle.machine_checker.proofs.ImageLaws.{below-all, most-more, most-end}
 use borrow.Author.Needs.{needs}
@@ -12,7 +12,7 @@ use Rattle.machine_checker.proofs.form.targets_below.Statement.{stateme
 use Rattle.machine_checker.proofs.form.targets_below.Tie as tie
 
 abbrev Inv-loop : tie.InvT-loop
-Inv-loop im categories n j m i row most₀ k₀ most k = (k ≤ length row) × (ltb most n ≡ all k (belowBy categories im j))
+Inv-loop im categories n j m i row most₀ k₀ most k = (k ≤ length row) × (ltb most n ≡ allBelow k (belowBy categories im j))
 
 abbrev μ-loop : tie.MeasureT-loop
 μ-loop im categories n j m i row most₀ k₀ most k = length row - k
@@ -36,7 +36,7 @@ part-requires : tie.Need-part-requires Inv-loop μ-loop
 part-requires c κs = search needs
 
 loop-holds : tie.Need-loop-holds Inv-loop μ-loop
-unfolding all
+unfolding allBelow
 loop-holds c = (omega arith, lt-ltb 0 (c .before .before .before .before .before .args .n) (omega arith))
 
 shared-slice-read-larger : tie.Need-shared-slice-read-larger Inv-loop μ-loop

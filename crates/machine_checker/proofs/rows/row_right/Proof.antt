@@ -2,7 +2,7 @@ use native.Mathlib.Omega.{arith}
 use Prim.Native.Nat.{_≤_, _-_}
 use mathlib.Core.Path.{_≡_, refl}
 use mathlib.Core.Bool.{true}
-use Rattle.resolution.specs.Lists.{all}
+use Rattle.resolution.specs.Lists.{allBelow}
 use Rattle.machine_symbols.specs.Steps.{nextState}
 use borrow.Author.Tests.{not-true, not-false}
 use Rattle.machine_checker.specs.Checks.{targetRightBy, rowRightBy}
@@ -12,7 +12,7 @@ use Rattle.machine_checker.proofs.rows.row_right.Statement.{statement}
 use Rattle.machine_checker.proofs.rows.row_right.Tie as tie
 
 abbrev Inv-loop : tie.InvT-loop
-Inv-loop rows parents inner signals categories symbols count im signal statuses n j i from k₀ k = (k ≤ count) × (all k (targetRightBy (nextState rows parents inner signals symbols) categories im j) ≡ true)
+Inv-loop rows parents inner signals categories symbols count im signal statuses n j i from k₀ k = (k ≤ count) × (allBelow k (targetRightBy (nextState rows parents inner signals symbols) categories im j) ≡ true)
 
 abbrev μ-loop : tie.MeasureT-loop
 μ-loop rows parents inner signals categories symbols count im signal statuses n j i from k₀ k = count - k
@@ -30,7 +30,7 @@ state-requires : tie.Need-state-requires Inv-loop μ-loop
 state-requires c κs = search needs
 
 loop-holds : tie.Need-loop-holds Inv-loop μ-loop
-unfolding all
+unfolding allBelow
 loop-holds c = (omega arith, refl)
 
 add-at : tie.Need-add-at Inv-loop μ-loop

@@ -2,7 +2,7 @@ use native.Mathlib.Omega.{arith}
 use Prim.Native.Nat.{_≤_, _-_, ℕ}
 use mathlib.Core.Path.{_≡_, refl}
 use mathlib.Core.Bool.{true}
-use Rattle.resolution.specs.Lists.{all}
+use Rattle.resolution.specs.Lists.{allBelow}
 use Rattle.machine_symbols.specs.Steps.{nextState}
 use lib.ListN.{length-replicate}
 use Rattle.machine_checker.specs.Checks.{rowRightBy}
@@ -12,7 +12,7 @@ use Rattle.machine_checker.proofs.rows.rows_right.Statement.{statement}
 use Rattle.machine_checker.proofs.rows.rows_right.Tie as tie
 
 abbrev Inv-loop : tie.InvT-loop
-Inv-loop rows parents inner signals categories symbols count im n signal statuses read from₀ from = (from ≤ n) × (all from (rowRightBy (nextState rows parents inner signals symbols) count categories im) ≡ true)
+Inv-loop rows parents inner signals categories symbols count im n signal statuses read from₀ from = (from ≤ n) × (allBelow from (rowRightBy (nextState rows parents inner signals symbols) count categories im) ≡ true)
 
 abbrev μ-loop : tie.MeasureT-loop
 μ-loop rows parents inner signals categories symbols count im n signal statuses read from₀ from = n - from
@@ -24,7 +24,7 @@ read-states-requires : tie.Need-read-states-requires Inv-loop μ-loop
 read-states-requires c κs = (c .before .before .before .before .pre .0, c .before .before .at-most .ensures .1, length-replicate {A = ℕ} 256 0, length-replicate {A = ℕ} 256 0)
 
 loop-holds : tie.Need-loop-holds Inv-loop μ-loop
-unfolding all
+unfolding allBelow
 loop-holds c = (omega arith, refl)
 
 row-right-requires : tie.Need-row-right-requires Inv-loop μ-loop

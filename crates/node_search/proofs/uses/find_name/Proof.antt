@@ -5,7 +5,7 @@ use mathlib.Core.Path.{_≡_, ap, ap₂, sym, _∙_}
 use native.Mathlib.Nat.{sub-zero}
 use lib.ListN.{take, drop}
 use Rattle.resolution.specs.Names.{sameName}
-use Rattle.node_search.specs.Uses.{findName}
+use Rattle.node_search.specs.Search.{findName}
 use Rattle.node_search.proofs.UseLaws.{name-found, name-more, name-none}
 use borrow.Author.Needs.{needs}
 use Rattle.node_search.proofs.uses.find_name.Statement.{statement}

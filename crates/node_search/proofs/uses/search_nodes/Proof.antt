@@ -6,7 +6,7 @@ use mathlib.Core.Logic.{⊎-elim}
 use mathlib.Core.Bool.{false}
 use native.Mathlib.Nat.{sub-zero}
 use Rattle.node_search.specs.declared.uses.Search.{Search}
-use Rattle.node_search.specs.Uses.{nothing, searchFrom}
+use Rattle.node_search.specs.Search.{nothing, searchFrom}
 use Rattle.node_search.proofs.UseLaws.{look-node, look-other, search-ends, search-more, search-done}
 use borrow.Author.Needs.{needs}
 use Rattle.node_search.proofs.uses.search_nodes.Statement.{statement}

@@ -24,7 +24,7 @@ part-requires : tie.Need-part-requires
 part-requires c κs = search needs
 
 returns : tie.Need-returns
-returns c = c .part .ensures ∙ ap₂ (λ (x : ℕ) (y : ℕ). take y (drop x (c .before .before .before .before .before .before .args .t .now))) (c .before .before .before .wide16 .ensures) (c .before .wide8 .ensures)
+returns c = c .part .ensures ∙ ap₂ (λ (x : ℕ) (y : ℕ). take y (drop x (c .before .before .before .before .before .before .args .t .now))) (c .before .before .before .wide16 .ensures) (c .before .wide8 .ensures .0)
 
 pub name-spec : {M : Type 1} → statement M
 name-spec =
