@@ -70,7 +70,7 @@ fn alike_paths() -> Bytes {
     Draft { categories: vec![b"c".to_vec()], signals: std::iter::once(Vec::new()).chain(signals).collect() }.bytes()
 }
 
-fn example(name: &str) -> Bytes {
+pub fn example(name: &str) -> Bytes {
     let file = Path::new(env!("CARGO_MANIFEST_DIR")).join("../examples/tables").join(name);
     std::fs::read(&file).unwrap_or_else(|e| panic!("{}: {e}", file.display()))
 }
@@ -79,7 +79,7 @@ fn limit(what: &str) -> Bytes {
     limits().into_iter().find(|limit| limit.what == what).expect("a known limit").table
 }
 
-fn machine(table: &[u8]) -> Bytes {
+pub fn machine(table: &[u8]) -> Bytes {
     let mut buffer = vec![0; 35_459];
     let built = Reference::build(table, &mut buffer);
     assert_eq!(built.refusal, 0);
@@ -95,7 +95,7 @@ fn tree(table: &[u8]) -> Bytes {
     buffer
 }
 
-fn urns(names: &[&str], times: usize) -> Bytes {
+pub fn urns(names: &[&str], times: usize) -> Bytes {
     let entries: Vec<String> = names.iter().map(|name| format!("<urn:alert:{name}>")).collect();
     vec![entries.join(", "); times].join(", ").into_bytes()
 }

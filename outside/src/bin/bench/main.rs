@@ -1,6 +1,9 @@
 //! Time, code size and stack of the proved libraries beside the baseline.
 //!
 //! Times are the best of many short runs, in which the two take turns. `bench [RUNS]`: 100 unless said otherwise.
+//! `bench RUNS growth`: instead, the time of the libraries as the work grows.
+#[cfg(all(feature = "signal_table", feature = "resolver"))]
+mod growth;
 mod inputs;
 mod size;
 mod stack;
@@ -209,6 +212,10 @@ fn print_flash(inputs: &Inputs) {
 
 fn main() {
     let runs = std::env::args().nth(1).map_or(100, |word| word.parse().expect("a number of runs"));
+    #[cfg(all(feature = "signal_table", feature = "resolver"))]
+    if std::env::args().nth(2).as_deref() == Some("growth") {
+        return growth::print(runs);
+    }
     let inputs = Inputs::new();
     let mut rows = Vec::new();
     reader_rows(&inputs, &mut rows);
