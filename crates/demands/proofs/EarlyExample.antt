@@ -18,5 +18,5 @@ use Rattle.early.specs.Early.{earlyOf}
 use Rattle.demands.specs.EarlyExample.{EarlyExample}
 
 pub early-example : EarlyExample
-unfolding isBlank isEscapable isText isToken isUri blankAt endingAt endingStep entryAt followingAt paramAt quoteAt quotedAt quotedFrom quotedStep settingAt tokenAt whiteAt whiteStep readingFrom readingOf refusalOf spansOf urisOf valueStep run runAt walk walkAt all fields labelByte labelOk nameOk onFirst past upTo alertUrn begins restOk lowered noCapital storedName urnOk usedUrn step nodes andThen byteIn counted stored storedFrom text times any categoryNames distinct fewNodes formed isListed judged judgedRead listed namesRead noTwo zeroSilent single tableOf tableRead tableRefusal uses verdict lists.tabulate lists.all leaf frontFrom frontStep earlyOf
+unfolding isBlank isEscapable isText isToken isUri blankAt endingAt endingStep entryAt followingAt paramAt quoteAt quotedAt quotedFrom quotedStep settingAt tokenAt whiteAt whiteStep readingFrom readingOf refusalOf spansOf urisOf valueStep run runAt walk walkAt all fields labelByte labelOk nameOk onFirst past upTo alertUrn begins restOk lowered noCapital storedName urnOk usedUrn step nodes andThen byteIn counted stored storedFrom text times any categoryNames distinct fewNodes formed isListed judged judgedRead listed namesRead noTwo zeroSilent single tableOf tableRead tableRefusal uses verdict lists.tabulate lists.allBelow leaf frontFrom frontStep earlyOf
 early-example = record { two-needed = refl; not-enough = refl; whole-value = refl; held = refl }

@@ -46,5 +46,5 @@ unfolding isBlank isEscapable isText isToken isUri blankAt endingAt endingStep e
 long = (omega arith, (refl, tt), omega arith, omega arith)
 
 pub fields-example : FieldsExample
-unfolding isBlank isEscapable isText isToken isUri blankAt endingAt endingStep entryAt followingAt paramAt quoteAt quotedAt quotedFrom quotedStep settingAt tokenAt whiteAt whiteStep readingFrom readingOf refusalOf spansOf urisOf valueStep run runAt walk walkAt all fields labelByte labelOk nameOk onFirst past upTo alertUrn begins restOk lowered noCapital storedName urnOk usedUrn step nodes andThen byteIn counted stored storedFrom text times any categoryNames distinct fewNodes formed isListed judged judgedRead listed namesRead noTwo zeroSilent single tableOf tableRead tableRefusal uses verdict lists.tabulate lists.all carriedFits feedOf
+unfolding isBlank isEscapable isText isToken isUri blankAt endingAt endingStep entryAt followingAt paramAt quoteAt quotedAt quotedFrom quotedStep settingAt tokenAt whiteAt whiteStep readingFrom readingOf refusalOf spansOf urisOf valueStep run runAt walk walkAt all fields labelByte labelOk nameOk onFirst past upTo alertUrn begins restOk lowered noCapital storedName urnOk usedUrn step nodes andThen byteIn counted stored storedFrom text times any categoryNames distinct fewNodes formed isListed judged judgedRead listed namesRead noTwo zeroSilent single tableOf tableRead tableRefusal uses verdict lists.tabulate lists.allBelow carriedFits feedOf
 fields-example = record { all-accepted = (refl, (refl, (refl, tt))); high-internal = refl; low = refl; held = refl; reason = refl; refused = refl; answers = refl; sixteen-values = sixteen; most-entries = entries; most-bytes = long }
