@@ -14,18 +14,20 @@
 //! | `early T V` | refusal, signal, entries needed |
 //! | `available T SET V` | refusal, signal, used, skipped; SET is a number, bit s for signal s |
 //! | `pair RINGS LAMPS V` | refusal, ring, lamp |
+//! | `log T LOG` | refusal, agrees, call, signal, used, skipped |
 //! | `match T URI` | refusal, category (-1 if the URI is skipped), node, whole, bytes compared |
 //! | `newtable N` | refusal |
 //! | `tonew T ROOM` | refusal, length, tree form (the rest of the buffer of ROOM bytes is 0) |
 //! | `toold N ROOM` | refusal, length, table (the same) |
 //! | `tally T RECORDS REFUSALS V` | refusal, records and refusal counts after it; `chosen:used:skipped` and counts, `;` between |
-use crate::{Converted, Early, Match, Pair, Reader, Record, Resolution, Resolvers, Tables, Tallies, Tally, Trees};
+use crate::{Converted, Early, Logs, Match, Pair, Reader, Record, Resolution};
+use crate::{Resolvers, Tables, Tallies, Tally, Trees};
 use std::fmt::Write;
 use std::path::{Path, PathBuf};
 
 /// One file for each command, the draft's worked examples, values with folded lines, messages of
 /// several fields, and URNs that a category holds.
-pub const FILES: [&str; 19] = [
+pub const FILES: [&str; 20] = [
     "value.txt",
     "entry.txt",
     "table.txt",
@@ -45,6 +47,7 @@ pub const FILES: [&str; 19] = [
     "trees.txt",
     "available.txt",
     "pair.txt",
+    "log.txt",
 ];
 
 /// Where the cases are.
@@ -60,6 +63,7 @@ pub enum Layer {
     Trees,
     Resolvers,
     Tallies,
+    Logs,
 }
 
 #[derive(Clone)]
@@ -77,6 +81,7 @@ impl Case {
             "newtable" | "tonew" | "toold" => Layer::Trees,
             "plain" | "walk" | "feed" | "early" | "available" | "pair" => Layer::Resolvers,
             "tally" => Layer::Tallies,
+            "log" => Layer::Logs,
             other => panic!("{}: unknown command {other}", self.place),
         }
     }
@@ -283,4 +288,10 @@ pub fn ask_tallies<I: Tallies>(case: &Case) -> String {
     let mut refusals = numbers(&case.words[3], ';');
     let answer = I::tally_value(&case.bytes(1), &mut records, &mut refusals, &case.bytes(4));
     format!("{} {} {}", answer.refusal, show_records(&records), show_counts(&refusals))
+}
+
+/// What an implementation answers to a log.
+pub fn ask_logs<I: Logs>(case: &Case) -> String {
+    let v = I::check_log(&case.bytes(1), &case.bytes(2));
+    format!("{} {} {} {} {} {}", v.refusal, v.agrees, v.call, v.signal, v.used, v.skipped)
 }

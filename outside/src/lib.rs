@@ -124,6 +124,32 @@ pub struct Tally {
     pub skipped: u32,
 }
 
+/// What is said of a log: its refusal number; 1 if every call agrees, else 0, the first call that does not and the right answer.
+#[repr(C)]
+#[derive(Clone, Copy, Debug, PartialEq, Eq)]
+pub struct Verdict {
+    pub refusal: u8,
+    pub agrees: u8,
+    pub call: u16,
+    pub signal: u8,
+    pub used: u8,
+    pub skipped: u8,
+}
+
+impl Verdict {
+    pub fn refused(refusal: u8) -> Verdict {
+        Verdict { refusal, agrees: 0, call: 0, signal: 0, used: 0, skipped: 0 }
+    }
+
+    pub fn agreed() -> Verdict {
+        Verdict { agrees: 1, ..Verdict::refused(0) }
+    }
+
+    pub fn differs(call: u16, right: Resolution) -> Verdict {
+        Verdict { refusal: 0, agrees: 0, call, signal: right.signal, used: right.used, skipped: right.skipped }
+    }
+}
+
 /// The reader of Alert-Info values: what the library alert_info answers.
 pub trait Reader {
     fn value_refusal(value: &[u8]) -> u8;
@@ -181,4 +207,9 @@ pub trait Resolvers {
 /// The monthly count: what the library tally answers and leaves in the records and refusal counts.
 pub trait Tallies {
     fn tally_value(table: &[u8], records: &mut [Tally], refusals: &mut [u32], value: &[u8]) -> Resolution;
+}
+
+/// Logs of calls from other makers: what the library call_log answers.
+pub trait Logs {
+    fn check_log(table: &[u8], log: &[u8]) -> Verdict;
 }

@@ -9,6 +9,8 @@ use crate::{Built, Match, Tables};
 use crate::{Converted, Trees};
 #[cfg(feature = "resolver")]
 use crate::{Early, Pair, Record};
+#[cfg(feature = "call_log")]
+use crate::{Logs, Verdict};
 #[cfg(feature = "resolver")]
 use crate::{Plain, Resolvers};
 #[cfg(feature = "tally")]
@@ -96,6 +98,11 @@ extern "C" {
         value: *const u8,
         value_len: usize,
     ) -> Resolution;
+}
+
+#[cfg(feature = "call_log")]
+extern "C" {
+    fn call_log_check(table: *const u8, len: usize, log: *const u8, log_len: usize) -> Verdict;
 }
 
 // SAFETY of every call below: a slice gives a pointer to as many bytes as its length says, for the length of the
@@ -199,5 +206,12 @@ impl Tallies for Ours {
                 value.len(),
             )
         }
+    }
+}
+
+#[cfg(feature = "call_log")]
+impl Logs for Ours {
+    fn check_log(table: &[u8], log: &[u8]) -> Verdict {
+        unsafe { call_log_check(table.as_ptr(), table.len(), log.as_ptr(), log.len()) }
     }
 }

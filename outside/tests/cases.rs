@@ -1,6 +1,6 @@
 //! Every case with a known answer, against each implementation.
 use outside::baseline::Baseline;
-use outside::cases::{all, ask_reader, ask_resolvers, ask_tables, ask_tallies, ask_trees, Case, Layer};
+use outside::cases::{all, ask_logs, ask_reader, ask_resolvers, ask_tables, ask_tallies, ask_trees, Case, Layer};
 use outside::reference::Reference;
 
 fn hold(layer: Layer, ask: impl Fn(&Case) -> String) {
@@ -45,6 +45,11 @@ macro_rules! hold_to_cases {
             fn tallies() {
                 hold(Layer::Tallies, ask_tallies::<$implementation>);
             }
+
+            #[test]
+            fn logs() {
+                hold(Layer::Logs, ask_logs::<$implementation>);
+            }
         }
     };
 }
@@ -58,7 +63,8 @@ mod ours {
         feature = "signal_table",
         feature = "tree_table",
         feature = "resolver",
-        feature = "tally"
+        feature = "tally",
+        feature = "call_log"
     ))]
     use super::*;
 
@@ -90,5 +96,11 @@ mod ours {
     #[test]
     fn tallies() {
         hold(Layer::Tallies, ask_tallies::<outside::ours::Ours>);
+    }
+
+    #[cfg(feature = "call_log")]
+    #[test]
+    fn logs() {
+        hold(Layer::Logs, ask_logs::<outside::ours::Ours>);
     }
 }

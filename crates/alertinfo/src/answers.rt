@@ -195,3 +195,25 @@ pub fn tally_file(t: &[u8]) {
     let m = r.month;
     report::month(m, tally::month::needed(t));
 }
+
+// Whether each call of the log that argument 3 names has the right answer.
+pub fn log(t: &[u8]) {
+    let mut calls = io::large_buffer();
+    let l = files::file(3, &mut calls);
+    if !l.ok {
+        return;
+    }
+    let n = l.n;
+    let r = call_log::check(t, &calls[..n]);
+    if r.refusal != 0 {
+        words::refused(r.refusal);
+        return;
+    }
+    if r.agrees == 1 {
+        io::write_all(STDOUT_FILENO, b"agrees\n");
+        return;
+    }
+    io::write_all(STDOUT_FILENO, b"call ");
+    words::count(r.call as u64, b" does not agree: right is ");
+    resolution(0, r.signal, r.used as usize, r.skipped as usize);
+}

@@ -17,6 +17,7 @@ enum Command {
     Check,
     Match,
     Tally,
+    Log,
     Tree,
     Untree,
     Resolve,
@@ -43,7 +44,8 @@ fn usage(to: i32) {
        alertinfo untree TREE TABLE
        alertinfo feed TABLE VALUE [VALUE ..]
        alertinfo tally TABLE FILE
-TABLE, TREE, MACHINE, RINGS and LAMPS are files. VALUE is a file, or the value itself if it begins with '<'.
+       alertinfo log TABLE LOG
+TABLE, TREE, MACHINE, RINGS, LAMPS and LOG are files. VALUE is a file, or the value itself if it begins with '<'.
 FILE has one value a line; empty lines are no values. SIGNALS are numbers with commas between, as 0,2,5.
 A file that is read may be -, standard input. Status: 0 an answer, 1 refused, 2 no answer.
 ",
@@ -91,6 +93,9 @@ fn of_one_more() -> Command {
     }
     if files::is(1, b"tally") {
         return Command::Tally;
+    }
+    if files::is(1, b"log") {
+        return Command::Log;
     }
     if files::is(1, b"tree") {
         return Command::Tree;
@@ -169,6 +174,7 @@ fn by_table(c: Command, n: usize) {
         Command::Check => answers::check(&table[..k]),
         Command::Match => answers::match_uri(&table[..k]),
         Command::Tally => answers::tally_file(&table[..k]),
+        Command::Log => answers::log(&table[..k]),
         Command::Tree => answers::tree(&table[..k]),
         Command::Untree => answers::untree(&table[..k]),
         Command::Feed => answers::feed(&table[..k], n),

@@ -12,6 +12,7 @@
 //   early T V        refusal number, signal, entries needed
 //   available T SET V  refusal number, signal, used, skipped; SET is a number, bit s for signal s
 //   pair RINGS LAMPS V  refusal number, ring, lamp
+//   log T LOG        refusal number, agrees, call, signal, used, skipped
 //   match T URI      refusal number, category (-1 if the URI is skipped), node, whole, bytes compared
 use crate::numbers;
 use crate::print;
@@ -112,6 +113,16 @@ pub fn available(line: &[u8], t: &[u8], v: &[u8]) {
 pub fn pair(rings: &[u8], lamps: &[u8], v: &[u8]) {
     let r = pair::resolve(rings, lamps, v);
     print::three(r.refusal, r.ring, r.lamp);
+}
+
+pub fn log(t: &[u8], calls: &[u8]) {
+    let r = call_log::check(t, calls);
+    print::number(r.refusal as usize);
+    print::next(r.agrees as usize);
+    print::next(r.call as usize);
+    print::next(r.signal as usize);
+    print::next(r.used as usize);
+    print::next(r.skipped as usize);
 }
 
 pub fn walk(t: &[u8], m: &[u8], v: &[u8]) {

@@ -60,6 +60,7 @@ fn answer(line: &[u8], a: &[u8], b: &[u8], c: &[u8]) {
         b'c' => commands::check(a, b),
         b'w' => commands::walk(a, b, c),
         b'm' => commands::match_urn(a, b),
+        b'l' => commands::log(a, b),
         b'a' => commands::available(line, a, c),
         b'f' => fields::feed(line, a, c),
         _ => return,

@@ -1,5 +1,6 @@
 //! The same answers in plain Rust without allocation, written for speed: what the proved libraries are timed against.
 mod early;
+mod log;
 mod machine;
 mod resolve;
 mod table;
@@ -8,8 +9,8 @@ mod tree;
 mod urn;
 mod value;
 
-use crate::{Built, Converted, Early, Match, Pair, Plain, Reader, Record};
-use crate::{Resolution, Resolvers, Tables, Tallies, Tally, Trees};
+use crate::{Built, Converted, Early, Logs, Match, Pair, Plain, Reader, Record};
+use crate::{Resolution, Resolvers, Tables, Tallies, Tally, Trees, Verdict};
 
 pub struct Baseline;
 
@@ -90,6 +91,12 @@ impl Resolvers for Baseline {
 impl Tallies for Baseline {
     fn tally_value(table: &[u8], records: &mut [Tally], refusals: &mut [u32], value: &[u8]) -> Resolution {
         tally::value(table, records, refusals, value).unwrap_or(Resolution::refused(20))
+    }
+}
+
+impl Logs for Baseline {
+    fn check_log(table: &[u8], log: &[u8]) -> Verdict {
+        log::check(table, log).unwrap_or_else(Verdict::refused)
     }
 }
 

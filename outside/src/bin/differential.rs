@@ -6,10 +6,10 @@
 use outside::baseline::Baseline;
 use outside::cases::{show_counts, show_record, show_records, to_hex};
 use outside::random::tables::{self, Draft, Limit};
-use outside::random::{images, records, trees, values, Random};
+use outside::random::{images, logs, records, trees, values, Random};
 use outside::reference::Reference;
-use outside::{Built, Converted, Early, Match, Pair, Plain, Reader, Record, Resolution};
-use outside::{Resolvers, Tables, Tallies, Tally as Counts, Trees};
+use outside::{Built, Converted, Early, Logs, Match, Pair, Plain, Reader, Record, Resolution};
+use outside::{Resolvers, Tables, Tallies, Tally as Counts, Trees, Verdict};
 use std::collections::BTreeMap;
 use std::fmt::Debug;
 use std::process::exit;
@@ -20,7 +20,8 @@ use std::time::{Instant, SystemTime, UNIX_EPOCH};
     feature = "signal_table",
     feature = "tree_table",
     feature = "resolver",
-    feature = "tally"
+    feature = "tally",
+    feature = "call_log"
 ))]
 use outside::ours::Ours;
 
@@ -28,7 +29,7 @@ use outside::ours::Ours;
 const LONGEST: usize = 35_459;
 
 /// Every function with the refusal numbers that it may give.
-const FUNCTIONS: [(&str, &[u8]); 18] = [
+const FUNCTIONS: [(&str, &[u8]); 19] = [
     ("alert_info_refusal", &[0, 1, 2, 3]),
     ("alert_info_entries", &[0, 1, 2, 3]),
     ("alert_info_entry", &[0, 1, 2, 3, 18]),
@@ -47,6 +48,7 @@ const FUNCTIONS: [(&str, &[u8]); 18] = [
     ("resolve_available", &[0, 1, 2, 3, 4, 5, 6, 7, 8, 9, 10, 11, 12, 23]),
     ("resolve_pair", &[0, 1, 2, 3, 4, 5, 6, 7, 8, 9, 10, 11, 12, 24]),
     ("tally_value", &[0, 1, 2, 3, 4, 5, 6, 7, 8, 9, 10, 11, 12, 20]),
+    ("call_log_check", &[0, 4, 5, 6, 7, 8, 9, 10, 11, 12, 25]),
 ];
 
 #[derive(Default)]
@@ -212,6 +214,10 @@ fn tally_value<I: Tallies>(
     (answer, records, refusals)
 }
 
+fn check_log<I: Logs>(table: &[u8], log: &[u8]) -> Verdict {
+    I::check_log(table, log)
+}
+
 /// A count, often close to the highest.
 fn count(random: &mut Random) -> u32 {
     match random.below(4) {
@@ -237,6 +243,12 @@ fn hold_tally(tally: &mut Tally, random: &mut Random, table: &[u8], value: &[u8]
     let line =
         || format!("tally {} {} {} {}", to_hex(table), show_records(&records), show_counts(&refusals), to_hex(value));
     tally.hold("tally_value", answers[0].1 .0.refusal, &answers, line);
+}
+
+fn hold_log(tally: &mut Tally, table: &[u8], log: &[u8]) {
+    let answers = answers!("call_log", check_log, table, log);
+    let line = || format!("log {} {}", to_hex(table), to_hex(log));
+    tally.hold("call_log_check", answers[0].1.refusal, &answers, line);
 }
 
 fn hold_value(tally: &mut Tally, random: &mut Random, value: &[u8]) {
@@ -511,6 +523,9 @@ fn round(tally: &mut Tally, random: &mut Random, other: &mut Vec<u8>) {
     }
     hold_message(tally, &table, &message);
     hold_pairs(tally, random);
+    for _ in 0..3 {
+        hold_log(tally, &table, &logs::stored(random, &table, &draft));
+    }
     if let Some(machine) = machine {
         *other = machine;
     }
@@ -528,6 +543,7 @@ fn limits(tally: &mut Tally, random: &mut Random) {
         hold_check(tally, &table, &machine);
         for value in [&b"<urn:alert:c0:p0>"[..], b"<", b"<a>"] {
             hold_tally(tally, random, &table, value);
+            hold_log(tally, &table, &logs::log(&[logs::call(value, logs::right(&table, value))]));
             hold_early(tally, random, &table, value);
             hold_available(tally, random, &table, value);
         }
@@ -583,6 +599,7 @@ fn every_byte(tally: &mut Tally, random: &mut Random) {
     let (answer, mut tree) = from_table::<Reference>(table, 100);
     tree.truncate(answer.len);
     let value = b"<urn:alert:source:internal>;a=\"b\"";
+    let log = logs::log(&[logs::call(value, [1, 1, 0]), logs::call(b"<", [0; 3])]);
     for states in [0, 1, 2, 255, 256, 257, 258, 511, 512, 513, 65_535] {
         let image = images::with_states(&image, states);
         hold_check(tally, table, &image);
@@ -620,6 +637,11 @@ fn every_byte(tally: &mut Tally, random: &mut Random) {
             let mut changed = tree.clone();
             changed[at] = byte;
             hold_tree(tally, random, &changed);
+        }
+        for at in 0..log.len() {
+            let mut changed = log.clone();
+            changed[at] = byte;
+            hold_log(tally, table, &changed);
         }
         for at in 0..image.len() {
             let mut changed = image.clone();

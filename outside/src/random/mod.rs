@@ -1,5 +1,6 @@
-//! Random values, tables, images and records, valid and damaged, short and at every limit.
+//! Random values, tables, images, records and logs, valid and damaged, short and at every limit.
 pub mod images;
+pub mod logs;
 pub mod records;
 pub mod tables;
 pub mod trees;

@@ -4,6 +4,7 @@ pub mod available;
 pub mod direct;
 pub mod early;
 pub mod fields;
+pub mod log;
 pub mod machine;
 pub mod pair;
 pub mod table;
@@ -12,8 +13,8 @@ pub mod tree;
 pub mod urn;
 pub mod value;
 
-use crate::{Built, Converted, Early, Match, Pair, Plain, Reader, Record};
-use crate::{Resolution, Resolvers, Tables, Tallies, Tally, Trees};
+use crate::{Built, Converted, Early, Logs, Match, Pair, Plain, Reader, Record};
+use crate::{Resolution, Resolvers, Tables, Tallies, Tally, Trees, Verdict};
 use table::Table;
 
 pub struct Reference;
@@ -94,6 +95,12 @@ impl Resolvers for Reference {
 impl Tallies for Reference {
     fn tally_value(table: &[u8], records: &mut [Tally], refusals: &mut [u32], value: &[u8]) -> Resolution {
         tally::value(table, records, refusals, value).unwrap_or(Resolution::refused(20))
+    }
+}
+
+impl Logs for Reference {
+    fn check_log(table: &[u8], log: &[u8]) -> Verdict {
+        log::check(table, log).unwrap_or_else(Verdict::refused)
     }
 }
 

@@ -1,4 +1,5 @@
 //! What the functions are timed on.
+use outside::random::logs;
 use outside::random::tables::{limits, Draft};
 use outside::reference::Reference;
 use outside::{Reader, Tables, Trees};
@@ -21,6 +22,8 @@ pub struct Inputs {
     pairs: Vec<(String, Bytes, Bytes, Bytes)>,
     /// Three fields of one message.
     fields: [Bytes; 3],
+    /// A log as long as it may be for each of the first tables, with its number of calls; all have the same value.
+    logs: Vec<(Bytes, usize)>,
     /// Tables that are refused late, after as much comparing as we could think of.
     pub refused: Vec<(String, Bytes)>,
 }
@@ -100,6 +103,13 @@ pub fn urns(names: &[&str], times: usize) -> Bytes {
     vec![entries.join(", "); times].join(", ").into_bytes()
 }
 
+/// A log of as many calls of this value as it may have, all right.
+fn full_log(table: &[u8], value: &[u8]) -> (Bytes, usize) {
+    let call = logs::call(value, logs::right(table, value));
+    let calls = (32_768 - 2) / call.len();
+    (logs::log(&vec![call; calls]), calls)
+}
+
 /// The number of an accepted value's last entry.
 pub fn last(value: &[u8]) -> usize {
     Reference::entries(value) - 1
@@ -169,7 +179,8 @@ impl Inputs {
             ),
         ];
         let fields = ["source:internal", "source:unclassified", "priority:high"].map(|name| urns(&[name], 1));
-        Inputs { values, tables, trees, used, settled, pairs, fields, refused }
+        let logs = tables[..2].iter().map(|(_, table, _)| full_log(table, &values[1].1)).collect();
+        Inputs { values, tables, trees, used, settled, pairs, fields, logs, refused }
     }
 
     /// Each table with its machine and a value that it uses.
@@ -199,5 +210,12 @@ impl Inputs {
     /// The example tables with a message of three fields.
     pub fn messages(&self) -> impl Iterator<Item = (String, &Bytes, &[Bytes; 3])> {
         self.tables[..2].iter().map(|(name, table, _)| (format!("{name}; 3 fields"), table, &self.fields))
+    }
+
+    /// Tables with a log, its number of calls and their value.
+    pub fn logs(&self) -> impl Iterator<Item = (String, &Bytes, &Bytes, usize, &Bytes)> {
+        self.tables.iter().zip(&self.logs).map(|((name, table, _), (log, calls))| {
+            (format!("{name}; {calls} calls of 3 entries, {} bytes", log.len()), table, log, *calls, &self.values[1].1)
+        })
     }
 }

@@ -13,7 +13,7 @@ use inputs::Inputs;
 use outside::baseline::Baseline;
 use outside::reference::table::Table;
 use outside::reference::Reference;
-use outside::{Reader, Record, Resolvers, Tables, Tallies, Tally, Trees};
+use outside::{Logs, Reader, Record, Resolvers, Tables, Tallies, Tally, Trees};
 use std::hint::black_box;
 
 #[cfg(any(
@@ -21,7 +21,8 @@ use std::hint::black_box;
     feature = "signal_table",
     feature = "tree_table",
     feature = "resolver",
-    feature = "tally"
+    feature = "tally",
+    feature = "call_log"
 ))]
 use outside::ours::Ours;
 
@@ -172,6 +173,20 @@ fn tally_rows<'a>(inputs: &'a Inputs, rows: &mut Vec<Row<'a>>) {
     }
 }
 
+/// Full logs, and beside each the plain resolver on as many values, one by one.
+fn log_rows<'a>(inputs: &'a Inputs, rows: &mut Vec<Row<'a>>) {
+    for (name, table, log, _, _) in inputs.logs() {
+        rows.push(row!("call_log", "call_log_check", name, |I, _| I::check_log(black_box(table), black_box(log))));
+    }
+    for (name, table, _, calls, value) in inputs.logs() {
+        rows.push(row!("resolver", "resolve_plain", format!("{name}, one by one"), |I, _| {
+            for _ in 0..calls {
+                black_box(I::plain(black_box(table), black_box(value)));
+            }
+        }));
+    }
+}
+
 fn print_times(rows: &[Row], runs: usize) {
     println!("| function | input | ours | baseline | ours / baseline |");
     println!("|---|---|---:|---:|---:|");
@@ -227,6 +242,7 @@ fn main() {
     pair_rows(&inputs, &mut rows);
     feed_rows(&inputs, &mut rows);
     tally_rows(&inputs, &mut rows);
+    log_rows(&inputs, &mut rows);
     time::warm_up(&*rows[0].baseline);
     println!("## Time of one call, best of {runs} runs\n");
     print_times(&rows, runs);

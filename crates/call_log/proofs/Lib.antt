@@ -1,0 +1,4 @@
+pub mod ReadLaws
+pub mod JudgeLaws
+pub mod WrittenLaws
+pub mod Claims
