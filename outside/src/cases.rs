@@ -19,15 +19,16 @@
 //! | `newtable N` | refusal |
 //! | `tonew T ROOM` | refusal, length, tree form (the rest of the buffer of ROOM bytes is 0) |
 //! | `toold N ROOM` | refusal, length, table (the same) |
+//! | `sample T SEED ROOM` | refusal, length, seed after it, value (the rest of the buffer of ROOM bytes stays) |
 //! | `tally T RECORDS REFUSALS V` | refusal, records and refusal counts after it; `chosen:used:skipped` and counts, `;` between |
-use crate::{Converted, Early, Logs, Match, Pair, Reader, Record, Resolution};
-use crate::{Resolvers, Tables, Tallies, Tally, Trees};
+use crate::{Converted, Early, Logs, Made, Match, Pair, Reader, Record, Resolution, Resolvers};
+use crate::{Samples, Seed, Tables, Tallies, Tally, Trees};
 use std::fmt::Write;
 use std::path::{Path, PathBuf};
 
 /// One file for each command, the draft's worked examples, values with folded lines, messages of
 /// several fields, and URNs that a category holds.
-pub const FILES: [&str; 20] = [
+pub const FILES: [&str; 21] = [
     "value.txt",
     "entry.txt",
     "table.txt",
@@ -48,6 +49,7 @@ pub const FILES: [&str; 20] = [
     "available.txt",
     "pair.txt",
     "log.txt",
+    "sample.txt",
 ];
 
 /// Where the cases are.
@@ -64,6 +66,7 @@ pub enum Layer {
     Resolvers,
     Tallies,
     Logs,
+    Samples,
 }
 
 #[derive(Clone)]
@@ -82,6 +85,7 @@ impl Case {
             "plain" | "walk" | "feed" | "early" | "available" | "pair" => Layer::Resolvers,
             "tally" => Layer::Tallies,
             "log" => Layer::Logs,
+            "sample" => Layer::Samples,
             other => panic!("{}: unknown command {other}", self.place),
         }
     }
@@ -294,4 +298,16 @@ pub fn ask_tallies<I: Tallies>(case: &Case) -> String {
 pub fn ask_logs<I: Logs>(case: &Case) -> String {
     let v = I::check_log(&case.bytes(1), &case.bytes(2));
     format!("{} {} {} {} {} {}", v.refusal, v.agrees, v.call, v.signal, v.used, v.skipped)
+}
+
+/// What an implementation answers to a case of the sample maker.
+pub fn ask_samples<I: Samples>(case: &Case) -> String {
+    let x = case.number(2).try_into().unwrap_or_else(|_| panic!("{}: too large a seed", case.place));
+    let mut seed = Seed { x };
+    let mut buffer = vec![0xA5; case.number(3)];
+    let Made { refusal, len } = I::sample(&case.bytes(1), &mut seed, &mut buffer);
+    if buffer[len..].iter().any(|&b| b != 0xA5) {
+        return "bytes past the value have changed".to_string();
+    }
+    format!("{refusal} {len} {} {}", seed.x, to_hex(&buffer[..len]))
 }

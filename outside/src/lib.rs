@@ -150,6 +150,21 @@ impl Verdict {
     }
 }
 
+/// What the sample maker answers: its refusal number, and how long the value is, which is 0 after a refusal.
+#[repr(C)]
+#[derive(Clone, Copy, Debug, PartialEq, Eq)]
+pub struct Made {
+    pub refusal: u8,
+    pub len: usize,
+}
+
+/// The seed that the sample maker is lent.
+#[repr(C)]
+#[derive(Clone, Copy, Debug, PartialEq, Eq)]
+pub struct Seed {
+    pub x: u32,
+}
+
 /// The reader of Alert-Info values: what the library alert_info answers.
 pub trait Reader {
     fn value_refusal(value: &[u8]) -> u8;
@@ -212,4 +227,10 @@ pub trait Tallies {
 /// Logs of calls from other makers: what the library call_log answers.
 pub trait Logs {
     fn check_log(table: &[u8], log: &[u8]) -> Verdict;
+}
+
+/// Sample values: what the library sample_value answers and leaves in the seed and the buffer, of which the bytes past the
+/// value stay as they are.
+pub trait Samples {
+    fn sample(table: &[u8], seed: &mut Seed, buffer: &mut [u8]) -> Made;
 }

@@ -13,6 +13,8 @@ use crate::{Early, Pair, Record};
 use crate::{Logs, Verdict};
 #[cfg(feature = "resolver")]
 use crate::{Plain, Resolvers};
+#[cfg(feature = "sample_value")]
+use crate::{Made, Samples, Seed};
 #[cfg(feature = "tally")]
 use crate::{Tallies, Tally};
 
@@ -213,5 +215,17 @@ impl Tallies for Ours {
 impl Logs for Ours {
     fn check_log(table: &[u8], log: &[u8]) -> Verdict {
         unsafe { call_log_check(table.as_ptr(), table.len(), log.as_ptr(), log.len()) }
+    }
+}
+
+#[cfg(feature = "sample_value")]
+extern "C" {
+    fn sample_value_make(table: *const u8, len: usize, seed: *mut Seed, buf: *mut u8, room: usize) -> Made;
+}
+
+#[cfg(feature = "sample_value")]
+impl Samples for Ours {
+    fn sample(table: &[u8], seed: &mut Seed, buffer: &mut [u8]) -> Made {
+        unsafe { sample_value_make(table.as_ptr(), table.len(), seed, buffer.as_mut_ptr(), buffer.len()) }
     }
 }

@@ -1,6 +1,7 @@
 //! Every case with a known answer, against each implementation.
 use outside::baseline::Baseline;
-use outside::cases::{all, ask_logs, ask_reader, ask_resolvers, ask_tables, ask_tallies, ask_trees, Case, Layer};
+use outside::cases::{all, ask_logs, ask_reader, ask_resolvers, ask_samples, ask_tables};
+use outside::cases::{ask_tallies, ask_trees, Case, Layer};
 use outside::reference::Reference;
 
 fn hold(layer: Layer, ask: impl Fn(&Case) -> String) {
@@ -50,6 +51,11 @@ macro_rules! hold_to_cases {
             fn logs() {
                 hold(Layer::Logs, ask_logs::<$implementation>);
             }
+
+            #[test]
+            fn samples() {
+                hold(Layer::Samples, ask_samples::<$implementation>);
+            }
         }
     };
 }
@@ -64,7 +70,8 @@ mod ours {
         feature = "tree_table",
         feature = "resolver",
         feature = "tally",
-        feature = "call_log"
+        feature = "call_log",
+        feature = "sample_value"
     ))]
     use super::*;
 
@@ -102,5 +109,11 @@ mod ours {
     #[test]
     fn logs() {
         hold(Layer::Logs, ask_logs::<outside::ours::Ours>);
+    }
+
+    #[cfg(feature = "sample_value")]
+    #[test]
+    fn samples() {
+        hold(Layer::Samples, ask_samples::<outside::ours::Ours>);
     }
 }

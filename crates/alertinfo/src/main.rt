@@ -5,6 +5,7 @@ mod fields;
 mod files;
 mod month;
 mod report;
+mod samples;
 mod signals;
 mod words;
 
@@ -25,6 +26,7 @@ enum Command {
     Early,
     Available,
     Pair,
+    Sample,
     Feed,
     None,
 }
@@ -45,8 +47,10 @@ fn usage(to: i32) {
        alertinfo feed TABLE VALUE [VALUE ..]
        alertinfo tally TABLE FILE
        alertinfo log TABLE LOG
+       alertinfo sample TABLE SEED COUNT
 TABLE, TREE, MACHINE, RINGS, LAMPS and LOG are files. VALUE is a file, or the value itself if it begins with '<'.
 FILE has one value a line; empty lines are no values. SIGNALS are numbers with commas between, as 0,2,5.
+SEED is a number of at most 32 bits. COUNT values are made from it, one a line.
 A file that is read may be -, standard input. Status: 0 an answer, 1 refused, 2 no answer.
 ",
     );
@@ -123,6 +127,9 @@ fn of_two_more() -> Command {
     if files::is(1, b"pair") {
         return Command::Pair;
     }
+    if files::is(1, b"sample") {
+        return Command::Sample;
+    }
     Command::None
 }
 
@@ -178,6 +185,7 @@ fn by_table(c: Command, n: usize) {
         Command::Tree => answers::tree(&table[..k]),
         Command::Untree => answers::untree(&table[..k]),
         Command::Feed => answers::feed(&table[..k], n),
+        Command::Sample => samples::print(&table[..k]),
         _ => by_value(c, &table[..k]),
     }
 }

@@ -70,6 +70,7 @@ the other form does not fit, or would be longer than 8,192 bytes
 a signal that is said to be available is none of the table
 the two tables have a category in common
 the log is longer than 32,768 bytes, stops early, or goes on after its last call
+the buffer is shorter than 4,096 bytes
 ";
     io::write_all(to, cases::part(lines, b'\n', k as usize));
 }

@@ -13,6 +13,7 @@
 //   available T SET V  refusal number, signal, used, skipped; SET is a number, bit s for signal s
 //   pair RINGS LAMPS V  refusal number, ring, lamp
 //   log T LOG        refusal number, agrees, call, signal, used, skipped
+//   sample T SEED ROOM  refusal number, length, seed after it, the value; the bytes after it are told only if one has changed
 //   match T URI      refusal number, category (-1 if the URI is skipped), node, whole, bytes compared
 use crate::numbers;
 use crate::print;
@@ -20,6 +21,7 @@ use alert_info::Cursor;
 use alert_info::Found;
 use alert_info::Span;
 use entry_run::Resolution;
+use sample_value::Made;
 use signal_table::Match;
 
 fn span(p: Span) {
@@ -197,4 +199,50 @@ pub fn fill(line: &[u8], t: &[u8], what: u8) {
     }
     let a = 0;
     filled(t, &mut buf[a..n], what);
+}
+
+// Every byte is as it was in the room.
+fn as_before(s: &[u8]) -> bool {
+    for i in 0..s.len() {
+        if s[i] != 170 {
+            return false;
+        }
+    }
+    true
+}
+
+// A value that was made in a buffer: the refusal number, the length, the seed, so many bytes, and whether the others stayed.
+fn sampled(m: Made, buf: &[u8]) {
+    let n = m.len;
+    print::number(m.refusal as usize);
+    print::next(n);
+    print::next(m.seed as usize);
+    if buf.len() < n {
+        print::text(b" longer than the buffer");
+        return;
+    }
+    let a = 0;
+    let end = buf.len();
+    print::bytes(&buf[a..n]);
+    if !as_before(&buf[n..end]) {
+        print::text(b" and then changed");
+    }
+}
+
+fn sample_in(t: &[u8], x: u32, buf: &mut [u8]) {
+    let m = sample_value::make_from(t, x, buf);
+    sampled(m, buf);
+}
+
+// From the seed that the line's word 2 is, with so much room as its word 3 says.
+pub fn sample(line: &[u8], t: &[u8]) {
+    let x = numbers::number(cases::word(line, 2));
+    let n = cases::number(cases::word(line, 3));
+    let mut buf = room();
+    if 70000 < n {
+        print::text(b"no such room");
+        return;
+    }
+    let a = 0;
+    sample_in(t, x, &mut buf[a..n]);
 }

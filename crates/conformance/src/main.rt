@@ -63,6 +63,7 @@ fn answer(line: &[u8], a: &[u8], b: &[u8], c: &[u8]) {
         b'l' => commands::log(a, b),
         b'a' => commands::available(line, a, c),
         b'f' => fields::feed(line, a, c),
+        b's' => commands::sample(line, a),
         _ => return,
     }
     print::text(b"\n");

@@ -3,14 +3,15 @@ mod early;
 mod log;
 mod machine;
 mod resolve;
+mod sample;
 mod table;
 mod tally;
 mod tree;
 mod urn;
 mod value;
 
-use crate::{Built, Converted, Early, Logs, Match, Pair, Plain, Reader, Record};
-use crate::{Resolution, Resolvers, Tables, Tallies, Tally, Trees, Verdict};
+use crate::{Built, Converted, Early, Logs, Made, Match, Pair, Plain, Reader, Record, Resolution};
+use crate::{Resolvers, Samples, Seed, Tables, Tallies, Tally, Trees, Verdict};
 
 pub struct Baseline;
 
@@ -97,6 +98,15 @@ impl Tallies for Baseline {
 impl Logs for Baseline {
     fn check_log(table: &[u8], log: &[u8]) -> Verdict {
         log::check(table, log).unwrap_or_else(Verdict::refused)
+    }
+}
+
+impl Samples for Baseline {
+    fn sample(table: &[u8], seed: &mut Seed, buffer: &mut [u8]) -> Made {
+        match sample::write(table, seed, buffer) {
+            Ok(len) => Made { refusal: 0, len },
+            Err(refusal) => Made { refusal, len: 0 },
+        }
     }
 }
 

@@ -280,7 +280,12 @@ impl<'a> Decoded<'a> {
         Some((category, node, true))
     }
 
-    fn path(&self, node: &Node) -> &[u8] {
+    /// The name of a category.
+    pub fn name(&self, category: usize) -> &[u8] {
+        text(self.bytes, self.categories[category])
+    }
+
+    pub fn path(&self, node: &Node) -> &[u8] {
         &self.bytes[node.path_start as usize..node.name_start as usize + node.name_length as usize]
     }
 

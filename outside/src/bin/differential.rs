@@ -8,8 +8,8 @@ use outside::cases::{show_counts, show_record, show_records, to_hex};
 use outside::random::tables::{self, Draft, Limit};
 use outside::random::{images, logs, records, trees, values, Random};
 use outside::reference::Reference;
-use outside::{Built, Converted, Early, Logs, Match, Pair, Plain, Reader, Record, Resolution};
-use outside::{Resolvers, Tables, Tallies, Tally as Counts, Trees, Verdict};
+use outside::{Built, Converted, Early, Logs, Made, Match, Pair, Plain, Reader, Record, Resolution};
+use outside::{Resolvers, Samples, Seed, Tables, Tallies, Tally as Counts, Trees, Verdict};
 use std::collections::BTreeMap;
 use std::fmt::Debug;
 use std::process::exit;
@@ -21,7 +21,8 @@ use std::time::{Instant, SystemTime, UNIX_EPOCH};
     feature = "tree_table",
     feature = "resolver",
     feature = "tally",
-    feature = "call_log"
+    feature = "call_log",
+    feature = "sample_value"
 ))]
 use outside::ours::Ours;
 
@@ -29,7 +30,7 @@ use outside::ours::Ours;
 const LONGEST: usize = 35_459;
 
 /// Every function with the refusal numbers that it may give.
-const FUNCTIONS: [(&str, &[u8]); 19] = [
+const FUNCTIONS: [(&str, &[u8]); 20] = [
     ("alert_info_refusal", &[0, 1, 2, 3]),
     ("alert_info_entries", &[0, 1, 2, 3]),
     ("alert_info_entry", &[0, 1, 2, 3, 18]),
@@ -49,6 +50,7 @@ const FUNCTIONS: [(&str, &[u8]); 19] = [
     ("resolve_pair", &[0, 1, 2, 3, 4, 5, 6, 7, 8, 9, 10, 11, 12, 24]),
     ("tally_value", &[0, 1, 2, 3, 4, 5, 6, 7, 8, 9, 10, 11, 12, 20]),
     ("call_log_check", &[0, 4, 5, 6, 7, 8, 9, 10, 11, 12, 25]),
+    ("sample_value_make", &[0, 4, 5, 6, 7, 8, 9, 10, 11, 12, 26]),
 ];
 
 #[derive(Default)]
@@ -216,6 +218,38 @@ fn tally_value<I: Tallies>(
 
 fn check_log<I: Logs>(table: &[u8], log: &[u8]) -> Verdict {
     I::check_log(table, log)
+}
+
+/// The answer with the seed after it and the whole buffer, which held other bytes before.
+fn sample<I: Samples>(table: &[u8], seed: Seed, room: usize) -> (Made, Seed, Vec<u8>) {
+    let mut after = seed;
+    let mut buffer: Vec<u8> = (0..room).map(|i| (i % 251) as u8).collect();
+    let made = I::sample(table, &mut after, &mut buffer);
+    (made, after, buffer)
+}
+
+/// A seed and some room. A value that is made is accepted, and every URI of it is an alert URN.
+fn hold_sample(tally: &mut Tally, random: &mut Random, table: &[u8]) {
+    let seed = Seed { x: random.number() as u32 };
+    let room = match random.below(8) {
+        0 => 4095,
+        1 => random.below(4096),
+        2 => 4096 + random.below(100),
+        _ => 4096,
+    };
+    let answers = answers!("sample_value", sample, table, seed, room);
+    let line = || format!("sample {} {} {room}", to_hex(table), seed.x);
+    let (made, _, buffer) = &answers[0].1;
+    tally.hold("sample_value_make", made.refusal, &answers, line);
+    if made.refusal == 0 {
+        let value = &buffer[..made.len];
+        let count = Reference::entries(value);
+        let alert = |k| outside::reference::urn::alert_urn(Reference::entry(value, k)).is_some();
+        if !(1..=8).contains(&count) || !(0..count).all(alert) {
+            println!("a sample is no value of alert URNs: {}", line());
+            tally.wrong += 1;
+        }
+    }
 }
 
 /// A count, often close to the highest.
@@ -522,6 +556,9 @@ fn round(tally: &mut Tally, random: &mut Random, other: &mut Vec<u8>) {
         message.push(value);
     }
     hold_message(tally, &table, &message);
+    for _ in 0..3 {
+        hold_sample(tally, random, &table);
+    }
     hold_pairs(tally, random);
     for _ in 0..3 {
         hold_log(tally, &table, &logs::stored(random, &table, &draft));
@@ -540,6 +577,9 @@ fn limits(tally: &mut Tally, random: &mut Random) {
         }
         hold_table(tally, random, &table, &machine);
         hold_from_table(tally, random, &table);
+        for _ in 0..20 {
+            hold_sample(tally, random, &table);
+        }
         hold_check(tally, &table, &machine);
         for value in [&b"<urn:alert:c0:p0>"[..], b"<", b"<a>"] {
             hold_tally(tally, random, &table, value);

@@ -7,14 +7,15 @@ pub mod fields;
 pub mod log;
 pub mod machine;
 pub mod pair;
+pub mod sample;
 pub mod table;
 pub mod tally;
 pub mod tree;
 pub mod urn;
 pub mod value;
 
-use crate::{Built, Converted, Early, Logs, Match, Pair, Plain, Reader, Record};
-use crate::{Resolution, Resolvers, Tables, Tallies, Tally, Trees, Verdict};
+use crate::{Built, Converted, Early, Logs, Made, Match, Pair, Plain, Reader, Record, Resolution};
+use crate::{Resolvers, Samples, Seed, Tables, Tallies, Tally, Trees, Verdict};
 use table::Table;
 
 pub struct Reference;
@@ -101,6 +102,20 @@ impl Tallies for Reference {
 impl Logs for Reference {
     fn check_log(table: &[u8], log: &[u8]) -> Verdict {
         log::check(table, log).unwrap_or_else(Verdict::refused)
+    }
+}
+
+impl Samples for Reference {
+    /// The buffer has the value and then what it had; all of it after a refusal.
+    fn sample(table: &[u8], seed: &mut Seed, buffer: &mut [u8]) -> Made {
+        match sample::value(table, *seed, buffer.len()) {
+            Ok((value, after)) => {
+                buffer[..value.len()].copy_from_slice(&value);
+                *seed = after;
+                Made { refusal: 0, len: value.len() }
+            }
+            Err(refusal) => Made { refusal, len: 0 },
+        }
     }
 }
 

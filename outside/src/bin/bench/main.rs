@@ -13,7 +13,7 @@ use inputs::Inputs;
 use outside::baseline::Baseline;
 use outside::reference::table::Table;
 use outside::reference::Reference;
-use outside::{Logs, Reader, Record, Resolvers, Tables, Tallies, Tally, Trees};
+use outside::{Logs, Reader, Record, Resolvers, Samples, Seed, Tables, Tallies, Tally, Trees};
 use std::hint::black_box;
 
 #[cfg(any(
@@ -22,7 +22,8 @@ use std::hint::black_box;
     feature = "tree_table",
     feature = "resolver",
     feature = "tally",
-    feature = "call_log"
+    feature = "call_log",
+    feature = "sample_value"
 ))]
 use outside::ours::Ours;
 
@@ -187,6 +188,19 @@ fn log_rows<'a>(inputs: &'a Inputs, rows: &mut Vec<Row<'a>>) {
     }
 }
 
+/// A hundred values, each from the seed after the one before.
+fn sample_rows<'a>(inputs: &'a Inputs, rows: &mut Vec<Row<'a>>) {
+    for (name, table, _) in &inputs.tables {
+        rows.push(row!("sample_value", "sample_value_make", format!("{name}, 100 values"), |I, buffer| {
+            let mut seed = Seed { x: 1 };
+            for _ in 0..100 {
+                black_box(I::sample(black_box(table), &mut seed, &mut buffer[..4096]));
+            }
+            seed.x
+        }));
+    }
+}
+
 fn print_times(rows: &[Row], runs: usize) {
     println!("| function | input | ours | baseline | ours / baseline |");
     println!("|---|---|---:|---:|---:|");
@@ -243,6 +257,7 @@ fn main() {
     feed_rows(&inputs, &mut rows);
     tally_rows(&inputs, &mut rows);
     log_rows(&inputs, &mut rows);
+    sample_rows(&inputs, &mut rows);
     time::warm_up(&*rows[0].baseline);
     println!("## Time of one call, best of {runs} runs\n");
     print_times(&rows, runs);
