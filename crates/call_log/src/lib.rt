@@ -6,9 +6,9 @@
 //   c.rt  the same for C
 mod c;
 
-use text_bytes::cut::part;
 use entry_run::Resolution;
 use stored_table::Decoded;
+use text_bytes::cut::part;
 ghost use mathlib.Core.Path.{_≡_};
 ghost use Prim.Native.Nat.{_+_, _<_};
 ghost use lib.ListN.{getD};

@@ -207,7 +207,16 @@ fn search_nodes<'a>(
     let mut i = 0;
     while i < n {
         if category[i] == c {
-            s = look(t, at, len, inner, w, i, text_bytes::cut::wide8(shared[i]), s);
+            s = look(
+                t,
+                at,
+                len,
+                inner,
+                w,
+                i,
+                text_bytes::cut::wide8(shared[i]),
+                s,
+            );
             if s.ends {
                 return s;
             }
