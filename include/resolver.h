@@ -43,6 +43,14 @@ alert_plain resolve_plain(const uint8_t *table, size_t len, const uint8_t *value
 alert_resolution resolve_machine(const uint8_t *table, size_t len, const uint8_t *image, size_t image_len,
                                  const uint8_t *value, size_t value_len);
 
+/* The signal for a value, by following a small image: a machine whose states are the classes of another's, without
+ * statuses. No other function reads one, and this one reads no other image. Refused with 1 to 12, then with 15: the small
+ * image is not of the form that the table asks for. It is followed as it is, whoever proposed its classes. For one that
+ * was written from a machine that machine_check accepts and from classes that machine_classes_check accepts, the answer
+ * is that of resolve_plain, without the tries. */
+alert_resolution resolve_small(const uint8_t *table, size_t len, const uint8_t *small, size_t small_len,
+                               const uint8_t *value, size_t value_len);
+
 /* What is carried between the values of one message. All zero before the first. */
 typedef struct alert_record {
     uint8_t signal;    /* the signal so far */

@@ -9,7 +9,11 @@
 //! | `plain T V` | refusal, signal, used, skipped, tries |
 //! | `build T ROOM` | refusal, length, image (the rest of the buffer of ROOM bytes is 0) |
 //! | `check T M` | refusal |
+//! | `classes T M P` | refusal of a proposal, one class for each state |
+//! | `small T M P ROOM` | refusal, length, small image (the rest of the buffer of ROOM bytes is 0) |
+//! | `propose T M ROOM` | refusal, length, classes (the same) |
 //! | `walk T M V` | refusal, signal, used, skipped of the machine resolver |
+//! | `smallwalk T SM V` | refusal, signal, used, skipped of the resolver of small images |
 //! | `feed T RECORD V` | refusal, signal, used, skipped, the record after it; a record is `signal/status,../values` |
 //! | `early T V` | refusal, signal, entries needed |
 //! | `available T SET V` | refusal, signal, used, skipped; SET is a number, bit s for signal s |
@@ -21,14 +25,14 @@
 //! | `toold N ROOM` | refusal, length, table (the same) |
 //! | `sample T SEED ROOM` | refusal, length, seed after it, value (the rest of the buffer of ROOM bytes stays) |
 //! | `tally T RECORDS REFUSALS V` | refusal, records and refusal counts after it; `chosen:used:skipped` and counts, `;` between |
-use crate::{Converted, Early, Logs, Made, Match, Pair, Reader, Record, Resolution, Resolvers};
-use crate::{Samples, Seed, Tables, Tallies, Tally, Trees};
+use crate::{Built, Classes, Converted, Early, Logs, Made, Match, Pair, Reader, Record, Resolution};
+use crate::{Resolvers, Samples, Seed, Tables, Tallies, Tally, Trees};
 use std::fmt::Write;
 use std::path::{Path, PathBuf};
 
 /// One file for each command, the draft's worked examples, values with folded lines, messages of
 /// several fields, and URNs that a category holds.
-pub const FILES: [&str; 21] = [
+pub const FILES: [&str; 23] = [
     "value.txt",
     "entry.txt",
     "table.txt",
@@ -50,6 +54,8 @@ pub const FILES: [&str; 21] = [
     "pair.txt",
     "log.txt",
     "sample.txt",
+    "smallwalk.txt",
+    "classes.txt",
 ];
 
 /// Where the cases are.
@@ -62,6 +68,7 @@ pub fn folder() -> PathBuf {
 pub enum Layer {
     Reader,
     Tables,
+    Classes,
     Trees,
     Resolvers,
     Tallies,
@@ -81,8 +88,9 @@ impl Case {
         match self.words[0].as_str() {
             "value" | "entry" => Layer::Reader,
             "table" | "match" | "build" | "check" => Layer::Tables,
+            "classes" | "small" | "propose" => Layer::Classes,
             "newtable" | "tonew" | "toold" => Layer::Trees,
-            "plain" | "walk" | "feed" | "early" | "available" | "pair" => Layer::Resolvers,
+            "plain" | "walk" | "smallwalk" | "feed" | "early" | "available" | "pair" => Layer::Resolvers,
             "tally" => Layer::Tallies,
             "log" => Layer::Logs,
             "sample" => Layer::Samples,
@@ -198,6 +206,24 @@ pub fn ask_tables<I: Tables>(case: &Case) -> String {
     }
 }
 
+/// What an implementation answers to a case of smaller machines.
+pub fn ask_classes<I: Classes>(case: &Case) -> String {
+    let (table, image) = (case.bytes(1), case.bytes(2));
+    if case.words[0] == "classes" {
+        return I::classes_check(&table, &image, &case.bytes(3)).to_string();
+    }
+    let mut buffer = vec![0xA5; case.number(case.words.len() - 1)];
+    let Built { refusal, len } = match case.words[0].as_str() {
+        "small" => I::small_write(&table, &image, &case.bytes(3), &mut buffer),
+        "propose" => I::propose(&table, &image, &mut buffer),
+        other => panic!("{}: {other} is not of smaller machines", case.place),
+    };
+    if buffer[len..].iter().any(|&b| b != 0) {
+        return "bytes past what was written are not 0".to_string();
+    }
+    format!("{refusal} {len} {}", to_hex(&buffer[..len]))
+}
+
 /// What an implementation answers to a case of tables with the tree written once.
 pub fn ask_trees<I: Trees>(case: &Case) -> String {
     let bytes = case.bytes(1);
@@ -235,6 +261,7 @@ pub fn ask_resolvers<I: Resolvers>(case: &Case) -> String {
             format!("{} {}", show(answer.resolution()), answer.tries)
         }
         "walk" => show(I::machine(&table, &case.bytes(2), &case.bytes(3))),
+        "smallwalk" => show(I::small(&table, &case.bytes(2), &case.bytes(3))),
         "feed" => {
             let mut record = case.record(2);
             let answer = I::feed(&table, &mut record, &case.bytes(3));

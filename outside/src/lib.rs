@@ -182,6 +182,17 @@ pub trait Tables {
     fn check(table: &[u8], image: &[u8]) -> u8;
 }
 
+/// Smaller machines: what the library small_machine answers. A buffer is zero past what was written, and all of it after a
+/// refusal.
+pub trait Classes {
+    /// Whether one class for each state of the image makes a smaller machine that does the same, with no class too many.
+    fn classes_check(table: &[u8], image: &[u8], classes: &[u8]) -> u8;
+    /// The small image of such classes.
+    fn small_write(table: &[u8], image: &[u8], classes: &[u8], buffer: &mut [u8]) -> Built;
+    /// The classes of the smallest machine, numbered by their first states.
+    fn propose(table: &[u8], image: &[u8], buffer: &mut [u8]) -> Built;
+}
+
 /// Tables with the tree written once: what the library tree_table answers. A buffer is zero past the form, and all of it
 /// after a refusal.
 pub trait Trees {
@@ -209,6 +220,8 @@ pub const VALUES: u8 = 16;
 pub trait Resolvers {
     fn plain(table: &[u8], value: &[u8]) -> Plain;
     fn machine(table: &[u8], image: &[u8], value: &[u8]) -> Resolution;
+    /// The same by a small image.
+    fn small(table: &[u8], small: &[u8], value: &[u8]) -> Resolution;
     /// One value of a message that has several.
     fn feed(table: &[u8], record: &mut Record, value: &[u8]) -> Resolution;
     /// The signal, as soon as no further URN could change it.

@@ -1,16 +1,20 @@
 //! The proved libraries behind safe functions. The declarations are those of include/*.h.
+#[cfg(any(feature = "signal_table", feature = "small_machine"))]
+use crate::Built;
+#[cfg(feature = "small_machine")]
+use crate::Classes;
 #[cfg(feature = "alert_info")]
 use crate::Reader;
 #[cfg(any(feature = "resolver", feature = "tally"))]
 use crate::Resolution;
-#[cfg(feature = "signal_table")]
-use crate::{Built, Match, Tables};
 #[cfg(feature = "tree_table")]
 use crate::{Converted, Trees};
 #[cfg(feature = "resolver")]
 use crate::{Early, Pair, Record};
 #[cfg(feature = "call_log")]
 use crate::{Logs, Verdict};
+#[cfg(feature = "signal_table")]
+use crate::{Match, Tables};
 #[cfg(feature = "resolver")]
 use crate::{Plain, Resolvers};
 #[cfg(feature = "sample_value")]
@@ -45,6 +49,36 @@ extern "C" {
     fn machine_check(table: *const u8, len: usize, image: *const u8, image_len: usize) -> u8;
 }
 
+#[cfg(feature = "small_machine")]
+extern "C" {
+    fn machine_classes_check(
+        table: *const u8,
+        len: usize,
+        image: *const u8,
+        image_len: usize,
+        classes: *const u8,
+        classes_len: usize,
+    ) -> u8;
+    fn machine_small_write(
+        table: *const u8,
+        len: usize,
+        image: *const u8,
+        image_len: usize,
+        classes: *const u8,
+        classes_len: usize,
+        buf: *mut u8,
+        room: usize,
+    ) -> Built;
+    fn machine_propose(
+        table: *const u8,
+        len: usize,
+        image: *const u8,
+        image_len: usize,
+        buf: *mut u8,
+        room: usize,
+    ) -> Built;
+}
+
 #[cfg(feature = "tree_table")]
 extern "C" {
     fn tree_table_refusal(tree: *const u8, len: usize) -> u8;
@@ -60,6 +94,14 @@ extern "C" {
         len: usize,
         image: *const u8,
         image_len: usize,
+        value: *const u8,
+        value_len: usize,
+    ) -> Resolution;
+    fn resolve_small(
+        table: *const u8,
+        len: usize,
+        small: *const u8,
+        small_len: usize,
         value: *const u8,
         value_len: usize,
     ) -> Resolution;
@@ -149,6 +191,43 @@ impl Tables for Ours {
     }
 }
 
+#[cfg(feature = "small_machine")]
+impl Classes for Ours {
+    fn classes_check(table: &[u8], image: &[u8], classes: &[u8]) -> u8 {
+        unsafe {
+            machine_classes_check(
+                table.as_ptr(),
+                table.len(),
+                image.as_ptr(),
+                image.len(),
+                classes.as_ptr(),
+                classes.len(),
+            )
+        }
+    }
+
+    fn small_write(table: &[u8], image: &[u8], classes: &[u8], buffer: &mut [u8]) -> Built {
+        unsafe {
+            machine_small_write(
+                table.as_ptr(),
+                table.len(),
+                image.as_ptr(),
+                image.len(),
+                classes.as_ptr(),
+                classes.len(),
+                buffer.as_mut_ptr(),
+                buffer.len(),
+            )
+        }
+    }
+
+    fn propose(table: &[u8], image: &[u8], buffer: &mut [u8]) -> Built {
+        unsafe {
+            machine_propose(table.as_ptr(), table.len(), image.as_ptr(), image.len(), buffer.as_mut_ptr(), buffer.len())
+        }
+    }
+}
+
 #[cfg(feature = "tree_table")]
 impl Trees for Ours {
     fn tree_refusal(tree: &[u8]) -> u8 {
@@ -174,6 +253,10 @@ impl Resolvers for Ours {
         unsafe {
             resolve_machine(table.as_ptr(), table.len(), image.as_ptr(), image.len(), value.as_ptr(), value.len())
         }
+    }
+
+    fn small(table: &[u8], small: &[u8], value: &[u8]) -> Resolution {
+        unsafe { resolve_small(table.as_ptr(), table.len(), small.as_ptr(), small.len(), value.as_ptr(), value.len()) }
     }
 
     fn feed(table: &[u8], record: &mut Record, value: &[u8]) -> Resolution {

@@ -1,7 +1,7 @@
 //! Every case with a known answer, against each implementation.
 use outside::baseline::Baseline;
-use outside::cases::{all, ask_logs, ask_reader, ask_resolvers, ask_samples, ask_tables};
-use outside::cases::{ask_tallies, ask_trees, Case, Layer};
+use outside::cases::{all, ask_classes, ask_logs, ask_reader, ask_resolvers, ask_samples};
+use outside::cases::{ask_tables, ask_tallies, ask_trees, Case, Layer};
 use outside::reference::Reference;
 
 fn hold(layer: Layer, ask: impl Fn(&Case) -> String) {
@@ -30,6 +30,11 @@ macro_rules! hold_to_cases {
             #[test]
             fn tables() {
                 hold(Layer::Tables, ask_tables::<$implementation>);
+            }
+
+            #[test]
+            fn classes() {
+                hold(Layer::Classes, ask_classes::<$implementation>);
             }
 
             #[test]
@@ -67,6 +72,7 @@ mod ours {
     #[cfg(any(
         feature = "alert_info",
         feature = "signal_table",
+        feature = "small_machine",
         feature = "tree_table",
         feature = "resolver",
         feature = "tally",
@@ -85,6 +91,12 @@ mod ours {
     #[test]
     fn tables() {
         hold(Layer::Tables, ask_tables::<outside::ours::Ours>);
+    }
+
+    #[cfg(feature = "small_machine")]
+    #[test]
+    fn classes() {
+        hold(Layer::Classes, ask_classes::<outside::ours::Ours>);
     }
 
     #[cfg(feature = "tree_table")]

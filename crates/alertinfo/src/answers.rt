@@ -87,6 +87,18 @@ pub fn walk(t: &[u8], v: &[u8]) {
     resolution(r.refusal, r.signal, r.used as usize, r.skipped as usize);
 }
 
+// By the small machine that argument 3 names.
+pub fn small(t: &[u8], v: &[u8]) {
+    let mut image = io::large_buffer();
+    let m = files::file(3, &mut image);
+    if !m.ok {
+        return;
+    }
+    let n = m.n;
+    let r = small_resolver::resolve(t, &image[..n], v);
+    resolution(r.refusal, r.signal, r.used as usize, r.skipped as usize);
+}
+
 // With only the signals that argument 3 lists.
 pub fn available(t: &[u8], v: &[u8]) {
     let mut text = io::buffer();

@@ -6,6 +6,7 @@ mod files;
 mod month;
 mod report;
 mod samples;
+mod shrink;
 mod signals;
 mod words;
 
@@ -27,6 +28,8 @@ enum Command {
     Available,
     Pair,
     Sample,
+    Small,
+    Shrink,
     Feed,
     None,
 }
@@ -37,10 +40,12 @@ fn usage(to: i32) {
         b"usage: alertinfo entries VALUE
        alertinfo build TABLE MACHINE
        alertinfo check TABLE MACHINE
+       alertinfo shrink TABLE MACHINE SMALL
        alertinfo resolve TABLE VALUE [MACHINE]
        alertinfo early TABLE VALUE
        alertinfo available TABLE SIGNALS VALUE
        alertinfo pair RINGS LAMPS VALUE
+       alertinfo small TABLE SMALL VALUE
        alertinfo match TABLE URI
        alertinfo tree TABLE TREE
        alertinfo untree TREE TABLE
@@ -48,7 +53,7 @@ fn usage(to: i32) {
        alertinfo tally TABLE FILE
        alertinfo log TABLE LOG
        alertinfo sample TABLE SEED COUNT
-TABLE, TREE, MACHINE, RINGS, LAMPS and LOG are files. VALUE is a file, or the value itself if it begins with '<'.
+TABLE, TREE, MACHINE, SMALL, RINGS, LAMPS and LOG are files. VALUE is a file, or the value itself if it begins with '<'.
 FILE has one value a line; empty lines are no values. SIGNALS are numbers with commas between, as 0,2,5.
 SEED is a number of at most 32 bits. COUNT values are made from it, one a line.
 A file that is read may be -, standard input. Status: 0 an answer, 1 refused, 2 no answer.
@@ -130,6 +135,12 @@ fn of_two_more() -> Command {
     if files::is(1, b"sample") {
         return Command::Sample;
     }
+    if files::is(1, b"small") {
+        return Command::Small;
+    }
+    if files::is(1, b"shrink") {
+        return Command::Shrink;
+    }
     Command::None
 }
 
@@ -148,6 +159,7 @@ fn value_at(c: Command) -> usize {
     match c {
         Command::Available => 4,
         Command::Pair => 4,
+        Command::Small => 4,
         _ => 3,
     }
 }
@@ -165,6 +177,7 @@ fn by_value(c: Command, t: &[u8]) {
         Command::Early => answers::early(t, &value[..n]),
         Command::Available => answers::available(t, &value[..n]),
         Command::Pair => answers::pair(t, &value[..n]),
+        Command::Small => answers::small(t, &value[..n]),
         _ => answers::plain(t, &value[..n]),
     }
 }
@@ -184,6 +197,7 @@ fn by_table(c: Command, n: usize) {
         Command::Log => answers::log(&table[..k]),
         Command::Tree => answers::tree(&table[..k]),
         Command::Untree => answers::untree(&table[..k]),
+        Command::Shrink => shrink::shrink(&table[..k]),
         Command::Feed => answers::feed(&table[..k], n),
         Command::Sample => samples::print(&table[..k]),
         _ => by_value(c, &table[..k]),

@@ -71,6 +71,7 @@ a signal that is said to be available is none of the table
 the two tables have a category in common
 the log is longer than 32,768 bytes, stops early, or goes on after its last call
 the buffer is shorter than 4,096 bytes
+the classes do not make a smaller machine of this one, or none do
 ";
     io::write_all(to, cases::part(lines, b'\n', k as usize));
 }

@@ -56,6 +56,7 @@ pub fn by(t: &[u8], d: Decoded, set: u32, v: &[u8]) -> Resolution
         &no_index,
         &no_symbols,
         0,
+        0,
         t,
         at_start(),
         v,

@@ -9,6 +9,7 @@
 //   toold N ROOM     refusal number, length, table; the same
 //   check T M        refusal number
 //   walk T M V       refusal number, signal, used, skipped of the machine resolver
+//   smallwalk T SM V refusal number, signal, used, skipped of the resolver of small images
 //   early T V        refusal number, signal, entries needed
 //   available T SET V  refusal number, signal, used, skipped; SET is a number, bit s for signal s
 //   pair RINGS LAMPS V  refusal number, ring, lamp
@@ -131,6 +132,10 @@ pub fn walk(t: &[u8], m: &[u8], v: &[u8]) {
     resolution(resolver::machine(t, m, v));
 }
 
+pub fn small_walk(t: &[u8], m: &[u8], v: &[u8]) {
+    resolution(small_resolver::resolve(t, m, v));
+}
+
 pub fn check(t: &[u8], m: &[u8]) {
     print::number(signal_table::check(t, m) as usize);
 }
@@ -145,7 +150,7 @@ fn all_zero(s: &[u8]) -> bool {
 }
 
 // What was written to a buffer: the refusal number, the length, so many bytes, and whether the others are 0.
-fn written(refusal: u8, n: usize, buf: &[u8]) {
+pub fn written(refusal: u8, n: usize, buf: &[u8]) {
     print::number(refusal as usize);
     print::next(n);
     if buf.len() < n {
@@ -161,7 +166,7 @@ fn written(refusal: u8, n: usize, buf: &[u8]) {
 }
 
 // Room for any form or image, and not zero before.
-fn room() -> [u8; 70000] {
+pub fn room() -> [u8; 70000] {
     [170u8; 70000]
 }
 

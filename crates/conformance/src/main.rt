@@ -5,6 +5,7 @@ mod commands;
 mod fields;
 mod numbers;
 mod print;
+mod smaller;
 mod tally_cases;
 
 // `table` and `tally` begin alike.
@@ -37,14 +38,39 @@ fn entry_or_early(line: &[u8], a: &[u8], b: &[u8]) {
     commands::entry(line, a);
 }
 
-// `plain` and `pair` begin alike.
-fn plain_or_pair(line: &[u8], a: &[u8], b: &[u8], c: &[u8]) {
+// `plain`, `pair` and `propose` begin alike.
+fn with_p(line: &[u8], a: &[u8], b: &[u8], c: &[u8]) {
     let second = cases::first(cases::after(line, b'p'));
-    if second == b'a' {
-        commands::pair(a, b, c);
+    match second {
+        b'a' => commands::pair(a, b, c),
+        b'r' => smaller::propose(line, a, b),
+        _ => commands::plain(a, b),
+    }
+}
+
+// `check` and `classes` begin alike.
+fn check_or_classes(line: &[u8], a: &[u8], b: &[u8], c: &[u8]) {
+    let second = cases::first(cases::after(line, b'c'));
+    if second == b'l' {
+        smaller::classes(a, b, c);
         return;
     }
-    commands::plain(a, b);
+    commands::check(a, b);
+}
+
+// `sample`, `small` and `smallwalk` begin alike.
+fn with_s(line: &[u8], a: &[u8], b: &[u8], c: &[u8]) {
+    let second = cases::first(cases::after(line, b's'));
+    if second == b'a' {
+        commands::sample(line, a);
+        return;
+    }
+    let sixth = cases::first(cases::after(cases::after(line, b'l'), b'l'));
+    if sixth == b'w' {
+        commands::small_walk(a, b, c);
+        return;
+    }
+    smaller::small(line, a, b, c);
 }
 
 // The answer to one line, whose words after the first are these bytes where they are bytes.
@@ -54,16 +80,16 @@ fn answer(line: &[u8], a: &[u8], b: &[u8], c: &[u8]) {
         b'v' => commands::value(a),
         b'e' => entry_or_early(line, a, b),
         b't' => with_t(line, a),
-        b'p' => plain_or_pair(line, a, b, c),
+        b'p' => with_p(line, a, b, c),
         b'b' => commands::fill(line, a, b'b'),
         b'n' => commands::tree(a),
-        b'c' => commands::check(a, b),
+        b'c' => check_or_classes(line, a, b, c),
         b'w' => commands::walk(a, b, c),
         b'm' => commands::match_urn(a, b),
         b'l' => commands::log(a, b),
         b'a' => commands::available(line, a, c),
         b'f' => fields::feed(line, a, c),
-        b's' => commands::sample(line, a),
+        b's' => with_s(line, a, b, c),
         _ => return,
     }
     print::text(b"\n");

@@ -29,6 +29,7 @@ use Rattle.machine_builder.specs.declared.Built.{Built}
 use Rattle.signal_table.specs.Claims.{TooManyStates}
 use Rattle.signal_table.proofs.Claims.{every-build, refused-build, checked}
 use Rattle.signal_table.proofs.Exactly.{build-exactly}
+use Rattle.signal_table.proofs.FormRight.{form-to-right}
 use Rattle.entry_run.specs.declared.Resolution.{Resolution}
 use Rattle.resolver.specs.Resolve.{takenAs, directSignal, walkedSignal, refused, answered, unlessRefused, plainOf, machineOf}
 use Rattle.demands.specs.Demands.{WalkClaim, DemandOne, DemandTwo, DemandThree}
@@ -37,10 +38,15 @@ use Rattle.early.proofs.Claims.{early-claim}
 use Rattle.resolver.proofs.TableLaws.{taken-append}
 use Rattle.demands.proofs.EarlyLaws.{plain-answer, early-number, early-refused, early-signal}
 use Rattle.demands.proofs.MachineLaws.{machine-walks, machine-fifteen}
+use Rattle.small_image.specs.Small.{smallForm}
+use Rattle.small_resolver.specs.Resolve.{walkedSmall, resolvedSmall}
+use Rattle.small_resolver.proofs.Claims.{answers-claim}
+use Rattle.demands.specs.BesideMachine.{GoesWith}
+use Rattle.demands.proofs.SmallLaws.{one-of-two, small-machine, small-walks, small-proposed}
 use Rattle.pair.proofs.PairLaws.{pair-claim}
 use Rattle.pair.proofs.Together.{together-claim}
 use Rattle.demands.proofs.AvailableLaws.{beside-plain, available-number, available-refused, available-signal}
-use Rattle.demands.proofs.RefusalLaws.{value-number, entry-number, plain-number, machine-number, build-number, check-number, pair-number, pair-refused}
+use Rattle.demands.proofs.RefusalLaws.{value-number, entry-number, plain-number, machine-number, small-number, build-number, check-number, pair-number, pair-refused}
 use Rattle.demands.proofs.OneValueLaws.{feed-number, one-value}
 use Rattle.demands.proofs.FeedingLaws.{ends-direct, never-refused, joined-alike}
 use Rattle.alert_info.proofs.EntryLaws.{refused-entry}
@@ -72,6 +78,17 @@ machine-refused t im v = by-number t v _ (go (image.formOf (tableOf t) im))
     go true n = absurd (n refl)
     go false n = refl
 
+small-refused : (t small v : List ℕ) → (resolvedSmall t small v .refusal ≡ 0 → ⊥) → resolvedSmall t small v ≡ refused (resolvedSmall t small v .refusal)
+unfolding resolvedSmall
+small-refused t small v = by-number t v _ (go (smallForm (tableOf t) small))
+  where
+    given : Resolution
+    given = answered t (urisOf v) (walkedSmall t small (urisOf v))
+
+    go : (b : Bool) → (cond b given (refused 15) .refusal ≡ 0 → ⊥) → cond b given (refused 15) ≡ refused (cond b given (refused 15) .refusal)
+    go true n = absurd (n refl)
+    go false n = refl
+
 build-refused : (t : List ℕ) (room : ℕ) → (builtFrom t room .refusal ≡ 0 → ⊥) → (builtFrom t room .len ≡ 0) × (bufferFrom t room ≡ replicate room 0)
 build-refused t room n = let r = refused-build t room n in (r .no-length, r .cleared)
 
@@ -83,6 +100,7 @@ demand-one t =
       table-number = refusal-numbers t;
       plain-number = plain-number t;
       machine-number = machine-number t;
+      small-number = small-number t;
       pair-number = pair-number t;
       available-number = λ set v. available-number t v set;
       feed-number = feed-number t;
@@ -92,6 +110,7 @@ demand-one t =
       entry-refused = refused-entry;
       plain-refused = plain-refused t;
       machine-refused = machine-refused t;
+      small-refused = small-refused t;
       available-refused = λ set v. available-refused t v set;
       pair-refused = pair-refused t;
       early-refused = early-refused t;
@@ -122,6 +141,10 @@ demand-two t =
       plain-answer = plain-answer t;
       machine-walks = machine-walks t;
       machine-fifteen = machine-fifteen t;
+      small = answers-claim t;
+      small-or-large = one-of-two t;
+      small-machine = small-machine t;
+      small-proposed = small-proposed t;
       early-signal = early-signal t;
       early = early-claim t;
       available-signal = λ set v. available-signal t v set;
@@ -198,5 +221,17 @@ module _ (t : List ℕ) (ok : tableRefusal t ≡ 0) where
         ∙ ap (checkFrom t) (take-at (machineImage (tableOf t)) (replicate (room - length (machineImage (tableOf t))) 0) (length (machineImage (tableOf t))) refl)
         ∙ every-build t ok few .checked
 
+  small-alike : (im small : List ℕ) → checkFrom t im ≡ 0 → GoesWith t im small → (v : List ℕ) → resolvedSmall t small v ≡ plainOf t v
+  small-alike im small e g v = small-machine t im small v (form-to-right (tableOf t) im (form-right im e)) g ∙ alike im e v
+
 pub demand-three : DemandThree
-demand-three t ok few = record { builds = builds t ok few; checked = left-checked t ok few; walks = walk-claim t ok; alike = alike t ok; answers = answers t ok }
+demand-three t ok few =
+    record {
+      builds = builds t ok few;
+      checked = left-checked t ok few;
+      walks = walk-claim t ok;
+      alike = alike t ok;
+      small-walks = λ im small e g before after. small-walks t im small g before after (walk-claim t ok im e);
+      small-alike = small-alike t ok;
+      answers = answers t ok;
+    }

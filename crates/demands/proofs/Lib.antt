@@ -5,6 +5,7 @@ pub mod FeedingLaws
 pub mod EarlyLaws
 pub mod MachineLaws
 pub mod AvailableLaws
+pub mod SmallLaws
 pub mod DemandLaws
 pub mod Examples
 pub mod DemandExample

@@ -23,6 +23,8 @@ use Rattle.machine_builder.specs.Built.{refused as without, builtOf}
 use Rattle.signal_table.specs.Built.{builtFrom, checkFrom}
 use Rattle.entry_run.specs.declared.Resolution.{Resolution}
 use Rattle.resolver.specs.Resolve.{refused, answered, walkedSignal, unlessRefused, plainOf, machineOf}
+use Rattle.small_image.specs.Small.{smallForm}
+use Rattle.small_resolver.specs.Resolve.{walkedSmall, resolvedSmall}
 use Rattle.pair.specs.declared.Pair.{Pair}
 use Rattle.pair.specs.Pair.{apart, pairRefusal, signalIn, refused as noPair, pairOf}
 use Rattle.demands.specs.Demands.{Among, ValueNumber, EntryNumber, TableNumber, PlainNumber, MachineNumber, BuildNumber, CheckNumber, PairNumber}
@@ -86,6 +88,14 @@ unfolding machineOf
 machine-number t im v = resolver-number MachineNumber (λ n h. inr (inl h)) t v _ (go (formOf (tableOf t) im))
   where
     go : (b : Bool) → MachineNumber (cond b (answered t (urisOf v) (walkedSignal t im (urisOf v))) (refused 15) .refusal)
+    go true = inl refl
+    go false = inr (inr refl)
+
+pub small-number : (t small v : List ℕ) → MachineNumber (resolvedSmall t small v .refusal)
+unfolding resolvedSmall
+small-number t small v = resolver-number MachineNumber (λ n h. inr (inl h)) t v _ (go (smallForm (tableOf t) small))
+  where
+    go : (b : Bool) → MachineNumber (cond b (answered t (urisOf v) (walkedSmall t small (urisOf v))) (refused 15) .refusal)
     go true = inl refl
     go false = inr (inr refl)
 

@@ -13,6 +13,7 @@ use Rattle.resolution.specs.Says.{Says, Given}
 use Rattle.node_search.specs.Uses.{usedUrn}
 use Rattle.machine_image.specs.Image.{signalIn, machineImage}
 use Rattle.machine_image.specs.Walk.{stepIn}
+use Rattle.small_image.specs.Numbers.{smallOf}
 use Rattle.stored_table.specs.Tables.{tableRefusal, tableOf, categoryNames}
 use Rattle.carried_record.specs.declared.Carried.{Carried}
 use Rattle.signal_table.specs.Built.{builtFrom, bufferFrom, checkFrom}
@@ -22,17 +23,20 @@ use Rattle.early.specs.Claims.{EarlyClaims}
 use Rattle.available.specs.Available.{availableSignal, availableOf}
 use Rattle.pair.specs.Pair.{refused as noPair, pairOf}
 use Rattle.pair.specs.Claims.{Shared, PairAnswers, Together}
+use Rattle.small_resolver.specs.Resolve.{resolvedSmall}
+use Rattle.small_resolver.specs.Claims.{SmallAnswers}
 use Rattle.resolver.specs.Resolve.{takenAs, directSignal, walkedSignal, refused, answered, plainOf, machineOf}
 use Rattle.resolver.specs.Feed.{feedOf}
 use Rattle.demands.specs.Feeding.{OneValue, EndsDirect, NeverRefused, JoinedAlike}
 use Rattle.demands.specs.BesidePlain.{BesidePlain}
+use Rattle.demands.specs.BesideMachine.{GoesWith, OneOfTwo, Proposed, SmallWalkClaim}
 
 -- a number from lo to hi
 abbrev pub Among : ℕ → ℕ → ℕ → Type 0
 Among lo hi n = (lo ≤ n) × (n ≤ hi)
 
 -- the numbers that may be given, 0 for accepted: by the question about a value, by that about an entry, by that about a table,
--- by the plain resolver and by the early question, by the machine resolver, among the available signals, for ring and lamp apart, for one of several values, by the
+-- by the plain resolver and by the early question, by the machine resolver and by that of small images, among the available signals, for ring and lamp apart, for one of several values, by the
 -- builder and by the checker
 abbrev pub ValueNumber : ℕ → Type 0
 ValueNumber n = (n ≡ 0) ⊎ Among 1 3 n
@@ -73,6 +77,7 @@ pub record Demand1 (t : List ℕ) : Type 0 where
   pub table-number : TableNumber (tableRefusal t)
   pub plain-number : (v : List ℕ) → PlainNumber (plainOf t v .refusal)
   pub machine-number : (im v : List ℕ) → MachineNumber (machineOf t im v .refusal)
+  pub small-number : (small v : List ℕ) → MachineNumber (resolvedSmall t small v .refusal)
   pub pair-number : (lamp v : List ℕ) → PairNumber (pairOf t lamp v .refusal)
   pub available-number : (set : ℕ) (v : List ℕ) → AvailableNumber (availableOf t set v .refusal)
   pub feed-number : (r : Carried) (v : List ℕ) → FeedNumber (feedOf t r v .answer .refusal)
@@ -84,6 +89,7 @@ pub record Demand1 (t : List ℕ) : Type 0 where
   -- a refused resolution is signal 0 with both counts 0
   pub plain-refused : (v : List ℕ) → (plainOf t v .refusal ≡ 0 → ⊥) → plainOf t v ≡ refused (plainOf t v .refusal)
   pub machine-refused : (im v : List ℕ) → (machineOf t im v .refusal ≡ 0 → ⊥) → machineOf t im v ≡ refused (machineOf t im v .refusal)
+  pub small-refused : (small v : List ℕ) → (resolvedSmall t small v .refusal ≡ 0 → ⊥) → resolvedSmall t small v ≡ refused (resolvedSmall t small v .refusal)
   pub available-refused : (set : ℕ) (v : List ℕ) → (availableOf t set v .refusal ≡ 0 → ⊥) → availableOf t set v ≡ refused (availableOf t set v .refusal)
   -- a refused pair is 0 and 0
   pub pair-refused : (lamp v : List ℕ) → (pairOf t lamp v .refusal ≡ 0 → ⊥) → pairOf t lamp v ≡ noPair (pairOf t lamp v .refusal)
@@ -105,6 +111,14 @@ pub record Demand2 (t : List ℕ) : Type 0 where
   pub machine-walks : (im v : List ℕ) → refusalOf v ≡ 0 → tableRefusal t ≡ 0 → RightForm (tableOf t) im
       → machineOf t im v ≡ answered t (urisOf v) (walkedSignal t im (urisOf v))
   pub machine-fifteen : (im v : List ℕ) → (machineOf t im v .refusal ≡ 15) ↔ ((refusalOf v ≡ 0) × (tableRefusal t ≡ 0) × (RightForm (tableOf t) im → ⊥))
+  -- the resolver of small images: the numbers in their order, 15 exactly for a wrong form, else the walk's signal
+  pub small : (small v : List ℕ) → SmallAnswers t small v
+  -- no bytes are read as a small image and as an image
+  pub small-or-large : (b v : List ℕ) → OneOfTwo t b v
+  -- with a small image that goes with an image of right form, checked or not, it answers as the machine resolver
+  pub small-machine : (im small v : List ℕ) → RightForm (tableOf t) im → GoesWith t im small → resolvedSmall t small v ≡ machineOf t im v
+  -- the small image that a fitting proposal makes of an image of right form goes with it
+  pub small-proposed : (im p : List ℕ) → RightForm (tableOf t) im → Proposed t im p → GoesWith t im (smallOf (tableOf t) im p)
   -- the early answer has direct resolution's signal too, for every value that the plain resolver accepts
   pub early-signal : (v : List ℕ) → plainOf t v .refusal ≡ 0 → (earlyOf t v .refusal ≡ 0) × (earlyOf t v .signal ≡ plainOf t v .signal)
   -- and which entries it needs is told in the words of the grammar and of the theory, both ways
@@ -151,6 +165,9 @@ pub record Demand3 (t : List ℕ) : Type 0 where
   pub walks : (im : List ℕ) → checkFrom t im ≡ 0 → (before after : List (List ℕ)) → WalkClaim t im before after
   -- for all bytes as a value both resolvers answer alike, in all four numbers
   pub alike : (im : List ℕ) → checkFrom t im ≡ 0 → (v : List ℕ) → machineOf t im v ≡ plainOf t v
+  -- a small image that goes with an accepted image has the same over every list of URIs, and its resolver answers alike
+  pub small-walks : (im small : List ℕ) → checkFrom t im ≡ 0 → GoesWith t im small → (before after : List (List ℕ)) → SmallWalkClaim t small before after
+  pub small-alike : (im small : List ℕ) → checkFrom t im ≡ 0 → GoesWith t im small → (v : List ℕ) → resolvedSmall t small v ≡ plainOf t v
   -- for an accepted value these are the walk's signal over the value's list, the numbers of its used and skipped entries, and 0
   pub answers : (im : List ℕ) → checkFrom t im ≡ 0 → (v : List ℕ) → refusalOf v ≡ 0
       → plainOf t v

@@ -3,6 +3,7 @@ pub mod Demands
 pub mod Feeding
 pub mod Tried
 pub mod BesidePlain
+pub mod BesideMachine
 -- the examples
 pub mod Examples
 pub mod DemandExample

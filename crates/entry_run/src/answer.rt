@@ -74,18 +74,20 @@ fn answer(o: Outcome, signal: u8) -> Resolution
     }
 }
 
-// A whole value, from where a resolver begins; no candidate is tried yet.
+// A whole value, from where a resolver begins; no candidate is tried yet. The states of the image have a byte for each of so many
+// categories: the table's, or none in a small image.
 pub fn resolved(
     t: &[u8],
     d: Decoded,
     index: &[u8; 136],
     symbols: &[u8; 384],
     count: usize,
+    categories: usize,
     image: &[u8],
     from: Current,
     v: &[u8],
 ) -> Ended
-    ensures { λ r. ⌜ r ≡ endedFrom (now (t .entry)) d (record { index = now (index .entry); symbols = now (symbols .entry); count = count; categories = d .categories; image = now (image .entry) }) from (now (v .entry)) ⌝ }
+    ensures { λ r. ⌜ r ≡ endedFrom (now (t .entry)) d (record { index = now (index .entry); symbols = now (symbols .entry); count = count; categories = categories; image = now (image .entry) }) from (now (v .entry)) ⌝ }
 {
     if 4096 < v.len() {
         return Ended {
@@ -93,10 +95,20 @@ pub fn resolved(
             last: from,
         };
     }
-    let o = run(t, d, index, symbols, count, image, begin_at(from), v);
+    let o = run(
+        t,
+        d,
+        index,
+        symbols,
+        count,
+        categories,
+        image,
+        begin_at(from),
+        v,
+    );
     let p = o.point;
     let last = p.current;
-    let signal = signal_in(d.categories, image, last);
+    let signal = signal_in(categories, image, last);
     let answer = answer(o, signal);
     Ended { answer, last }
 }

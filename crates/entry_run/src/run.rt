@@ -240,12 +240,13 @@ pub(crate) fn run(
     index: &[u8; 136],
     symbols: &[u8; 384],
     count: usize,
+    categories: usize,
     image: &[u8],
     from: Point,
     v: &[u8],
 ) -> Outcome
     requires { ⌜ (length (now v) ≤ 4096) × (from .used + from .skipped ≡ 0) × (from .current .tries ≡ 0) ⌝ }
-    ensures ends { λ r. ⌜ r ≡ runFrom (now (t .entry)) d (record { index = now (index .entry); symbols = now (symbols .entry); count = count; categories = d .categories; image = now (image .entry) }) (now (v .entry)) from 0 ⌝ }
+    ensures ends { λ r. ⌜ r ≡ runFrom (now (t .entry)) d (record { index = now (index .entry); symbols = now (symbols .entry); count = count; categories = categories; image = now (image .entry) }) (now (v .entry)) from 0 ⌝ }
     ensures few { λ r. ⌜ r .point .used + r .point .skipped ≤ 4097 ⌝ }
 {
     let mut at = 0;
@@ -279,7 +280,7 @@ pub(crate) fn run(
             index,
             symbols,
             count,
-            d.categories,
+            categories,
             image,
             p,
             u,

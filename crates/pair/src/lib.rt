@@ -39,7 +39,7 @@ fn alone(t: &[u8], d: Decoded, v: &[u8]) -> u8
 {
     let no_index = [0u8; 136];
     let no_symbols = [0u8; 384];
-    let e = resolved(t, d, &no_index, &no_symbols, 0, t, at_start(), v);
+    let e = resolved(t, d, &no_index, &no_symbols, 0, 0, t, at_start(), v);
     let a = e.answer;
     a.signal
 }

@@ -34,7 +34,8 @@ use Rattle.early.specs.FirstEntries.{frontFrom, frontStep}
 use Rattle.early.specs.Early.{earlyOf}
 use Rattle.signal_table.specs.Built.{builtFrom, checkFrom}
 use Rattle.pair.specs.Pair.{apart}
-use Rattle.refusal_numbers.specs.Numbers.{image, wrongImages, manyStates, other, afterValues}
+use Rattle.small_image.specs.Small.{smallForm, smallStateFormed}
+use Rattle.refusal_numbers.specs.Numbers.{image, smaller, wrongImages, manyStates, other, afterValues}
 
 pub many-formed : tableRefusal manyStates ≡ 0
 unfolding all fields labelByte labelOk nameOk onFirst past upTo noCapital storedName urnOk andThen byteIn counted stored storedFrom text times any distinct fewNodes formed isListed judged judgedRead listed noTwo zeroSilent single tableRefusal uses verdict nodes
@@ -88,6 +89,15 @@ right-form = refl
 pub no-form : formOf (tableOf least) [] ≡ false
 unfolding formOf stateFormed each joined nodes leaf fields onFirst past upTo andThen byteIn counted stored storedFrom text times tableOf tableRead
 no-form = refl
+
+-- the same of small images
+pub right-small : smallForm (tableOf least) smaller ≡ true
+unfolding smallForm smallStateFormed each joined nodes leaf fields onFirst past upTo andThen byteIn counted stored storedFrom text times tableOf tableRead
+right-small = refl
+
+pub no-small : smallForm (tableOf least) [] ≡ false
+unfolding smallForm smallStateFormed each joined nodes leaf fields onFirst past upTo andThen byteIn counted stored storedFrom text times tableOf tableRead
+no-small = refl
 
 -- the least table has two signals
 pub two-signals : length (tableOf least .signals) ≡ 2

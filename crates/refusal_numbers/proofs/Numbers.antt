@@ -37,14 +37,16 @@ use Rattle.pair.specs.declared.Pair.{Pair}
 use Rattle.pair.specs.Pair.{pairRefusal, signalIn, refused as noPair, pairOf}
 use Rattle.pair.proofs.PairLaws.{pair-claim}
 use Rattle.available.specs.Available.{availableOf}
+use Rattle.small_image.specs.Small.{smallForm}
+use Rattle.small_resolver.specs.Resolve.{walkedSmall, resolvedSmall}
 use Rattle.demands.specs.Demands.{ValueNumber, EntryNumber, PlainNumber, MachineNumber, AvailableNumber, PairNumber, FeedNumber, BuildNumber, CheckNumber}
-use Rattle.refusal_numbers.specs.Numbers.{EachNumber, image, wrongImages, manyStates, other, afterValues}
+use Rattle.refusal_numbers.specs.Numbers.{EachNumber, image, smaller, wrongImages, manyStates, other, afterValues}
 use Rattle.entry_run.proofs.AnswerLaws.{value-refused, table-refused, none-refused}
 use Rattle.demands.proofs.AvailableLaws.{beside-plain}
 use Rattle.demands.proofs.EarlyLaws.{early-refused, early-signal}
 use Rattle.demands.proofs.OneValueLaws.{one-value}
 use Rattle.demands.proofs.FeedingLaws.{never-refused}
-use Rattle.refusal_numbers.proofs.NumberExamples.{many-formed, over-many, none-early, many-early, fits-room, no-room, right-image, wrong-images, right-form, no-form, two-signals, sixteen-fit, seventeen-unfit, other-formed, other-apart, least-shared}
+use Rattle.refusal_numbers.proofs.NumberExamples.{many-formed, over-many, none-early, many-early, fits-room, no-room, right-image, wrong-images, right-form, no-form, right-small, no-small, two-signals, sixteen-fit, seventeen-unfit, other-formed, other-apart, least-shared}
 
 -- an accepted value
 value : (v : List ℕ) × (refusalOf v ≡ 0)
@@ -129,6 +131,20 @@ unfolding machineOf
 machine-each n (inl e) = (least, image 0 1, value .0, own-number (walked (image 0 1) least (value .0)) ∙ form-number (image 0 1) true right-form ∙ sym e)
 machine-each n (inr (inl h)) = let r = first-numbers (walked []) n (h .0) (h .1) in (r .0, [], r .1, r .2)
 machine-each n (inr (inr e)) = (least, [], value .0, own-number (walked [] least (value .0)) ∙ form-number [] false no-form ∙ sym e)
+
+-- the resolver of small images
+abbrev walkedBy : List ℕ → List ℕ → List ℕ → Resolution
+walkedBy small t v = cond (smallForm (tableOf t) small) (answered t (urisOf v) (walkedSmall t small (urisOf v))) (refused 15)
+
+small-number : (small : List ℕ) (b : Bool) → smallForm (tableOf least) small ≡ b
+    → walkedBy small least (value .0) .refusal ≡ cond b (answered least (urisOf (value .0)) (walkedSmall least small (urisOf (value .0)))) (refused 15) .refusal
+small-number small b f = ap (λ (x : Bool). cond x (answered least (urisOf (value .0)) (walkedSmall least small (urisOf (value .0)))) (refused 15) .refusal) f
+
+small-each : (n : ℕ) → MachineNumber n → (t small v : List ℕ) × (resolvedSmall t small v .refusal ≡ n)
+unfolding resolvedSmall
+small-each n (inl e) = (least, smaller, value .0, own-number (walkedBy smaller least (value .0)) ∙ small-number smaller true right-small ∙ sym e)
+small-each n (inr (inl h)) = let r = first-numbers (walkedBy []) n (h .0) (h .1) in (r .0, [], r .1, r .2)
+small-each n (inr (inr e)) = (least, [], value .0, own-number (walkedBy [] least (value .0)) ∙ small-number [] false no-small ∙ sym e)
 
 -- the empty set has no bit
 no-bit : (t : List ℕ) → Strange t 0 → ⊥
@@ -231,6 +247,7 @@ each-number =
       by-plain = plain-each;
       by-early = early-each;
       by-machine = machine-each;
+      by-small = small-each;
       by-available = available-each;
       by-pair = pair-each;
       by-feed = feed-each;

@@ -13,6 +13,7 @@ use Rattle.resolver.specs.Resolve.{plainOf, machineOf}
 use Rattle.early.specs.Early.{earlyOf}
 use Rattle.available.specs.Available.{availableOf}
 use Rattle.pair.specs.Pair.{pairOf}
+use Rattle.small_resolver.specs.Resolve.{resolvedSmall}
 use Rattle.resolver.specs.Feed.{feedOf}
 use Rattle.demands.specs.Demands.{ValueNumber, EntryNumber, TableNumber, PlainNumber, MachineNumber, AvailableNumber, PairNumber, FeedNumber, BuildNumber, CheckNumber}
 
@@ -23,6 +24,7 @@ pub record EachNumber : Type 0 where
   pub by-plain : (n : ℕ) → PlainNumber n → (t v : List ℕ) × (plainOf t v .refusal ≡ n)
   pub by-early : (n : ℕ) → PlainNumber n → (t v : List ℕ) × (earlyOf t v .refusal ≡ n)
   pub by-machine : (n : ℕ) → MachineNumber n → (t im v : List ℕ) × (machineOf t im v .refusal ≡ n)
+  pub by-small : (n : ℕ) → MachineNumber n → (t small v : List ℕ) × (resolvedSmall t small v .refusal ≡ n)
   pub by-available : (n : ℕ) → AvailableNumber n → (t : List ℕ) × (set : ℕ) × (v : List ℕ) × (availableOf t set v .refusal ≡ n)
   pub by-pair : (n : ℕ) → PairNumber n → (ring lamp v : List ℕ) × (pairOf ring lamp v .refusal ≡ n)
   pub by-feed : (n : ℕ) → FeedNumber n → (t : List ℕ) × (r : Carried) × (v : List ℕ) × (feedOf t r v .answer .refusal ≡ n)
@@ -33,6 +35,10 @@ pub record EachNumber : Type 0 where
 -- state has signal s, and the node leads from it to state j
 abbrev pub image : ℕ → ℕ → List ℕ
 image s j = 2 ∷ 0 ∷ 1 ∷ 0 ∷ 0 ∷ 0 ∷ 1 ∷ 3 ∷ 0 ∷ s ∷ 0 ∷ j ∷ 2 ∷ 1 ∷ 0 ∷ 1 ∷ 1 ∷ 0 ∷ 1 ∷ 2 ∷ 2 ∷ []
+
+-- the small image of the same machine
+abbrev pub smaller : List ℕ
+smaller = 2 ∷ 0 ∷ 1 ∷ 0 ∷ 0 ∷ 0 ∷ 1 ∷ 3 ∷ 0 ∷ 0 ∷ 1 ∷ 2 ∷ 1 ∷ 1 ∷ 1 ∷ 0 ∷ 2 ∷ 2 ∷ []
 
 -- refused with 15 to 17, in this order: no byte; another start; a row that stays
 abbrev pub wrongImages : List (List ℕ)

@@ -44,7 +44,7 @@ pub fn tried(t: &[u8], d: Decoded, v: &[u8]) -> PlainResolution
     }
     let no_index = [0u8; 136];
     let no_symbols = [0u8; 384];
-    let e = resolved(t, d, &no_index, &no_symbols, 0, t, at_start(), v);
+    let e = resolved(t, d, &no_index, &no_symbols, 0, 0, t, at_start(), v);
     let last = e.last;
     with_tries(e.answer, last.tries)
 }

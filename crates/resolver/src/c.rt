@@ -10,6 +10,7 @@ ghost use Rattle.resolver.specs.Feed.{feedOf};
 ghost use Rattle.early.specs.Early.{earlyOf};
 ghost use Rattle.available.specs.Available.{availableOf};
 ghost use Rattle.pair.specs.Pair.{pairOf};
+ghost use Rattle.small_resolver.specs.Resolve.{resolvedSmall};
 
 // typedef struct { uint8_t refusal, signal, used, skipped; } alert_resolution;
 // typedef struct { uint8_t refusal, signal, used, skipped; uint16_t tries; } alert_plain;
@@ -28,6 +29,16 @@ pub extern "C" fn resolve_machine(t: &[u8], image: &[u8], v: &[u8]) -> Resolutio
     ensures { λ r. ⌜ r ≡ machineOf (now (t .entry)) (now (image .entry)) (now (v .entry)) ⌝ }
 {
     crate::machine(t, image, v)
+}
+
+// alert_resolution resolve_small(const uint8_t *table, size_t len, const uint8_t *small, size_t small_len,
+//                                const uint8_t *value, size_t value_len);
+// By a small image, which only this function reads.
+#[no_mangle]
+pub extern "C" fn resolve_small(t: &[u8], small: &[u8], v: &[u8]) -> Resolution
+    ensures { λ r. ⌜ r ≡ resolvedSmall (now (t .entry)) (now (small .entry)) (now (v .entry)) ⌝ }
+{
+    small_resolver::resolve(t, small, v)
 }
 
 // typedef struct { uint8_t signal, status[8], values; } alert_record;

@@ -49,7 +49,7 @@ pub(crate) fn read_from(t: &[u8], d: Decoded, carried: Carried, v: &[u8]) -> Fed
     let start = carried_record::state(carried);
     let no_index = [0u8; 136];
     let no_symbols = [0u8; 384];
-    let e = resolved(t, d, &no_index, &no_symbols, 0, t, at_state(start, 0), v);
+    let e = resolved(t, d, &no_index, &no_symbols, 0, 0, t, at_state(start, 0), v);
     let a = e.answer;
     if a.refusal != 0 {
         return counted(a, carried);

@@ -58,10 +58,10 @@ pub fn machine(t: &[u8], image: &[u8], v: &[u8]) -> Resolution
     if d.refusal != 0 {
         return value_first(v, d.refusal);
     }
-    let categories = d.categories;
+    let cats = d.categories;
     let nodes = d.nodes;
     let signals = d.signals;
-    let s = machine_symbols::list(&d.category, &d.parent, nodes, categories);
+    let s = machine_symbols::list(&d.category, &d.parent, nodes, cats);
     let count = s.count;
     if !machine_checker::form::formed(
         &d.rows,
@@ -72,13 +72,13 @@ pub fn machine(t: &[u8], image: &[u8], v: &[u8]) -> Resolution
         &s.bytes,
         count,
         signals,
-        categories,
+        cats,
         image,
     ) {
         return value_first(v, 15);
     }
     let index = machine_symbols::index(&s.bytes, count);
-    let e = resolved(t, d, &index, &s.bytes, count, image, at_number(0), v);
+    let e = resolved(t, d, &index, &s.bytes, count, cats, image, at_number(0), v);
     e.answer
 }
 

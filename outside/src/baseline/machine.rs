@@ -139,8 +139,23 @@ pub fn build(table: &[u8], buffer: &mut [u8]) -> Result<usize, u8> {
 
 /// The rows of an image of good form: number 15 if it is not.
 pub fn rows<'a>(table: &Decoded, symbols: &Symbols, image: &'a [u8]) -> Result<&'a [u8], u8> {
-    let head = 3 + 3 * symbols.count;
     let own = 1 + table.category_count;
+    let rows = formed(table, symbols, image, own)?;
+    let fits = |row: &[u8]| (0..table.category_count).all(|c| table.fits(row[0], c, row[1 + c]));
+    if !rows.chunks_exact(own + symbols.count).all(fits) {
+        return Err(15);
+    }
+    Ok(rows)
+}
+
+/// The same of a small image, which has no statuses.
+pub fn classes<'a>(table: &Decoded, symbols: &Symbols, small: &'a [u8]) -> Result<&'a [u8], u8> {
+    formed(table, symbols, small, 1)
+}
+
+/// The rows, if all but the statuses is well: each has so many bytes before its targets.
+fn formed<'a>(table: &Decoded, symbols: &Symbols, image: &'a [u8], own: usize) -> Result<&'a [u8], u8> {
+    let head = 3 + 3 * symbols.count;
     let width = own + symbols.count;
     if image.len() < head || image[0] as usize != symbols.count {
         return Err(15);
@@ -156,10 +171,7 @@ pub fn rows<'a>(table: &Decoded, symbols: &Symbols, image: &'a [u8]) -> Result<&
     }
     let last = (count - 1) as u8;
     for row in rows.chunks_exact(width) {
-        if row[0] as usize >= table.signal_count
-            || (0..table.category_count).any(|c| !table.fits(row[0], c, row[1 + c]))
-            || row[own..].iter().any(|&target| target > last)
-        {
+        if row[0] as usize >= table.signal_count || row[own..].iter().any(|&target| target > last) {
             return Err(15);
         }
     }

@@ -1,4 +1,5 @@
 //! The same answers in plain Rust without allocation, written for speed: what the proved libraries are timed against.
+mod classes;
 mod early;
 mod log;
 mod machine;
@@ -10,8 +11,8 @@ mod tree;
 mod urn;
 mod value;
 
-use crate::{Built, Converted, Early, Logs, Made, Match, Pair, Plain, Reader, Record, Resolution};
-use crate::{Resolvers, Samples, Seed, Tables, Tallies, Tally, Trees, Verdict};
+use crate::{Built, Classes, Converted, Early, Logs, Made, Match, Pair, Plain, Reader, Record};
+use crate::{Resolution, Resolvers, Samples, Seed, Tables, Tallies, Tally, Trees, Verdict};
 
 pub struct Baseline;
 
@@ -46,20 +47,32 @@ impl Tables for Baseline {
     }
 
     fn build(table: &[u8], buffer: &mut [u8]) -> Built {
-        match machine::build(table, buffer) {
-            Ok(len) => {
-                buffer[len..].fill(0);
-                Built { refusal: 0, len }
-            }
-            Err(refusal) => {
-                buffer.fill(0);
-                Built { refusal, len: 0 }
-            }
-        }
+        built(machine::build(table, buffer), buffer)
     }
 
     fn check(table: &[u8], image: &[u8]) -> u8 {
         machine::check(table, image).err().unwrap_or(0)
+    }
+}
+
+/// The bytes with zeros behind them, or zeros alone after a refusal.
+fn built(bytes: Result<usize, u8>, buffer: &mut [u8]) -> Built {
+    let len = bytes.unwrap_or(0);
+    buffer[len..].fill(0);
+    Built { refusal: bytes.err().unwrap_or(0), len }
+}
+
+impl Classes for Baseline {
+    fn classes_check(table: &[u8], image: &[u8], classes: &[u8]) -> u8 {
+        classes::check(table, image, classes).err().unwrap_or(0)
+    }
+
+    fn small_write(table: &[u8], image: &[u8], classes: &[u8], buffer: &mut [u8]) -> Built {
+        built(classes::write(table, image, classes, buffer), buffer)
+    }
+
+    fn propose(table: &[u8], image: &[u8], buffer: &mut [u8]) -> Built {
+        built(classes::propose(table, image, buffer), buffer)
     }
 }
 
@@ -70,6 +83,10 @@ impl Resolvers for Baseline {
 
     fn machine(table: &[u8], image: &[u8], value: &[u8]) -> Resolution {
         resolve::machine(table, image, value).unwrap_or_else(Resolution::refused)
+    }
+
+    fn small(table: &[u8], small: &[u8], value: &[u8]) -> Resolution {
+        resolve::small(table, small, value).unwrap_or_else(Resolution::refused)
     }
 
     fn feed(table: &[u8], record: &mut Record, value: &[u8]) -> Resolution {

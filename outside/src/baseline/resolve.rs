@@ -1,5 +1,5 @@
 //! The resolvers.
-use super::machine::{rows, Symbols};
+use super::machine::{classes, rows, Symbols};
 use super::table::{Decoded, State, START};
 use super::value::Uris;
 use crate::{Pair, Plain, Record, Resolution, VALUES};
@@ -60,17 +60,29 @@ pub fn machine(table: &[u8], image: &[u8], value: &[u8]) -> Result<Resolution, u
     let table = Decoded::read(table)?;
     let symbols = Symbols::of(&table);
     let rows = rows(&table, &symbols, image)?;
-    let own = 1 + table.category_count;
+    Ok(walk(&table, &symbols, rows, 1 + table.category_count, value, &uris))
+}
+
+pub fn small(table: &[u8], small: &[u8], value: &[u8]) -> Result<Resolution, u8> {
+    let uris = Uris::read(value)?;
+    let table = Decoded::read(table)?;
+    let symbols = Symbols::of(&table);
+    let rows = classes(&table, &symbols, small)?;
+    Ok(walk(&table, &symbols, rows, 1, value, &uris))
+}
+
+/// The walk of rows whose targets stand behind so many bytes of their own.
+fn walk(table: &Decoded, symbols: &Symbols, rows: &[u8], own: usize, value: &[u8], uris: &Uris) -> Resolution {
     let width = own + symbols.count;
     let mut row = 0;
     let mut used = 0;
     for uri in uris.iter(value) {
         if let Some((category, node, whole)) = table.find(uri) {
-            row = width * rows[row + own + symbols.index(&table, category, node, whole)] as usize;
+            row = width * rows[row + own + symbols.index(table, category, node, whole)] as usize;
             used += 1;
         }
     }
-    Ok(Resolution { refusal: 0, signal: rows[row], used, skipped: uris.count as u8 - used })
+    Resolution { refusal: 0, signal: rows[row], used, skipped: uris.count as u8 - used }
 }
 
 /// The state that a record carries, if it is one of the table.

@@ -6,10 +6,10 @@
 use outside::baseline::Baseline;
 use outside::cases::{show_counts, show_record, show_records, to_hex};
 use outside::random::tables::{self, Draft, Limit};
-use outside::random::{images, logs, records, trees, values, Random};
+use outside::random::{classes, images, logs, records, trees, values, Random};
 use outside::reference::Reference;
-use outside::{Built, Converted, Early, Logs, Made, Match, Pair, Plain, Reader, Record, Resolution};
-use outside::{Resolvers, Samples, Seed, Tables, Tallies, Tally as Counts, Trees, Verdict};
+use outside::{Built, Classes, Converted, Early, Logs, Made, Match, Pair, Plain, Reader, Record};
+use outside::{Resolution, Resolvers, Samples, Seed, Tables, Tallies, Tally as Counts, Trees, Verdict};
 use std::collections::BTreeMap;
 use std::fmt::Debug;
 use std::process::exit;
@@ -18,6 +18,7 @@ use std::time::{Instant, SystemTime, UNIX_EPOCH};
 #[cfg(any(
     feature = "alert_info",
     feature = "signal_table",
+    feature = "small_machine",
     feature = "tree_table",
     feature = "resolver",
     feature = "tally",
@@ -30,7 +31,7 @@ use outside::ours::Ours;
 const LONGEST: usize = 35_459;
 
 /// Every function with the refusal numbers that it may give.
-const FUNCTIONS: [(&str, &[u8]); 20] = [
+const FUNCTIONS: [(&str, &[u8]); 24] = [
     ("alert_info_refusal", &[0, 1, 2, 3]),
     ("alert_info_entries", &[0, 1, 2, 3]),
     ("alert_info_entry", &[0, 1, 2, 3, 18]),
@@ -39,11 +40,15 @@ const FUNCTIONS: [(&str, &[u8]); 20] = [
     ("signal_table_match", &[0, 4, 5, 6, 7, 8, 9, 10, 11, 12]),
     ("machine_build", &[0, 4, 5, 6, 7, 8, 9, 10, 11, 12, 13, 14]),
     ("machine_check", &[0, 4, 5, 6, 7, 8, 9, 10, 11, 12, 15, 16, 17]),
+    ("machine_classes_check", &[0, 4, 5, 6, 7, 8, 9, 10, 11, 12, 15, 16, 17, 27]),
+    ("machine_small_write", &[0, 4, 5, 6, 7, 8, 9, 10, 11, 12, 14, 15, 16, 17, 27]),
+    ("machine_propose", &[0, 4, 5, 6, 7, 8, 9, 10, 11, 12, 14, 15, 16, 17, 27]),
     ("tree_table_refusal", &[0, 4, 5, 6, 7, 8, 9, 10, 11, 21]),
     ("tree_table_from_signal_table", &[0, 4, 5, 6, 7, 8, 9, 10, 11, 12, 22]),
     ("tree_table_to_signal_table", &[0, 4, 5, 6, 7, 8, 9, 10, 11, 21, 22]),
     ("resolve_plain", &[0, 1, 2, 3, 4, 5, 6, 7, 8, 9, 10, 11, 12]),
     ("resolve_machine", &[0, 1, 2, 3, 4, 5, 6, 7, 8, 9, 10, 11, 12, 15]),
+    ("resolve_small", &[0, 1, 2, 3, 4, 5, 6, 7, 8, 9, 10, 11, 12, 15]),
     ("resolve_feed", &[0, 1, 2, 3, 4, 5, 6, 7, 8, 9, 10, 11, 12, 19, 28]),
     ("resolve_early", &[0, 1, 2, 3, 4, 5, 6, 7, 8, 9, 10, 11, 12]),
     ("resolve_available", &[0, 1, 2, 3, 4, 5, 6, 7, 8, 9, 10, 11, 12, 23]),
@@ -160,6 +165,23 @@ fn check<I: Tables>(table: &[u8], image: &[u8]) -> u8 {
     I::check(table, image)
 }
 
+fn classes_check<I: Classes>(table: &[u8], image: &[u8], classes: &[u8]) -> u8 {
+    I::classes_check(table, image, classes)
+}
+
+/// The answer with the whole buffer, which held other bytes before; the same of `propose`.
+fn small_write<I: Classes>(table: &[u8], image: &[u8], classes: &[u8], room: usize) -> (Built, Vec<u8>) {
+    let mut buffer = vec![0xA5; room];
+    let built = I::small_write(table, image, classes, &mut buffer);
+    (built, buffer)
+}
+
+fn propose<I: Classes>(table: &[u8], image: &[u8], room: usize) -> (Built, Vec<u8>) {
+    let mut buffer = vec![0xA5; room];
+    let built = I::propose(table, image, &mut buffer);
+    (built, buffer)
+}
+
 fn tree_refusal<I: Trees>(tree: &[u8]) -> u8 {
     I::tree_refusal(tree)
 }
@@ -183,6 +205,10 @@ fn plain<I: Resolvers>(table: &[u8], value: &[u8]) -> Plain {
 
 fn machine<I: Resolvers>(table: &[u8], image: &[u8], value: &[u8]) -> Resolution {
     I::machine(table, image, value)
+}
+
+fn small<I: Resolvers>(table: &[u8], small: &[u8], value: &[u8]) -> Resolution {
+    I::small(table, small, value)
 }
 
 /// The answer with the record after it.
@@ -340,6 +366,40 @@ fn hold_check(tally: &mut Tally, table: &[u8], image: &[u8]) {
     tally.hold("machine_check", answers[0].1, &answers, line);
 }
 
+/// What is proposed for an image, and the small image of that proposal and of another. The proposer's own is accepted, and
+/// the table's own machine always has one.
+fn hold_classes(tally: &mut Tally, random: &mut Random, table: &[u8], image: &[u8], own_machine: bool) {
+    let (answer, own) = propose::<Reference>(table, image, 256);
+    let room = if own_machine { 256 } else { room_for(random, answer.len).min(300) };
+    let answers = answers!("small_machine", propose, table, image, room);
+    let line = || format!("propose {} {} {room}", to_hex(table), to_hex(image));
+    tally.hold("machine_propose", answers[0].1 .0.refusal, &answers, line);
+    if own_machine && answer.refusal == 27 {
+        println!("no proposal for a built machine: {}", line());
+        tally.wrong += 1;
+    }
+    let own = &own[..answer.len];
+    let symbols = image.first().map_or(0, |&count| count as usize);
+    let states = image.get(1 + 3 * symbols).map_or(1, |&low| low as usize);
+    for proposed in [own.to_vec(), classes::classes(random, own, if own.is_empty() { states } else { own.len() })] {
+        hold_proposal(tally, random, table, image, &proposed);
+    }
+    if answer.refusal == 0 && Reference::classes_check(table, image, own) != 0 {
+        println!("the proposer's own is not accepted: {}", line());
+        tally.wrong += 1;
+    }
+}
+
+fn hold_proposal(tally: &mut Tally, random: &mut Random, table: &[u8], image: &[u8], proposed: &[u8]) {
+    let answers = answers!("small_machine", classes_check, table, image, proposed);
+    let line = || format!("classes {} {} {}", to_hex(table), to_hex(image), to_hex(proposed));
+    tally.hold("machine_classes_check", answers[0].1, &answers, line);
+    let room = room_for(random, small_write::<Reference>(table, image, proposed, LONGEST).0.len);
+    let answers = answers!("small_machine", small_write, table, image, proposed, room);
+    let line = || format!("small {} {} {} {room}", to_hex(table), to_hex(image), to_hex(proposed));
+    tally.hold("machine_small_write", answers[0].1 .0.refusal, &answers, line);
+}
+
 /// Room for any form, for the form itself, or about as much.
 fn room_for(random: &mut Random, length: usize) -> usize {
     match random.below(6) {
@@ -394,6 +454,30 @@ fn hold_resolvers(tally: &mut Tally, table: &[u8], image: &[u8], value: &[u8]) {
     let answers = answers!("resolver", machine, table, image, value);
     let line = || format!("walk {} {} {}", to_hex(table), to_hex(image), to_hex(value));
     tally.hold("resolve_machine", answers[0].1.refusal, &answers, line);
+}
+
+fn hold_small(tally: &mut Tally, table: &[u8], small_image: &[u8], value: &[u8]) -> Resolution {
+    let answers = answers!("resolver", small, table, small_image, value);
+    let line = || format!("smallwalk {} {} {}", to_hex(table), to_hex(small_image), to_hex(value));
+    tally.hold("resolve_small", answers[0].1.refusal, &answers, line);
+    answers[0].1
+}
+
+/// A small image, right or wrong; and the smallest machine of an accepted image, which resolves as direct resolution does.
+fn hold_smaller(tally: &mut Tally, random: &mut Random, table: &[u8], built: &[u8], image: &[u8], value: &[u8]) {
+    hold_small(tally, table, &images::small(random, table, built), value);
+    if Reference::check(table, image) == 0 {
+        let smallest = images::smallest(image);
+        if hold_small(tally, table, &smallest, value) != Reference::plain(table, value).resolution() {
+            println!(
+                "the smallest machine differs: smallwalk {} {} {}",
+                to_hex(table),
+                to_hex(&smallest),
+                to_hex(value)
+            );
+            tally.wrong += 1;
+        }
+    }
 }
 
 /// Bytes that may follow the entries that are needed.
@@ -536,6 +620,9 @@ fn round(tally: &mut Tally, random: &mut Random, other: &mut Vec<u8>) {
     for _ in 0..3 {
         hold_check(tally, &table, &images::image(random, &table, image));
     }
+    hold_classes(tally, random, &table, image, machine.is_some());
+    let changed = images::image(random, &table, image);
+    hold_classes(tally, random, &table, &changed, false);
     hold_from_table(tally, random, &table);
     for _ in 0..2 {
         let tree = trees::stored(random, &draft);
@@ -544,7 +631,9 @@ fn round(tally: &mut Tally, random: &mut Random, other: &mut Vec<u8>) {
     let mut message = Vec::new();
     for _ in 0..4 {
         let value = values::value(random, &draft);
-        let image = images::image(random, &table, image);
+        let built = image;
+        let image = images::image(random, &table, built);
+        hold_smaller(tally, random, &table, built, &image, &value);
         hold_value(tally, random, &value);
         hold_matches(tally, &table, &value);
         hold_resolvers(tally, &table, &image, &value);
@@ -581,6 +670,7 @@ fn limits(tally: &mut Tally, random: &mut Random) {
             hold_sample(tally, random, &table);
         }
         hold_check(tally, &table, &machine);
+        hold_classes(tally, random, &table, &machine, false);
         for value in [&b"<urn:alert:c0:p0>"[..], b"<", b"<a>"] {
             hold_tally(tally, random, &table, value);
             hold_log(tally, &table, &logs::log(&[logs::call(value, logs::right(&table, value))]));
@@ -592,6 +682,7 @@ fn limits(tally: &mut Tally, random: &mut Random) {
             let value = b"<urn:alert:c0:p0>, <urn:alert:c:l1>, <urn:alert:c1:a>";
             hold_matches(tally, &table, value);
             hold_resolvers(tally, &table, &machine, value);
+            hold_smaller(tally, random, &table, &machine, &machine, value);
         }
     }
 }
@@ -636,11 +727,13 @@ fn every_byte(tally: &mut Tally, random: &mut Random) {
     let table = include_bytes!("../../../examples/tables/T1.table");
     let lamps = include_bytes!("../../../examples/tables/T5.table");
     let image = built(table).expect("T1's machine");
+    let small = images::smallest(&image);
     let (answer, mut tree) = from_table::<Reference>(table, 100);
     tree.truncate(answer.len);
     let value = b"<urn:alert:source:internal>;a=\"b\"";
     let log = logs::log(&[logs::call(value, [1, 1, 0]), logs::call(b"<", [0; 3])]);
     for states in [0, 1, 2, 255, 256, 257, 258, 511, 512, 513, 65_535] {
+        hold_small(tally, table, &images::with_classes(&image, states), value);
         let image = images::with_states(&image, states);
         hold_check(tally, table, &image);
         hold_resolvers(tally, table, &image, value);
@@ -669,6 +762,7 @@ fn every_byte(tally: &mut Tally, random: &mut Random) {
             hold_pair(tally, &changed, lamps, value);
             hold_pair(tally, lamps, &changed, value);
             hold_table(tally, random, &changed, &image);
+            hold_proposal(tally, random, &changed, &image, &[0, 1, 2, 3]);
             hold_from_table(tally, random, &changed);
             hold_matches(tally, &changed, value);
             hold_resolvers(tally, &changed, &image, value);
@@ -687,7 +781,13 @@ fn every_byte(tally: &mut Tally, random: &mut Random) {
             let mut changed = image.clone();
             changed[at] = byte;
             hold_check(tally, table, &changed);
+            hold_classes(tally, random, table, &changed, false);
             hold_resolvers(tally, table, &changed, value);
+        }
+        for at in 0..small.len() {
+            let mut changed = small.clone();
+            changed[at] = byte;
+            hold_small(tally, table, &changed, value);
         }
         for at in 0..value.len() {
             let mut changed = value.to_vec();

@@ -1,8 +1,9 @@
-//! Random images: the table's machine, renumbered, enlarged or damaged.
+//! Random images, large and small: the table's machine, renumbered, enlarged or damaged.
 use super::{damage, Random};
 use crate::reference::direct::{read_status, start, State, Status};
 use crate::reference::machine::{discover_from, write_state};
 use crate::reference::table::Table;
+use std::collections::HashMap;
 
 /// The parts of an image of good form.
 struct Parts {
@@ -48,6 +49,33 @@ impl Parts {
         self.rows = rows;
     }
 
+    /// The class of each state: states are told apart by their signals, then by the classes of their targets, until that tells
+    /// no more of them apart.
+    fn classes(&self) -> Vec<usize> {
+        let mut classes = numbered(self.rows.iter().map(|row| vec![row[0] as usize]));
+        loop {
+            let behind = |row: &Vec<u8>| row[self.head..].iter().map(|&target| classes[target as usize]).collect();
+            let keys = self.rows.iter().zip(&classes).map(|(row, &class)| [vec![class], behind(row)].concat());
+            let next = numbered(keys);
+            if next == classes {
+                return classes;
+            }
+            classes = next;
+        }
+    }
+
+    /// The machine of so many states that has these classes of the states as its own, without statuses.
+    fn by_class(&self, classes: &[usize]) -> Parts {
+        let mut rows = Vec::new();
+        for (row, &class) in self.rows.iter().zip(classes) {
+            if class == rows.len() {
+                let targets = row[self.head..].iter().map(|&target| classes[target as usize] as u8);
+                rows.push(std::iter::once(row[0]).chain(targets).collect());
+            }
+        }
+        Parts { symbols: self.symbols.clone(), head: 1, rows }
+    }
+
     /// Repeats a state and leads some targets to the second of the two.
     fn repeat(&mut self, random: &mut Random) {
         if self.rows.len() > 255 {
@@ -77,6 +105,16 @@ impl Parts {
             _ => random.byte(),
         };
     }
+}
+
+/// Equal keys have equal numbers, from 0 as they are first met.
+fn numbered(keys: impl Iterator<Item = Vec<usize>>) -> Vec<usize> {
+    let mut numbers = HashMap::new();
+    keys.map(|key| {
+        let next = numbers.len();
+        *numbers.entry(key).or_insert(next)
+    })
+    .collect()
 }
 
 /// The table's machine with states that no walk reaches, each with the right row. Nothing if there are too many.
@@ -119,14 +157,40 @@ pub fn with_states(built: &[u8], count: usize) -> Vec<u8> {
     parts.bytes()
 }
 
+/// The same of a small image.
+pub fn with_classes(built: &[u8], count: usize) -> Vec<u8> {
+    let Parts { symbols, .. } = parts(built);
+    let row = vec![0; 1 + symbols.len() / 3];
+    Parts { symbols, head: 1, rows: vec![row; count] }.bytes()
+}
+
+/// The smallest machine with the signals of an image of good form, as a small image.
+pub fn smallest(image: &[u8]) -> Vec<u8> {
+    let parts = parts(image);
+    parts.by_class(&parts.classes()).bytes()
+}
+
+/// The table's machine, sometimes with more states.
+fn machine(random: &mut Random, table: &[u8], built: &[u8]) -> Parts {
+    let larger = if random.percent(20) { Table::read(table).ok() } else { None };
+    larger.and_then(|table| enlarged(random, &table)).unwrap_or_else(|| parts(built))
+}
+
 /// An image from the table's machine: right, right in another way, or wrong.
 pub fn image(random: &mut Random, table: &[u8], built: &[u8]) -> Vec<u8> {
-    let mut parts = parts(built);
-    if random.percent(20) {
-        if let Some(larger) = Table::read(table).ok().and_then(|table| enlarged(random, &table)) {
-            parts = larger;
-        }
-    }
+    let parts = machine(random, table, built);
+    changed(random, parts)
+}
+
+/// A small image, mostly of the smallest machine, sometimes with a class for each state.
+pub fn small(random: &mut Random, table: &[u8], built: &[u8]) -> Vec<u8> {
+    let parts = machine(random, table, built);
+    let classes = if random.percent(70) { parts.classes() } else { (0..parts.rows.len()).collect() };
+    changed(random, parts.by_class(&classes))
+}
+
+/// The bytes of a machine, as they are, in another order, or with mistakes.
+fn changed(random: &mut Random, mut parts: Parts) -> Vec<u8> {
     if random.percent(40) {
         parts.renumber(random, false);
     }

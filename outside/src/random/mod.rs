@@ -1,4 +1,5 @@
-//! Random values, tables, images, records and logs, valid and damaged, short and at every limit.
+//! Random values, tables, images, proposals, records and logs, valid and damaged, short and at every limit.
+pub mod classes;
 pub mod images;
 pub mod logs;
 pub mod records;

@@ -55,7 +55,7 @@ fn read_state(table: &Table, stored: &[u8]) -> Option<State> {
     Some(State { signal, status })
 }
 
-fn write_symbol(symbol: &Symbol) -> [u8; 3] {
+pub fn write_symbol(symbol: &Symbol) -> [u8; 3] {
     [symbol.category as u8, symbol.node as u8, symbol.other as u8]
 }
 
@@ -64,7 +64,7 @@ pub fn build(table: &[u8], room: usize) -> Result<Vec<u8>, u8> {
     let table = Table::read(table)?;
     let (states, rows) = discover(&table, 256).ok_or(13)?;
     let mut image = vec![table.symbols.len() as u8];
-    image.extend(table.symbols.iter().flat_map(write_symbol));
+    image.extend(symbol_bytes(&table));
     image.extend((states.len() as u16).to_le_bytes());
     for (state, row) in states.iter().zip(&rows) {
         image.extend(write_state(&table, state));
@@ -76,16 +76,21 @@ pub fn build(table: &[u8], room: usize) -> Result<Vec<u8>, u8> {
     Ok(image)
 }
 
+/// The symbols as stored.
+pub fn symbol_bytes(table: &Table) -> Vec<u8> {
+    table.symbols.iter().flat_map(write_symbol).collect()
+}
+
 /// An image of good form: the states as stored and, for each, one target per symbol.
-struct Image {
-    states: Vec<State>,
-    rows: Vec<Vec<usize>>,
+pub struct Image {
+    pub states: Vec<State>,
+    pub rows: Vec<Vec<usize>>,
 }
 
 /// Number 15: the image ends before its counts or is not as long as they say; its symbols are not those of the table; it
 /// has no state or over 256; a state's signal or one of its targets is not there, or the signal's place does not allow one
 /// of its statuses.
-fn read(table: &Table, image: &[u8]) -> Result<Image, u8> {
+pub fn read(table: &Table, image: &[u8]) -> Result<Image, u8> {
     let symbol_count = *image.first().ok_or(15)? as usize;
     let low = *image.get(1 + 3 * symbol_count).ok_or(15)?;
     let high = *image.get(2 + 3 * symbol_count).ok_or(15)?;
@@ -95,8 +100,7 @@ fn read(table: &Table, image: &[u8]) -> Result<Image, u8> {
     if rest.len() != state_count * (head_length + symbol_count) || !(1..=256).contains(&state_count) {
         return Err(15);
     }
-    let symbols: Vec<u8> = table.symbols.iter().flat_map(write_symbol).collect();
-    if head[1..1 + 3 * symbol_count] != symbols {
+    if head[1..1 + 3 * symbol_count] != symbol_bytes(table) {
         return Err(15);
     }
     let mut read = Image { states: Vec::new(), rows: Vec::new() };

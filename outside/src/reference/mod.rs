@@ -1,6 +1,7 @@
 //! The rules of resolution in plain Rust, one file a section, as simple as possible and with no regard to speed.
 //! A path is a list of names, a signal a list of paths, a state a signal with a status for each category.
 pub mod available;
+pub mod classes;
 pub mod direct;
 pub mod early;
 pub mod fields;
@@ -8,14 +9,15 @@ pub mod log;
 pub mod machine;
 pub mod pair;
 pub mod sample;
+pub mod small;
 pub mod table;
 pub mod tally;
 pub mod tree;
 pub mod urn;
 pub mod value;
 
-use crate::{Built, Converted, Early, Logs, Made, Match, Pair, Plain, Reader, Record, Resolution};
-use crate::{Resolvers, Samples, Seed, Tables, Tallies, Tally, Trees, Verdict};
+use crate::{Built, Classes, Converted, Early, Logs, Made, Match, Pair, Plain, Reader, Record};
+use crate::{Resolution, Resolvers, Samples, Seed, Tables, Tallies, Tally, Trees, Verdict};
 use table::Table;
 
 pub struct Reference;
@@ -50,20 +52,38 @@ impl Tables for Reference {
         }
     }
 
-    /// The buffer has the image and then zeros, or zeros alone after a refusal.
     fn build(table: &[u8], buffer: &mut [u8]) -> Built {
-        buffer.fill(0);
-        match machine::build(table, buffer.len()) {
-            Ok(image) => {
-                buffer[..image.len()].copy_from_slice(&image);
-                Built { refusal: 0, len: image.len() }
-            }
-            Err(refusal) => Built { refusal, len: 0 },
-        }
+        built(machine::build(table, buffer.len()), buffer)
     }
 
     fn check(table: &[u8], image: &[u8]) -> u8 {
         machine::check(table, image).err().unwrap_or(0)
+    }
+}
+
+/// The buffer has the bytes and then zeros, or zeros alone after a refusal.
+fn built(bytes: Result<Vec<u8>, u8>, buffer: &mut [u8]) -> Built {
+    buffer.fill(0);
+    match bytes {
+        Ok(bytes) => {
+            buffer[..bytes.len()].copy_from_slice(&bytes);
+            Built { refusal: 0, len: bytes.len() }
+        }
+        Err(refusal) => Built { refusal, len: 0 },
+    }
+}
+
+impl Classes for Reference {
+    fn classes_check(table: &[u8], image: &[u8], classes: &[u8]) -> u8 {
+        classes::check(table, image, classes).err().unwrap_or(0)
+    }
+
+    fn small_write(table: &[u8], image: &[u8], classes: &[u8], buffer: &mut [u8]) -> Built {
+        built(classes::write(table, image, classes, buffer.len()), buffer)
+    }
+
+    fn propose(table: &[u8], image: &[u8], buffer: &mut [u8]) -> Built {
+        built(classes::propose(table, image, buffer.len()), buffer)
     }
 }
 
@@ -74,6 +94,10 @@ impl Resolvers for Reference {
 
     fn machine(table: &[u8], image: &[u8], value: &[u8]) -> Resolution {
         machine::resolve(table, image, value).unwrap_or_else(Resolution::refused)
+    }
+
+    fn small(table: &[u8], small: &[u8], value: &[u8]) -> Resolution {
+        small::resolve(table, small, value).unwrap_or_else(Resolution::refused)
     }
 
     fn feed(table: &[u8], record: &mut Record, value: &[u8]) -> Resolution {

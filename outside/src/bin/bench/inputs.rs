@@ -2,7 +2,7 @@
 use outside::random::logs;
 use outside::random::tables::{limits, Draft};
 use outside::reference::Reference;
-use outside::{Reader, Tables, Trees};
+use outside::{Classes, Reader, Tables, Trees};
 use std::path::Path;
 
 type Bytes = Vec<u8>;
@@ -12,6 +12,8 @@ pub struct Inputs {
     pub values: Vec<(String, Bytes)>,
     /// Well-formed tables with their machines.
     pub tables: Vec<(String, Bytes, Bytes)>,
+    /// For each of them, the proposed classes and their small image.
+    pub small: Vec<(Bytes, Bytes)>,
     /// The same tables and one more, each with its tree.
     pub trees: Vec<(String, Bytes, Bytes)>,
     /// For each table, a value that it uses.
@@ -90,6 +92,17 @@ pub fn machine(table: &[u8]) -> Bytes {
     buffer
 }
 
+fn smallest(table: &[u8], image: &[u8]) -> (Bytes, Bytes) {
+    let mut classes = vec![0; 256];
+    let proposed = Reference::propose(table, image, &mut classes);
+    classes.truncate(proposed.len);
+    let mut small = vec![0; image.len()];
+    let written = Reference::small_write(table, image, &classes, &mut small);
+    assert_eq!((proposed.refusal, written.refusal), (0, 0));
+    small.truncate(written.len);
+    (classes, small)
+}
+
 fn tree(table: &[u8]) -> Bytes {
     let mut buffer = vec![0; 8192];
     let converted = Reference::from_table(table, &mut buffer);
@@ -139,6 +152,7 @@ impl Inputs {
             table("64 nodes, 256 states, 120 symbols", limit("64 nodes, 256 states, 120 symbols")),
             table("64 nodes with long common beginnings", alike_paths()),
         ];
+        let small = tables.iter().map(|(_, table, image)| smallest(table, image)).collect();
         let countries = ("countries: 13 states".to_string(), example("countries.table"));
         let well_formed = tables.iter().map(|(name, table, _)| (name.clone(), table.clone()));
         let trees = well_formed.chain([countries]).map(|(name, table)| {
@@ -180,7 +194,7 @@ impl Inputs {
         ];
         let fields = ["source:internal", "source:unclassified", "priority:high"].map(|name| urns(&[name], 1));
         let logs = tables[..2].iter().map(|(_, table, _)| full_log(table, &values[1].1)).collect();
-        Inputs { values, tables, trees, used, settled, pairs, fields, logs, refused }
+        Inputs { values, tables, small, trees, used, settled, pairs, fields, logs, refused }
     }
 
     /// Each table with its machine and a value that it uses.

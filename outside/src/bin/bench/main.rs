@@ -13,12 +13,13 @@ use inputs::Inputs;
 use outside::baseline::Baseline;
 use outside::reference::table::Table;
 use outside::reference::Reference;
-use outside::{Logs, Reader, Record, Resolvers, Samples, Seed, Tables, Tallies, Tally, Trees};
+use outside::{Classes, Logs, Reader, Record, Resolvers, Samples, Seed, Tables, Tallies, Tally, Trees};
 use std::hint::black_box;
 
 #[cfg(any(
     feature = "alert_info",
     feature = "signal_table",
+    feature = "small_machine",
     feature = "tree_table",
     feature = "resolver",
     feature = "tally",
@@ -96,6 +97,25 @@ fn table_rows<'a>(inputs: &'a Inputs, rows: &mut Vec<Row<'a>>) {
     }
 }
 
+/// Proposing classes for a machine, checking them, and writing the small image.
+fn class_rows<'a>(inputs: &'a Inputs, rows: &mut Vec<Row<'a>>) {
+    for (name, table, image) in &inputs.tables {
+        rows.push(row!("small_machine", "machine_propose", name.clone(), |I, buffer| {
+            I::propose(black_box(table), black_box(image), &mut buffer[..256])
+        }));
+    }
+    for ((name, table, image), (classes, _)) in inputs.tables.iter().zip(&inputs.small) {
+        rows.push(row!("small_machine", "machine_classes_check", name.clone(), |I, _| {
+            I::classes_check(black_box(table), black_box(image), black_box(classes))
+        }));
+    }
+    for ((name, table, image), (classes, small)) in inputs.tables.iter().zip(&inputs.small) {
+        rows.push(row!("small_machine", "machine_small_write", name.clone(), |I, buffer| {
+            I::small_write(black_box(table), black_box(image), black_box(classes), &mut buffer[..small.len()])
+        }));
+    }
+}
+
 /// Judging trees, and both conversions.
 fn tree_rows<'a>(inputs: &'a Inputs, rows: &mut Vec<Row<'a>>) {
     for (name, _, tree) in &inputs.trees {
@@ -120,6 +140,15 @@ fn resolver_rows<'a>(inputs: &'a Inputs, rows: &mut Vec<Row<'a>>) {
     for (name, table, image, value) in inputs.calls() {
         rows.push(row!("resolver", "resolve_machine", name, |I, _| {
             I::machine(black_box(table), black_box(image), black_box(value))
+        }));
+    }
+}
+
+/// By the smallest machines.
+fn small_rows<'a>(inputs: &'a Inputs, rows: &mut Vec<Row<'a>>) {
+    for ((name, table, _, value), (_, small)) in inputs.calls().zip(&inputs.small) {
+        rows.push(row!("resolver", "resolve_small", name, |I, _| {
+            I::small(black_box(table), black_box(small), black_box(value))
         }));
     }
 }
@@ -239,6 +268,17 @@ fn print_flash(inputs: &Inputs) {
     }
 }
 
+/// Each machine and its small image.
+fn print_small(inputs: &Inputs) {
+    println!("| table | states | classes | machine | small machine | saved |");
+    println!("|---|---:|---:|---:|---:|---:|");
+    for ((name, _, image), (classes, small)) in inputs.tables.iter().zip(&inputs.small) {
+        let count = classes.iter().copied().max().map_or(0, |class| class as usize + 1);
+        let saved = 100.0 * (1.0 - small.len() as f64 / image.len() as f64);
+        println!("| {name} | {} | {count} | {} | {} | {saved:.0}% |", classes.len(), image.len(), small.len());
+    }
+}
+
 fn main() {
     let runs = std::env::args().nth(1).map_or(100, |word| word.parse().expect("a number of runs"));
     #[cfg(all(feature = "signal_table", feature = "resolver"))]
@@ -249,8 +289,10 @@ fn main() {
     let mut rows = Vec::new();
     reader_rows(&inputs, &mut rows);
     table_rows(&inputs, &mut rows);
+    class_rows(&inputs, &mut rows);
     tree_rows(&inputs, &mut rows);
     resolver_rows(&inputs, &mut rows);
+    small_rows(&inputs, &mut rows);
     early_rows(&inputs, &mut rows);
     available_rows(&inputs, &mut rows);
     pair_rows(&inputs, &mut rows);
@@ -265,6 +307,8 @@ fn main() {
     print_stacks(&rows);
     println!("\n## Flash that a table takes, bytes\n");
     print_flash(&inputs);
+    println!("\n## Flash that a machine takes, bytes\n");
+    print_small(&inputs);
     println!("\n## Code and constants of the libraries, bytes\n");
     size::print();
 }

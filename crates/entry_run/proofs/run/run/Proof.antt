@@ -11,10 +11,10 @@ use Rattle.entry_run.proofs.run.run.Statement.{statement}
 use Rattle.entry_run.proofs.run.run.Tie as tie
 
 abbrev Inv-loop : tie.InvT-loop
-Inv-loop t index symbols count image from v d at₀ p₀ at p = (runFrom t d (record { index = index; symbols = symbols; count = count; categories = d .categories; image = image }) v from 0 ≡ runOf from (over v (after t d (record { index = index; symbols = symbols; count = count; categories = d .categories; image = image })) p (readingFrom v at))) × (p .used + p .skipped ≤ at) × (at ≤ length v) × (p .current .tries ≤ 10 * p .used)
+Inv-loop t index symbols count categories image from v d at₀ p₀ at p = (runFrom t d (record { index = index; symbols = symbols; count = count; categories = categories; image = image }) v from 0 ≡ runOf from (over v (after t d (record { index = index; symbols = symbols; count = count; categories = categories; image = image })) p (readingFrom v at))) × (p .used + p .skipped ≤ at) × (at ≤ length v) × (p .current .tries ≤ 10 * p .used)
 
 abbrev μ-loop : tie.MeasureT-loop
-μ-loop t index symbols count image from v d at₀ p₀ at p = length v - at
+μ-loop t index symbols count categories image from v d at₀ p₀ at p = length v - at
 
 loop-holds : tie.Need-loop-holds Inv-loop μ-loop
 unfolding runFrom

@@ -1,0 +1,127 @@
+// The check of a proposal that gives each state of a machine a class, and the proposer, over the machine's rows of bytes.
+//
+// In: rows, any bytes, with the numbers of states, of bytes before a state's targets, and of symbols; a proposal, one class
+// for each state, or the part of a buffer that one is written to. Out: whether the proposal fits, or whether there is one.
+//
+//   numbers.rt  classes by their first states
+//   states.rt   the states that state 0 leads to, and their classes
+mod numbers;
+pub mod states;
+
+ghost use mathlib.Core.Path.{_≡_};
+ghost use mathlib.Core.Bool.{cond};
+ghost use mathlib.Core.Option.{some, none};
+ghost use lib.ListN.{length};
+ghost use Rattle.machine_classes.specs.Refine.{blocks};
+ghost use Rattle.machine_classes.specs.Test.{fits, proposed};
+ghost use Rattle.class_rounds.specs.Stored.{storedMachine, Stored};
+ghost use Rattle.class_check.specs.Check.{storedFits, storedProposed};
+
+// The proposal fits, where x has for each state the first one that behaves as it does.
+fn fits(rows: &[u8], p: &[u8], x: &mut [u8], y: &mut [u8], n: usize, head: usize, k: usize) -> bool
+    requires { ⌜
+        Stored (now rows) n head k × (length (now p) ≡ n) × (now x ≡ blocks (storedMachine (now rows) n head k)) × (length (now y) ≡ n)
+        ⌝ }
+    ensures { λ r. ⌜ r ≡ fits (storedMachine (now (rows .entry)) n head k) (now (p .entry)) ⌝ }
+{
+    if p[0] != 0 {
+        return false;
+    }
+    numbers::first_states(p, y, n);
+    if !numbers::same(y, x) {
+        return false;
+    }
+    let count = states::discover(rows, x, y, n, head, k);
+    states::all_found(p, x, count)
+}
+
+// The check, with two lists of n bytes to work in.
+fn check_in(
+    rows: &[u8],
+    p: &[u8],
+    x: &mut [u8],
+    y: &mut [u8],
+    n: usize,
+    head: usize,
+    k: usize,
+) -> bool
+    requires { ⌜ (length (now p) ≡ n) × (length (now x) ≡ n) × (length (now y) ≡ n) ⌝ }
+    ensures { λ r. ⌜ r ≡ storedFits (now (rows .entry)) n head k (now (p .entry)) ⌝ }
+{
+    if !class_rounds::first_alike(rows, x, y, n, head, k) {
+        return false;
+    }
+    fits(rows, p, x, y, n, head, k)
+}
+
+// There is a machine of n states in the rows, and the proposal p fits it.
+pub fn check(rows: &[u8], p: &[u8], n: usize, head: usize, k: usize) -> bool
+    ensures { λ r. ⌜ r ≡ storedFits (now (rows .entry)) n head k (now (p .entry)) ⌝ }
+{
+    if 256 < n {
+        return false;
+    }
+    if p.len() != n {
+        return false;
+    }
+    let a = 0;
+    let mut x = [0u8; 256];
+    let mut y = [0u8; 256];
+    check_in(rows, p, &mut x[a..n], &mut y[a..n], n, head, k)
+}
+
+// The proposal, where x has for each state the first one that behaves as it does.
+fn number(
+    rows: &[u8],
+    out: &mut [u8],
+    x: &mut [u8],
+    y: &mut [u8],
+    n: usize,
+    head: usize,
+    k: usize,
+) -> bool
+    requires { ⌜
+        Stored (now rows) n head k × (length (now out) ≡ n) × (now x ≡ blocks (storedMachine (now rows) n head k)) × (length (now y) ≡ n)
+        ⌝ }
+    ensures { λ r. ⌜ proposed (storedMachine (now (rows .entry)) n head k) ≡ cond r (some (now (out .exit))) none ⌝ }
+{
+    numbers::number(x, out, n);
+    let count = states::discover(rows, x, y, n, head, k);
+    states::all_found(out, x, count)
+}
+
+// The proposer, with two lists of n bytes to work in.
+fn propose_in(
+    rows: &[u8],
+    out: &mut [u8],
+    x: &mut [u8],
+    y: &mut [u8],
+    n: usize,
+    head: usize,
+    k: usize,
+) -> bool
+    requires { ⌜ (length (now out) ≡ n) × (length (now x) ≡ n) × (length (now y) ≡ n) ⌝ }
+    ensures { λ r. ⌜ storedProposed (now (rows .entry)) n head k ≡ cond r (some (now (out .exit))) none ⌝ }
+{
+    if !class_rounds::first_alike(rows, x, y, n, head, k) {
+        return false;
+    }
+    number(rows, out, x, y, n, head, k)
+}
+
+// Whether some proposal fits the machine of n states in the rows, and then the one with classes numbered by their first
+// states, in a part of n bytes.
+pub fn propose(rows: &[u8], out: &mut [u8], n: usize, head: usize, k: usize) -> bool
+    ensures { λ r. ⌜ (length (now (out .entry)) ≡ n → storedProposed (now (rows .entry)) n head k ≡ cond r (some (now (out .exit))) none) ⌝ }
+{
+    if 256 < n {
+        return false;
+    }
+    if out.len() != n {
+        return false;
+    }
+    let a = 0;
+    let mut x = [0u8; 256];
+    let mut y = [0u8; 256];
+    propose_in(rows, out, &mut x[a..n], &mut y[a..n], n, head, k)
+}

@@ -1,0 +1,4 @@
+pub mod Turns
+pub mod StoredLaws
+pub mod TestLaws
+pub mod RoundLaws

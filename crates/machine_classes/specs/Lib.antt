@@ -1,0 +1,12 @@
+-- Machines by the numbers of their states and symbols, proposals that give each state a class, the smaller machine of a
+-- proposal, and the classes of states of equal behaviour: without bytes and without limits.
+
+-- what a reader has to believe
+pub mod Machine
+pub mod Proposal
+-- what is claimed of it: a test of proposals, and the proposer
+pub mod Refine
+pub mod Test
+pub mod Laws
+pub mod Tables
+pub mod Examples

@@ -1,0 +1,2 @@
+-- what is claimed of small images; it has no definitions of its own
+pub mod SmallDemand
