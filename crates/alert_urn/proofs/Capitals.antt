@@ -1,19 +1,21 @@
 -- Laws of stored names: a look at each byte tells of their form and of capital letters.
-use Prim.Native.Nat.{ℕ, suc, _≤_, _<_}
+use Prim.Native.Nat.{ℕ, zero, suc, _+_, _-_, _≤_, _<_}
 use mathlib.Core.Path.{_≡_, refl, ap, ap₂, sym, _∙_}
-use mathlib.Core.Bool.{Bool, true, false, cond, not, _&&_, and-assoc, and-true, and-false, and-eq-true-iff}
+use mathlib.Core.Bool.{Bool, true, false, cond, _&&_, and-assoc, and-true, and-false, and-eq-true-iff}
 use mathlib.Core.List.{List, [], _∷_}
+use mathlib.Core.Logic.{_⊎_, inl, inr, ⊎-elim}
 use native.Mathlib.Omega.{arith}
-use lib.ListN.{length, getD, take}
-use lib.Seq.{length-take-le}
+use native.Mathlib.Numerals.{add-one}
+use lib.ListN.{length, getD, take, drop}
+use lib.Seq.{length-take-le, take-all}
 use lib.Dec.{eqb, leb}
-use borrow.Author.Tests.{eq-eqb, ne-eqb, eqb-true, lt-leb, leb-true}
+use borrow.Author.Tests.{ne-eqb, eqb-true, lt-leb, leb-true}
 use Rattle.ascii.specs.Ascii.{within}
 use Rattle.text_bytes.specs.Text.{all, upTo, onFirst, fields}
 use Rattle.alert_urn.specs.Names.{labelByte, runBy, labelOk, nameOk, lengthBy}
 use Rattle.alert_urn.specs.Urn.{notCapital, noCapital, storedByte, storedName, urnOk, namesBy}
-use Rattle.text_bytes.proofs.Fields.{byTest, fields-first}
-use Rattle.alert_urn.proofs.Runs.{run-upTo, label-name, name-some, run-fits, bytes-fit}
+use Rattle.text_bytes.proofs.Fields.{byTest, fields-first, part-end}
+use Rattle.alert_urn.proofs.Runs.{run-le, colon-byte, at-byte, run-upTo, label-name, name-some, run-fits, bytes-fit, all-label, part-label, name-run, name-other, two-labels}
 
 -- one byte
 within-to : (lo hi x : ℕ) → within lo hi x ≡ true → (lo ≤ x) × (x ≤ hi)
@@ -45,21 +47,108 @@ module _ (b : ℕ) {x y : Bool} (e : x ≡ within 97 122 b) (t : x ≡ false) (f
       (λ w. ne-eqb b 45 (λ q. omega (arith, within-to 65 90 b w .0)) ∙ sym (rw (sym e ∙ t, w)))
       (λ w. sym (rw (sym e ∙ t, w, sym f ∙ u) (and-true (eqb b 45))))
 
--- before a colon or the end the run is that of all label bytes, and has no capital letter
-stored-run-is : (s : List ℕ) → (runBy storedByte s < length s → getD s (runBy storedByte s) 0 ≡ 58)
+-- before a byte that no label has, or the end, the run is that of all label bytes, and has no capital letter
+stored-run-of : (c : ℕ) → labelByte c ≡ false → (s : List ℕ) → (runBy storedByte s < length s → getD s (runBy storedByte s) 0 ≡ c)
     → (runBy storedByte s ≡ runBy labelByte s) × (all notCapital (take (runBy storedByte s) s) ≡ true)
-unfolding runBy all storedByte labelByte
-stored-run-is [] h = (refl, refl)
-stored-run-is (x ∷ xs) h =
+unfolding runBy all storedByte
+stored-run-of c n [] h = (refl, refl)
+stored-run-of c n (x ∷ xs) h =
     byTest (storedByte x)
     (λ e.
     let a = and-eq-true-iff (labelByte x) (notCapital x) .0 e in
-    let k = stored-run-is xs (λ l. simp e at h (omega arith)) in
+    let k = stored-run-of c n xs (λ l. simp e at h (omega arith)) in
     simp (a .0, a .1) (ap suc (k .0), k .1))
     (λ e.
-    let q : x ≡ 58 = simp e at h (omega arith) in
-    let l : labelByte x ≡ false = ap labelByte q in
+    let q : x ≡ c = simp e at h (omega arith) in
+    let l : labelByte x ≡ false = ap labelByte q ∙ n in
     simp l (refl, refl))
+
+stored-run-is : (s : List ℕ) → (runBy storedByte s < length s → getD s (runBy storedByte s) 0 ≡ 58)
+    → (runBy storedByte s ≡ runBy labelByte s) × (all notCapital (take (runBy storedByte s) s) ≡ true)
+stored-run-is = stored-run-of 58 colon-byte
+
+-- where the run ends within a text, there is a capital letter, or no label goes on
+run-ends : (s : List ℕ) → runBy storedByte s < length s → (noCapital s ≡ false) ⊎ (runBy storedByte s ≡ runBy labelByte s)
+unfolding runBy noCapital all storedByte
+run-ends [] h = absurd (omega arith)
+run-ends (x ∷ xs) h =
+    byTest (labelByte x)
+    (λ e.
+    byTest (notCapital x)
+    (λ f. ⊎-elim (λ q. inl (simp f q)) (λ q. inr (simp (e, f) (ap suc q))) (run-ends xs (omega (arith, simp (e, f) at h))))
+    (λ f. inl (simp f)))
+    (λ e. inr (simp e))
+
+-- a test of a text by its front, one byte and the rest
+all-front : (p : ℕ → Bool) (s : List ℕ) (n : ℕ) → all p (take n s) ≡ true → n < length s → p (getD s n 0) ≡ true → all p s ≡ all p (drop (suc n) s)
+unfolding all
+all-front p [] n t h q = absurd (omega arith)
+all-front p (x ∷ xs) zero t h q = simp q
+all-front p (x ∷ xs) (suc n) t h q =
+    let a = and-eq-true-iff (p x) (all p (take n xs)) .0 t in
+    simp (a .0) (all-front p xs n (a .1) (omega arith) q)
+
+-- a stored label, and a stored name, by the run
+module _ (s : List ℕ) (n : ℕ) (e : n ≡ runBy storedByte s) where
+  stored-le : n ≤ length s
+  stored-le = omega (arith, run-le storedByte s)
+
+  -- what the run is before `@` or the end
+  module _ (h : n < length s → getD s n 0 ≡ 64) where
+    at-run : (n ≡ runBy labelByte s) × (all notCapital (take n s) ≡ true)
+    at-run = rw e (stored-run-of 64 at-byte s (rw e at h))
+
+    pub at-run-label : n ≡ runBy labelByte s
+    at-run-label = at-run .0
+
+  module _ (h : n ≡ length s) where
+    ends : n < length s → getD s n 0 ≡ 64
+    ends l = absurd (omega arith)
+
+    pub end-run-label : n ≡ runBy labelByte s
+    end-run-label = at-run ends .0
+
+    small : noCapital s ≡ true
+    unfolding noCapital
+    small = ap (all notCapital) (sym (take-all n s (omega arith))) ∙ at-run ends .1
+
+    pub stored-label-run : {b : Bool} → b ≡ labelOk (take n s) → b ≡ (noCapital s && labelOk s)
+    stored-label-run f = all-label s n end-run-label h f ∙ sym (rw small)
+
+    pub stored-name-run : {b : Bool} → b ≡ labelOk (take n s) → b ≡ storedName s
+    unfolding storedName
+    stored-name-run f = name-run s n end-run-label h f ∙ sym (rw small)
+
+  module _ (h : n ≡ length s → ⊥) where
+    inside : runBy storedByte s < length s
+    inside = omega (arith, stored-le)
+
+    pub stored-within : n < length s
+    stored-within = omega (arith, stored-le)
+
+    pub stored-label-other : false ≡ (noCapital s && labelOk s)
+    stored-label-other =
+        ⊎-elim (λ q. sym (rw q)) (λ q. sym (rw (sym (part-label s n (e ∙ q) h)) (and-false (noCapital s)))) (run-ends s inside)
+
+    pub stored-name-other : (getD s n 0 ≡ 64 → ⊥) → false ≡ storedName s
+    unfolding storedName
+    stored-name-other k =
+        ⊎-elim (λ q. sym (rw q)) (λ q. sym (rw (sym (name-other s n (e ∙ q) h k)) (and-false (noCapital s)))) (run-ends s inside)
+
+    module _ (k : getD s n 0 ≡ 64) {b : Bool} (f : b ≡ labelOk (take n s)) where
+      rest-small : noCapital s ≡ noCapital (drop (n + 1) s)
+      unfolding noCapital
+      rest-small = all-front notCapital s n (at-run (λ l. k) .1) stored-within (ap notCapital k) ∙ ap (λ i. all notCapital (drop i s)) (sym (add-one n))
+
+      pub stored-second : {r : Bool} → b ≡ true → r ≡ (noCapital (take (length s - (n + 1)) (drop (n + 1) s)) && labelOk (take (length s - (n + 1)) (drop (n + 1) s))) → r ≡ storedName s
+      unfolding storedName
+      stored-second t g =
+          g ∙ ap (λ l. noCapital l && labelOk l) (part-end s (n + 1))
+          ∙ sym (rw (rest-small, two-labels s n (at-run-label (λ l. k)) h k f, ← f, t))
+
+      pub stored-first : b ≡ false → false ≡ storedName s
+      unfolding storedName
+      stored-first t = sym (rw (two-labels s n (at-run-label (λ l. k)) h k f, ← f, t) (and-false (noCapital s)))
 
 pub stored-some : (l : List ℕ) → storedName l ≡ true → 0 < length l
 unfolding storedName

@@ -1,53 +1,18 @@
 -- Letter case: laws of the forms.
-use Prim.Native.Nat.{ℕ, zero, suc, _+_, _-_, _≤_, _<_}
-use mathlib.Core.Path.{_≡_, refl, ap, ap₂, sym, _∙_}
+use Prim.Native.Nat.{ℕ, zero, suc, _+_, _-_, _≤_}
+use mathlib.Core.Path.{_≡_, refl, ap, ap₂, _∙_}
 use mathlib.Core.Logic.{inl}
-use mathlib.Core.Bool.{Bool, true, false, not, _&&_, _||_, and-true}
+use mathlib.Core.Bool.{Bool, true, false, not, _&&_, _||_}
 use mathlib.Core.List.{List, [], _∷_, map}
 use native.Mathlib.Omega.{arith}
-use native.Mathlib.Numerals.{add-one}
-use lib.ListN.{length, getD, drop, drop-of-length-le}
-use lib.Seq.{drop-cons}
+use lib.ListN.{length, getD, drop}
 use lib.Dec.{eqb, leb}
 use borrow.Author.Tests.{le-leb}
 use Rattle.ascii.specs.Ascii.{within, bytes}
 use Rattle.text_bytes.specs.Text.{all, upTo, past, fields, lower, lowered}
 use Rattle.alert_urn.specs.Names.{labelByte, labelOk, nameOk}
-use Rattle.alert_urn.specs.Urn.{notCapital, noCapital, begins, restOk, alertUrn, storedName}
+use Rattle.alert_urn.specs.Urn.{begins, restOk, alertUrn}
 use Rattle.text_bytes.proofs.Cases.{lower-cases, lower-other, lowered-length, lowered-upTo, lowered-past, lowered-drop, lower-twice, fields-case}
-
--- no capital letter so far
-module _ (s : List ℕ) (i : ℕ) (a : Bool) (v : noCapital s ≡ (not a && all notCapital (drop i s))) where
-  pub small-more : {b r : Bool} → i < length s → b ≡ within 65 90 (getD s i 0) → r ≡ (b || a) → noCapital s ≡ (not r && all notCapital (drop (i + 1) s))
-  unfolding all
-  small-more {b} {r} h e f =
-      let rest : Bool = all notCapital (drop (i + 1) s) in
-      let one : drop i s ≡ getD s i 0 ∷ drop (i + 1) s = drop-cons s i 0 h ∙ ap (λ k. getD s i 0 ∷ drop k s) (sym (add-one i)) in
-      v ∙ ap (λ l. not a && all notCapital l) one
-      ∙ ap (λ z. not a && (not z && rest)) (sym e) ∙ go a b rest ∙ ap (λ z. not z && rest) (sym f)
-    where
-      go : (x y z : Bool) → (not x && (not y && z)) ≡ (not (y || x) && z)
-      go true true z = refl
-      go true false z = refl
-      go false true z = refl
-      go false false z = refl
-
-  pub small-end : length s ≤ i → not a ≡ noCapital s
-  unfolding all
-  small-end h = sym (v ∙ ap (λ z. not a && all notCapital z) (drop-of-length-le s {i = i} h) ∙ and-true (not a))
-
-pub small-start : (s : List ℕ) → noCapital s ≡ (not false && all notCapital (drop 0 s))
-unfolding noCapital
-small-start s = refl
-
--- the stored forms
-pub name-small : (s : List ℕ) {a b : Bool} → a ≡ noCapital s → a ≡ true → b ≡ nameOk s → b ≡ storedName s
-unfolding storedName
-name-small s e t f = f ∙ sym (rw (sym e ∙ t))
-
-pub name-capital : (s : List ℕ) {a : Bool} → a ≡ noCapital s → a ≡ false → false ≡ storedName s
-unfolding storedName
-name-capital s e t = sym (rw (sym e ∙ t))
 
 -- the form of a URI has no regard to letter case
 in-range : (lo hi x : ℕ) → lo ≤ x → x ≤ hi → within lo hi x ≡ true

@@ -13,7 +13,7 @@ use borrow.Author.Tests.{eq-eqb, ne-eqb, leb-true}
 use Rattle.ascii.specs.Ascii.{within}
 use Rattle.text_bytes.specs.Text.{all, upTo, past}
 use Rattle.alert_urn.specs.Names.{labelByte, runBy, labelOk, nameOk, lengthBy}
-use Rattle.text_bytes.proofs.Fields.{byTest, upTo-take}
+use Rattle.text_bytes.proofs.Fields.{byTest, upTo-take, past-drop, part-end}
 
 -- the run, one byte further
 module _ (p : ℕ → Bool) (s : List ℕ) (i : ℕ) where
@@ -54,14 +54,35 @@ run-short (x ∷ xs) h =
 other-byte : (c x : ℕ) → labelByte c ≡ false → labelByte x ≡ true → eqb x c ≡ false
 other-byte c x n e = ne-eqb x c (λ q. false≢true (sym n ∙ ap labelByte (sym q) ∙ e))
 
+-- before a byte that no label has, or the end, the run is what stands up to that byte
+run-upTo-of : (c : ℕ) → labelByte c ≡ false → (s : List ℕ) → (runBy labelByte s < length s → getD s (runBy labelByte s) 0 ≡ c) → upTo c s ≡ take (runBy labelByte s) s
+unfolding runBy upTo
+run-upTo-of c n [] h = refl
+run-upTo-of c n (x ∷ xs) h =
+    byTest (labelByte x)
+    (λ e. simp (e, other-byte c x n e) (ap (λ (l : List ℕ). x ∷ l) (run-upTo-of c n xs (λ k. simp e at h (omega arith)))))
+    (λ e. simp (e, eq-eqb x c (simp e at h (omega arith))))
+
+pub colon-byte : labelByte 58 ≡ false
+unfolding labelByte
+colon-byte = refl
+
+pub at-byte : labelByte 64 ≡ false
+unfolding labelByte
+at-byte = refl
+
 -- before a colon or the end the run is what stands up to the colon
 pub run-upTo : (s : List ℕ) → (runBy labelByte s < length s → getD s (runBy labelByte s) 0 ≡ 58) → upTo 58 s ≡ take (runBy labelByte s) s
-unfolding runBy upTo labelByte
-run-upTo [] h = refl
-run-upTo (x ∷ xs) h =
+run-upTo = run-upTo-of 58 colon-byte
+
+-- before another byte than `@` the text up to the first `@` is no label either
+run-other : (s : List ℕ) → runBy labelByte s < length s → (getD s (runBy labelByte s) 0 ≡ 64 → ⊥) → all labelByte (upTo 64 s) ≡ false
+unfolding runBy upTo all
+run-other [] h k = absurd (omega arith)
+run-other (x ∷ xs) h k =
     byTest (labelByte x)
-    (λ e. simp (e, other-byte 58 x refl e) (ap (λ (l : List ℕ). x ∷ l) (run-upTo xs (λ k. simp e at h (omega arith)))))
-    (λ e. simp (e, eq-eqb x 58 (simp e at h (omega arith))))
+    (λ e. simp (e, other-byte 64 x at-byte e) (run-other xs (omega (arith, simp e at h)) (λ q. simp e at k q)))
+    (λ e. simp (ne-eqb x 64 (λ q. simp e at k q), e))
 
 -- there is no `@` in a label
 no-at : (l : List ℕ) → all labelByte l ≡ true → past 64 l ≡ []
@@ -111,6 +132,33 @@ module _ (s : List ℕ) (n : ℕ) (e : n ≡ runBy labelByte s) where
   pub part-label : (n ≡ length s → ⊥) → false ≡ labelOk s
   unfolding labelOk
   part-label h = sym (simp (run-short s (omega (arith, run-fits)), and-false))
+
+  -- a name that is all run
+  pub name-run : {b : Bool} → n ≡ length s → b ≡ labelOk (take n s) → b ≡ nameOk s
+  name-run h f = f ∙ sym (label-name (take n s) bytes-fit) ∙ ap nameOk (take-all n s (omega arith))
+
+  -- a name with other bytes after the run
+  pub name-other : (n ≡ length s → ⊥) → (getD s n 0 ≡ 64 → ⊥) → false ≡ nameOk s
+  unfolding nameOk labelOk
+  name-other h k =
+      let o : all labelByte (upTo 64 s) ≡ false = run-other s (omega (arith, run-fits)) (rw e at k) in
+      sym (simp (run-short s (omega (arith, run-fits)), o, and-false))
+
+  -- a name with a provider
+  module _ (h : n ≡ length s → ⊥) (k : getD s n 0 ≡ 64) {b : Bool} (f : b ≡ labelOk (take n s)) where
+    pub two-labels : nameOk s ≡ (labelOk (take n s) && labelOk (drop (n + 1) s))
+    unfolding nameOk
+    two-labels =
+        let u : upTo 64 s ≡ take n s = rw e (run-upTo-of 64 at-byte s (λ l. rw e at k)) in
+        let l : length (upTo 64 s) ≡ n = ap length u ∙ length-take-le n s run-fits in
+        let p : past 64 s ≡ drop (n + 1) s = sym (past-drop 64 s) ∙ ap (λ i. drop i s) (ap suc l ∙ sym (add-one n)) in
+        simp (← part-label h, u, p)
+
+    pub name-second : {r : Bool} → b ≡ true → r ≡ labelOk (take (length s - (n + 1)) (drop (n + 1) s)) → r ≡ nameOk s
+    name-second t g = g ∙ ap labelOk (part-end s (n + 1)) ∙ sym (two-labels ∙ simp (← f, t))
+
+    pub name-first : b ≡ false → false ≡ nameOk s
+    name-first t = sym (two-labels ∙ simp (← f, t))
 
   -- the name at the front is the run where a colon or the end follows
   module _ (h : n < length s → getD s n 0 ≡ 58) {b : Bool} (f : b ≡ labelOk (take n s)) where

@@ -5,7 +5,7 @@ use mathlib.Core.Bool.{Bool, true, false, cond, and-false, and-true}
 use mathlib.Core.List.{List, [], _∷_, _++_}
 use native.Mathlib.Numerals.{add-one}
 use native.Mathlib.Omega.{arith}
-use native.Mathlib.Nat.{zero-add, sub-zero}
+use native.Mathlib.Nat.{zero-add}
 use lib.ListN.{length, getD, take, drop, length-drop, drop-of-length-le, take-append-drop}
 use lib.Seq.{drop-cons, take-all}
 use lib.Dec.{leb}
@@ -13,34 +13,11 @@ use borrow.Author.Tests.{eq-eqb, ne-eqb}
 use Rattle.resolution.specs.Names.{sameName}
 use Rattle.resolution.proofs.Names.{name-exact}
 use Rattle.text_bytes.specs.Text.{all, upTo, past, fields, lower}
-use Rattle.alert_urn.specs.Names.{nameOk, lengthBy, labelOk}
+use Rattle.alert_urn.specs.Names.{nameOk, lengthBy}
 use Rattle.ascii.specs.Ascii.{bytes}
 use Rattle.alert_urn.specs.Urn.{begins, namesBy, restOk, alertUrn}
-use Rattle.text_bytes.proofs.Fields.{byTest, upTo-take, upTo-le, past-drop, past-at, part-end, fields-first, fields-more, fields-last}
+use Rattle.text_bytes.proofs.Fields.{byTest, upTo-le, past-at, part-end, fields-first, fields-more, fields-last}
 use Rattle.alert_urn.proofs.Runs.{length-bad, length-good}
-
--- a name with a provider
-module _ (s : List ℕ) (i : ℕ) {b₁ : Bool} (e : i ≡ length (upTo 64 s)) (f₁ : b₁ ≡ labelOk s) (t₁ : b₁ ≡ false) where
-  one : take (i - 0) (drop 0 s) ≡ upTo 64 s
-  one = simp (sub-zero, e) (upTo-take 64 s)
-
-  two : take (length s - (i + 1)) (drop (i + 1) s) ≡ past 64 s
-  two = part-end s (i + 1) ∙ rw (add-one, e) (past-drop 64 s)
-
-  pub name-second : {b₂ b₃ : Bool} → b₂ ≡ labelOk (take (i - 0) (drop 0 s)) → b₂ ≡ true → b₃ ≡ labelOk (take (length s - (i + 1)) (drop (i + 1) s)) → b₃ ≡ nameOk s
-  unfolding nameOk
-  name-second f₂ t₂ f₃ =
-      f₃ ∙ simp (sym f₁ ∙ t₁, ← two, ← one, sym f₂ ∙ t₂)
-
-  pub name-first : {b₂ : Bool} → b₂ ≡ labelOk (take (i - 0) (drop 0 s)) → b₂ ≡ false → false ≡ nameOk s
-  unfolding nameOk
-  name-first f₂ t₂ = simp (sym f₁ ∙ t₁, ← one, sym f₂ ∙ t₂)
-
-  pub name-none : length s ≤ i → false ≡ nameOk s
-  unfolding nameOk labelOk
-  name-none h =
-      let z : past 64 s ≡ [] = sym (past-drop 64 s) ∙ drop-of-length-le s {i = suc (length (upTo 64 s))} (omega (arith, e)) in
-      simp (sym f₁ ∙ t₁, z, and-false)
 
 -- `urn:alert:`, byte by byte
 abbrev pub scheme : List ℕ

@@ -66,22 +66,21 @@ fn label(s: &[u8]) -> bool
     false
 }
 
-// A category or part: one label, or two with `@` between them.
+// A category or part: one label, or two with `@` between them. Each byte is looked at once.
 pub fn name(s: &[u8]) -> bool
     ensures { λ r. ⌜ r ≡ nameOk (now (s .entry)) ⌝ }
 {
-    if label(s) {
-        return true;
-    }
-    let a = 0;
-    let i = text_bytes::cut::find(s, 64);
+    let k = label_run(s);
     let n = s.len();
-    if i < n {
-        let j = i + 1;
-        if label(&s[a..i]) {
-            return label(&s[j..n]);
-        }
+    if k == n {
+        return run_label(s, k);
+    }
+    if s[k] != 64 {
         return false;
+    }
+    if run_label(s, k) {
+        let j = k + 1;
+        return label(&s[j..n]);
     }
     false
 }

@@ -1,7 +1,8 @@
 // Names as a table stores them, without capital letters: one look at each byte tells of form and letter case.
 ghost use mathlib.Core.Path.{_≡_};
-ghost use Rattle.alert_urn.specs.Names.{runBy, lengthBy};
-ghost use Rattle.alert_urn.specs.Urn.{storedByte, storedName, namesBy};
+ghost use mathlib.Core.Bool.{_&&_};
+ghost use Rattle.alert_urn.specs.Names.{runBy, labelOk, lengthBy};
+ghost use Rattle.alert_urn.specs.Urn.{noCapital, storedByte, storedName, namesBy};
 
 // A small letter, a digit or a hyphen.
 fn stored_byte(b: u8) -> bool
@@ -31,13 +32,43 @@ fn stored_run(s: &[u8]) -> usize
     i
 }
 
+// A label without capital letters.
+fn stored_label(s: &[u8]) -> bool
+    ensures { λ r. ⌜ r ≡ (noCapital (now (s .entry)) && labelOk (now (s .entry))) ⌝ }
+{
+    let k = stored_run(s);
+    if k == s.len() {
+        return crate::names::run_label(s, k);
+    }
+    false
+}
+
+// A name as a table stores it: without capital letters.
+pub(crate) fn name(s: &[u8]) -> bool
+    ensures { λ r. ⌜ r ≡ storedName (now (s .entry)) ⌝ }
+{
+    let k = stored_run(s);
+    let n = s.len();
+    if k == n {
+        return crate::names::run_label(s, k);
+    }
+    if s[k] != 64 {
+        return false;
+    }
+    if crate::names::run_label(s, k) {
+        let j = k + 1;
+        return stored_label(&s[j..n]);
+    }
+    false
+}
+
 // How long the name up to the first colon or the end is, or 0 if it is of bad form.
 fn any_stored_end(s: &[u8]) -> usize
     ensures { λ r. ⌜ r ≡ lengthBy storedName (now (s .entry)) ⌝ }
 {
     let a = 0;
     let e = text_bytes::cut::find(s, 58);
-    if crate::urn::stored_name(&s[a..e]) {
+    if name(&s[a..e]) {
         return e;
     }
     0

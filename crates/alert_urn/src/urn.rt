@@ -1,35 +1,11 @@
 // Alert URNs in a value, without regard to letter case, and the forms that a table stores.
 ghost use mathlib.Core.Path.{_≡_};
-ghost use mathlib.Core.Bool.{_||_};
 ghost use Rattle.ascii.specs.Ascii.{bytes};
 ghost use Rattle.alert_urn.specs.Names.{nameOk};
-ghost use Rattle.alert_urn.specs.Urn.{noCapital, begins, namesBy, restOk, alertUrn, storedName, urnOk};
+ghost use Rattle.alert_urn.specs.Urn.{begins, namesBy, restOk, alertUrn, storedName, urnOk};
 
 // urn:alert:
 const SCHEME: [u8; 10] = [117, 114, 110, 58, 97, 108, 101, 114, 116, 58];
-
-// Either of two.
-fn either(a: bool, b: bool) -> bool
-    ensures { λ r. ⌜ r ≡ (a || b) ⌝ }
-{
-    if a {
-        return true;
-    }
-    b
-}
-
-// The text has no capital letter.
-fn no_capital(s: &[u8]) -> bool
-    ensures { λ r. ⌜ r ≡ noCapital (now (s .entry)) ⌝ }
-{
-    let mut capital = false;
-    let mut i = 0;
-    while i < s.len() {
-        capital = either(text_bytes::compare::in_range(s[i], 65, 90), capital);
-        i += 1;
-    }
-    !capital
-}
 
 // The URI begins with `urn:alert:`, capitals or not. Small letters are the usual case: they are compared at once.
 fn begins_alert(s: &[u8]) -> bool
@@ -101,10 +77,7 @@ pub fn is_alert_urn(uri: &[u8]) -> bool
 pub fn stored_name(s: &[u8]) -> bool
     ensures { λ r. ⌜ r ≡ storedName (now (s .entry)) ⌝ }
 {
-    if no_capital(s) {
-        return crate::names::name(s);
-    }
-    false
+    crate::stored::name(s)
 }
 
 // A URN as a table stores it: a category and 1 to 8 parts, without capital letters.

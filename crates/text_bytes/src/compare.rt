@@ -1,5 +1,6 @@
 // Texts compared byte by byte, eight bytes at once where there are eight.
 ghost use mathlib.Core.Path.{_≡_};
+ghost use mathlib.Core.Bool.{true, false};
 ghost use Prim.Native.Nat.{_≤_, _<_, _+_, min};
 ghost use lib.ListN.{length, drop, getD};
 ghost use Rattle.resolution.specs.Names.{sameName};
@@ -57,8 +58,26 @@ fn same_from(a: &[u8], b: &[u8], from: usize) -> bool
     true
 }
 
-// Two texts are equal.
-pub fn same(a: &[u8], b: &[u8]) -> bool
+// Two texts of one length have other last bytes. Those that are not equal often differ there.
+fn ends_differ(a: &[u8], b: &[u8]) -> bool
+    ensures { λ r. ⌜ (r ≡ true → false ≡ sameName (now (a .entry)) (now (b .entry))) ⌝ }
+{
+    let n = a.len();
+    if n != b.len() {
+        return false;
+    }
+    if n < 8 {
+        return false;
+    }
+    let last = n - 8;
+    if word_at(a, last) == word_at(b, last) {
+        return false;
+    }
+    true
+}
+
+// Two texts are equal, from the first byte on.
+fn same_words(a: &[u8], b: &[u8]) -> bool
     ensures { λ r. ⌜ r ≡ sameName (now (a .entry)) (now (b .entry)) ⌝ }
 {
     let n = a.len();
@@ -74,6 +93,16 @@ pub fn same(a: &[u8], b: &[u8]) -> bool
         return same_from(a, b, i);
     }
     false
+}
+
+// Two texts are equal.
+pub fn same(a: &[u8], b: &[u8]) -> bool
+    ensures { λ r. ⌜ r ≡ sameName (now (a .entry)) (now (b .entry)) ⌝ }
+{
+    if ends_differ(a, b) {
+        return false;
+    }
+    same_words(a, b)
 }
 
 // The lesser of two numbers.

@@ -1,76 +1,79 @@
-use Rattle.alert_urn.specs.Names.{nameOk}
-use Rattle.alert_urn.proofs.Turns.{name-second, name-first, name-none}
-use mathlib.Core.Path.{sym, _∙_}
+use native.Mathlib.Omega.{arith}
+use Rattle.alert_urn.proofs.Runs.{run-fits, name-run, name-other, name-second, name-first}
 use borrow.Author.Needs.{needs}
 use Rattle.alert_urn.proofs.names.name.Statement.{statement}
 use Rattle.alert_urn.proofs.names.name.Tie as tie
 
-label-requires : tie.Need-label-requires
-label-requires c κs = search needs
+label-run-requires : tie.Need-label-run-requires
+label-run-requires c κs = search needs
+
+run-label-requires : tie.Need-run-label-requires
+run-label-requires c κs = search needs
 
 returns : tie.Need-returns
-unfolding nameOk
-returns c = simp (sym (c .before .label .ensures) ∙ c .if1 .taken)
+returns c =
+    name-run (c .before .before .before .before .args .s .now) (c .before .before .label-run .result) (c .before .before .label-run .ensures)
+    (c .before .if1 .taken) (c .run-label .ensures)
 
-find-requires : tie.Need-find-requires
-find-requires c κs = search needs
+shared-slice-read-if2 : tie.Need-shared-slice-read-if2
+shared-slice-read-if2 c =
+    omega (arith, run-fits (c .before .before .before .before .args .s .now) (c .before .before .label-run .result) (c .before .before .label-run .ensures), c .before .if1 .left)
+
+returns-2 : tie.Need-returns-2
+returns-2 c =
+    let l = c .before .before .before in
+    name-other (l .before .before .args .s .now) (l .label-run .result) (l .label-run .ensures) (c .before .before .if1 .left) (c .if2 .taken)
+
+run-label-requires-2 : tie.Need-run-label-requires-2
+run-label-requires-2 c κs = search needs
 
 add-j : tie.Need-add-j
-add-j c = search needs
+add-j c =
+    let l = c .before .before .before .before .before in
+    omega (arith, run-fits (l .before .before .args .s .now) (l .label-run .result) (l .label-run .ensures), c .before .before .before .before .if1 .left)
 
 sub-label : tie.Need-sub-label
-sub-label c = search needs
+sub-label c =
+    let l = c .before .before .before .before .before in
+    omega (arith, run-fits (l .before .before .args .s .now) (l .label-run .result) (l .label-run .ensures), c .before .before .before .before .if1 .left)
 
 part-label-start : tie.Need-part-label-start
-part-label-start c = search needs
+part-label-start c =
+    let l = c .before .before .before .before .before in
+    omega (arith, run-fits (l .before .before .args .s .now) (l .label-run .result) (l .label-run .ensures), c .before .before .before .before .if1 .left)
 
 part-label-end : tie.Need-part-label-end
 part-label-end c = search needs
 
-label-requires-2 : tie.Need-label-requires-2
-label-requires-2 c κs = search needs
-
-sub-label-2 : tie.Need-sub-label-2
-sub-label-2 c = search needs
-
-part-label-start-2 : tie.Need-part-label-start-2
-part-label-start-2 c = search needs
-
-part-label-end-2 : tie.Need-part-label-end-2
-part-label-end-2 c = search needs
-
-label-requires-3 : tie.Need-label-requires-3
-label-requires-3 c κs = search needs
-
-returns-2 : tie.Need-returns-2
-returns-2 c =
-    name-second (c .before .before .before .before .before .before .before .before .before .before .args .s .now) (c .before .before .before .before .before .before .find .result) (c .before .before .before .before .before .before .find .ensures) (c .before .before .before .before .before .before .before .before .label .ensures) (c .before .before .before .before .before .before .before .if1 .left)
-    (c .before .before .before .label2 .ensures) (c .before .before .if3 .taken) (c .label3 .ensures)
+label-requires : tie.Need-label-requires
+label-requires c κs = search needs
 
 returns-3 : tie.Need-returns-3
 returns-3 c =
-    name-first (c .before .before .before .before .before .before .before .before .args .s .now) (c .before .before .before .before .find .result) (c .before .before .before .before .find .ensures) (c .before .before .before .before .before .before .label .ensures) (c .before .before .before .before .before .if1 .left)
-    (c .before .label2 .ensures) (c .if3 .left)
+    let l = c .before .before .before .before .before .before .before in
+    name-second (l .before .before .args .s .now) (l .label-run .result) (l .label-run .ensures) (c .before .before .before .before .before .before .if1 .left)
+    (c .before .before .before .before .if2 .left) (c .before .before .before .run-label2 .ensures) (c .before .before .if3 .taken) (c .label .ensures)
 
 returns-4 : tie.Need-returns-4
-returns-4 c = name-none (c .before .before .before .before .before .args .s .now) (c .before .find .result) (c .before .find .ensures) (c .before .before .before .label .ensures) (c .before .before .if1 .left) (c .if2 .left)
+returns-4 c =
+    let l = c .before .before .before .before .before in
+    name-first (l .before .before .args .s .now) (l .label-run .result) (l .label-run .ensures) (c .before .before .before .before .if1 .left)
+    (c .before .before .if2 .left) (c .before .run-label2 .ensures) (c .if3 .left)
 
 pub name-spec : {M : Type 1} → statement M
 name-spec =
     tie.close
     (tie.spec
-    label-requires
+    label-run-requires
+    run-label-requires
     returns
-    find-requires
+    shared-slice-read-if2
+    returns-2
+    run-label-requires-2
     add-j
     sub-label
     part-label-start
     part-label-end
-    label-requires-2
-    sub-label-2
-    part-label-start-2
-    part-label-end-2
-    label-requires-3
-    returns-2
+    label-requires
     returns-3
     returns-4)
