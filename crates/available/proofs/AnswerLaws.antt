@@ -1,17 +1,16 @@
 -- The answer among the available signals, by how the value ended.
-use Prim.Native.Nat.{ℕ, _<_}
+use Prim.Native.Nat.{ℕ, _<_, min}
 use mathlib.Core.Path.{_≡_, refl, sym, ap, _∙_}
 use mathlib.Core.Bool.{true, false, cond}
 use mathlib.Core.List.{List}
 use lib.ListN.{length}
 use lib.Dec.{eqb}
-use borrow.Author.Tests.{le-leb, eq-eqb}
+use borrow.Author.Tests.{eq-eqb}
 use native.Mathlib.Omega.{arith}
 use Rattle.alert_info.specs.Value.{refusalOf, urisOf}
 use Rattle.alert_info.proofs.ReadingLaws.{refusal-long}
 use Rattle.text_bytes.proofs.Fields.{byTest}
 use Rattle.resolution.specs.Direct.{State}
-use Rattle.node_search.specs.Search.{fewer}
 use Rattle.stored_table.specs.Tables.{tableRefusal, tableOf}
 use Rattle.stored_table.specs.Decoded.{Holds}
 use Rattle.stored_table.specs.declared.Decoded.{Decoded}
@@ -26,14 +25,15 @@ use Rattle.entry_run.proofs.DirectLaws.{shown}
 use Rattle.available.specs.Available.{hasBit, known, availableSignal, availableOf}
 use Rattle.available.specs.Rows.{rowsAmong, among}
 use Rattle.available.proofs.RunRight.{last, last-right, run-right}
+use Rattle.text_bytes.proofs.Lesser.{min-le}
 
 -- the test by another count of the same size
 pub known-same : (set : ℕ) {n k : ℕ} → n ≡ k → known set n ≡ known set k
 known-same set e = ap (known set) e
 
 -- at most 32 signals are those that there are
-pub signals-few : (t : List ℕ) (d : Decoded) → Holds t (tableOf t) d → fewer (d .signals) 32 ≡ length (tableOf t .signals)
-signals-few t d h = rw (le-leb (d .signals) 32 (h .numbers .few-signals)) (sym (h .numbers .all-signals))
+pub signals-few : (t : List ℕ) (d : Decoded) → Holds t (tableOf t) d → min (d .signals) 32 ≡ length (tableOf t .signals)
+signals-few t d h = sym (min-le (d .signals) 32 (h .numbers .few-signals)) ∙ sym (h .numbers .all-signals)
 
 module _ (t : List ℕ) (set : ℕ) (v : List ℕ) where
   abbrev list : Resolution

@@ -11,17 +11,17 @@ use entry_run::answer::refused;
 use entry_run::answer::resolved;
 use entry_run::answer::value_first;
 use entry_run::run::at_start;
-use node_search::uses::at_most;
+use text_bytes::compare::at_most;
 use stored_table::Decoded;
+ghost use Prim.Native.Nat.{min};
 ghost use mathlib.Core.Path.{_≡_};
-ghost use Rattle.node_search.specs.Search.{fewer};
 ghost use Rattle.stored_table.specs.Decoded.{Means};
 ghost use Rattle.available.specs.Available.{hasBit, known, availableOf};
 ghost use Rattle.available.specs.Rows.{rowsAmong, among as amongOf};
 
 // Each bit of the set is one of so many signals, of which there are at most 32.
 fn is_known(set: u32, signals: usize) -> bool
-    ensures { λ r. ⌜ r ≡ known set (fewer signals 32) ⌝ }
+    ensures { λ r. ⌜ r ≡ known set (min signals 32) ⌝ }
 {
     let n = at_most(signals, 32);
     let bits = set as u64;

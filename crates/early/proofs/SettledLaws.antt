@@ -1,5 +1,5 @@
 -- Laws of the test of a state on node numbers, each from the tests that lead to it.
-use Prim.Native.Nat.{ℕ, _+_, _-_, _≤_, _<_}
+use Prim.Native.Nat.{ℕ, _+_, _-_, _≤_, _<_, min}
 use mathlib.Core.Path.{_≡_, refl, sym, ap, ap₂, _∙_}
 use mathlib.Core.Bool.{Bool, true, false, cond, _&&_}
 use mathlib.Core.List.{List}
@@ -12,7 +12,6 @@ use Rattle.resolution.specs.Lists.{allBelow}
 use Rattle.resolution.proofs.Lists.{all-stop}
 use Rattle.node_step.specs.Step.{digit, put, rowAt}
 use Rattle.node_step.specs.StatusByte.{samePacked, stepPacked}
-use Rattle.node_search.specs.Search.{fewer}
 use Rattle.node_step.specs.declared.stored.Packed.{Packed}
 use Rattle.node_step.proofs.PackedStep.{packed-exact}
 use Rattle.early.specs.SettledBy.{keepsAt, beside, besideKeeps, signalKeeps, heldKeeps, categoryKeeps}
@@ -66,7 +65,7 @@ module _ (rows ps : List ℕ) (inner : List Bool) (n : ℕ) (st : Packed) (c : �
   held-at b h e = e ∙ sym (ap (λ z. cond z true (keepsAt rows ps inner n st c (b - 1) false)) (lt-leb b 1 h))
 
   abbrev rest : ℕ → Bool
-  rest b = heldKeeps rows ps inner n st c b && allBelow (fewer n 32) (signalKeeps rows ps inner n st c)
+  rest b = heldKeeps rows ps inner n st c b && allBelow (min n 32) (signalKeeps rows ps inner n st c)
 
   module _ {b : ℕ} (is : b ≡ digit (st .statuses) c) where
     pub category-shut : b ≡ 1 → true ≡ categoryKeeps rows ps inner n st c
@@ -79,10 +78,10 @@ module _ (rows ps : List ℕ) (inner : List Bool) (n : ℕ) (st : Packed) (c : �
         i ∙ ap rest is ∙ sym (ap (λ z. cond z true (rest (digit (st .statuses) c))) (ne-eqb (digit (st .statuses) c) 1 (λ z. e (is ∙ z))))
 
   pub rest-no : (b : ℕ) {a : Bool} → a ≡ heldKeeps rows ps inner n st c b → a ≡ false → false ≡ rest b
-  rest-no b e z = sym (ap (λ x. x && allBelow (fewer n 32) (signalKeeps rows ps inner n st c)) (sym e ∙ z))
+  rest-no b e z = sym (ap (λ x. x && allBelow (min n 32) (signalKeeps rows ps inner n st c)) (sym e ∙ z))
 
-  pub rest-on : (b : ℕ) {a r : Bool} → a ≡ heldKeeps rows ps inner n st c b → a ≡ true → r ≡ allBelow (fewer n 32) (signalKeeps rows ps inner n st c) → r ≡ rest b
-  rest-on b e z i = i ∙ sym (ap (λ x. x && allBelow (fewer n 32) (signalKeeps rows ps inner n st c)) (sym e ∙ z))
+  pub rest-on : (b : ℕ) {a r : Bool} → a ≡ heldKeeps rows ps inner n st c b → a ≡ true → r ≡ allBelow (min n 32) (signalKeeps rows ps inner n st c) → r ≡ rest b
+  rest-on b e z i = i ∙ sym (ap (λ x. x && allBelow (min n 32) (signalKeeps rows ps inner n st c)) (sym e ∙ z))
 
 -- two states are compared by their two numbers
 pub same-no : (a b : Packed) → (a .signal ≡ b .signal → ⊥) → false ≡ samePacked a b

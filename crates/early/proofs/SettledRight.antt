@@ -1,5 +1,5 @@
 -- The test of a state on node numbers is the theory's: whatever symbols follow, the signal stays.
-use Prim.Native.Nat.{ℕ, _+_, _-_, _≤_, _<_}
+use Prim.Native.Nat.{ℕ, _+_, _-_, _≤_, _<_, min}
 use mathlib.Core.Path.{_≡_, refl, sym, ap, ap₂, _∙_}
 use mathlib.Core.Logic.{inr}
 use mathlib.Core.Bool.{Bool, true, false, cond, not, _&&_, and-eq-true-iff}
@@ -28,7 +28,6 @@ use Rattle.node_step.specs.Step.{codedStatus, coded, digit, put, rowAt, stepNum
 use Rattle.node_search.specs.Arrays.{InnerIn}
 use Rattle.node_step.specs.Rows.{pack, numbersFrom, Numbers}
 use Rattle.node_step.specs.StatusByte.{byteOf, packedOf, stepPacked}
-use Rattle.node_search.specs.Search.{fewer}
 use Rattle.node_step.specs.declared.Status.the-variants.{Held}
 use Rattle.node_step.specs.declared.State as code
 use Rattle.node_step.specs.declared.stored.Packed.{Packed}
@@ -39,6 +38,7 @@ use Rattle.node_step.proofs.StepLaws.{row-in}
 use Rattle.node_step.proofs.Both.{step-symbol, coded-at, of-packed}
 use Rattle.early.specs.SettledBy.{keepsAt, beside, besideKeeps, signalKeeps, heldKeeps, categoryKeeps, settledBy}
 use Rattle.early.proofs.Moves.{Quiet, quiet-settled, settled-keeps}
+use Rattle.text_bytes.proofs.Lesser.{min-le}
 
 module _ (rows ps : List ℕ) (inner : List Bool) (n : ℕ) (t : Table) (wf : WellFormed t) (nu : Numbers rows ps n t) (ii : InnerIn inner t) (st : State) (g : StateOf t st) where
   -- the state as the code has it
@@ -136,22 +136,22 @@ module _ (rows ps : List ℕ) (inner : List Bool) (n : ℕ) (t : Table) (wf : We
 
   -- what the tests ask of a category
   abbrev rest : ℕ → Bool
-  rest c = heldKeeps rows ps inner n now c (digit (now .statuses) c) && allBelow (fewer n 32) (signalKeeps rows ps inner n now c)
+  rest c = heldKeeps rows ps inner n now c (digit (now .statuses) c) && allBelow (min n 32) (signalKeeps rows ps inner n now c)
 
-  few-signals : fewer n 32 ≡ length (t .signals)
-  few-signals = ap (λ b. cond b n 32) (le-leb n 32 (nu .few-signals)) ∙ sym (nu .all-signals)
+  few-signals : min n 32 ≡ length (t .signals)
+  few-signals = sym (min-le n 32 (nu .few-signals)) ∙ sym (nu .all-signals)
 
   rest-to : (c : ℕ) → c < t .cats → (status c ≡ direct.Shut → ⊥) → categoryKeeps rows ps inner n now c ≡ true → rest c ≡ true
   unfolding categoryKeeps
   rest-to c h k e = sym (ap (λ b. cond b true (rest c)) (ne-eqb (digit (now .statuses) c) 1 (not-one c h (status c) refl k))) ∙ e
 
   module _ (k : ℕ) (all-cats : k ≡ t .cats) where
-    few-cats : fewer k 8 ≡ t .cats
-    few-cats = ap (λ b. cond b k 8) (le-leb k 8 (omega (arith, nu .few-cats))) ∙ all-cats
+    few-cats : min k 8 ≡ t .cats
+    few-cats = sym (min-le k 8 (omega (arith, nu .few-cats))) ∙ all-cats
 
     category-to : settledBy rows ps inner n k now ≡ true → (c : ℕ) → c < t .cats → categoryKeeps rows ps inner n now c ≡ true
     unfolding settledBy
-    category-to e c h = all-to (fewer k 8) (categoryKeeps rows ps inner n now) e c (omega (arith, few-cats))
+    category-to e c h = all-to (min k 8) (categoryKeeps rows ps inner n now) e c (omega (arith, few-cats))
 
     tests-quiet : settledBy rows ps inner n k now ≡ true → Quiet t st g
     unfolding signalKeeps besideKeeps heldKeeps
@@ -159,8 +159,8 @@ module _ (rows ps : List ℕ) (inner : List Bool) (n : ℕ) (t : Table) (wf : We
       where
         by-signal : (c : ℕ) → c < t .cats → (status c ≡ direct.Shut → ⊥) → (p : Parts) (s : ℕ) → s < length (t .signals) → rowOf t s ≡ set row c p → step (envOf t) st (urn c p) .signal ≡ st .signal
         by-signal c h open-still p s l r =
-            let a = and-eq-true-iff (heldKeeps rows ps inner n now c (digit (now .statuses) c)) (allBelow (fewer n 32) (signalKeeps rows ps inner n now c)) .0 (rest-to c h open-still (category-to e c h)) .1 in
-            let b = all-to (fewer n 32) (signalKeeps rows ps inner n now c) a s (omega (arith, few-signals)) in
+            let a = and-eq-true-iff (heldKeeps rows ps inner n now c (digit (now .statuses) c)) (allBelow (min n 32) (signalKeeps rows ps inner n now c)) .0 (rest-to c h open-still (category-to e c h)) .1 in
+            let b = all-to (min n 32) (signalKeeps rows ps inner n now c) a s (omega (arith, few-signals)) in
             let place : getD (rowOf t s) c [] ≡ p = ap (λ z. getD z c []) r ∙ getD-set-same row c p [] (wide (st .signal) c h) in
             let keeps = sym (ap (λ z. cond z (keepsAt rows ps inner n now c (digit (getD rows s 0) c) true) true) (is-beside s c p l h r)) ∙ b in
             ap (λ z. step (envOf t) st (urn c z) .signal) (sym place)
@@ -170,7 +170,7 @@ module _ (rows ps : List ℕ) (inner : List Bool) (n : ℕ) (t : Table) (wf : We
         by-held c h w i =
             let b = held-byte c h w i in
             let not-shut : status c ≡ direct.Shut → ⊥ = λ z. let y = shut-byte c h z in omega (arith, b) in
-            let a = and-eq-true-iff (heldKeeps rows ps inner n now c (digit (now .statuses) c)) (allBelow (fewer n 32) (signalKeeps rows ps inner n now c)) .0 (rest-to c h not-shut (category-to e c h)) .0 in
+            let a = and-eq-true-iff (heldKeeps rows ps inner n now c (digit (now .statuses) c)) (allBelow (min n 32) (signalKeeps rows ps inner n now c)) .0 (rest-to c h not-shut (category-to e c h)) .0 in
             let at : digit (now .statuses) c - 1 ≡ no c w = omega (arith, b) in
             let keeps = sym (ap (λ z. cond z true (keepsAt rows ps inner n now c (digit (now .statuses) c - 1) false)) (lt-leb (digit (now .statuses) c) 1 (omega (arith, b)))) ∙ a in
             keeps-to c h w (inr (held-node c h w i)) true at keeps
@@ -178,10 +178,10 @@ module _ (rows ps : List ℕ) (inner : List Bool) (n : ℕ) (t : Table) (wf : We
     -- where the state is settled, all of them keep the signal
     settled-tests : isSettled t st ≡ true → settledBy rows ps inner n k now ≡ true
     unfolding settledBy categoryKeeps signalKeeps besideKeeps heldKeeps
-    settled-tests e = all-of (fewer k 8) (categoryKeeps rows ps inner n now) (λ c h. by c (omega (arith, few-cats)) (status c) refl)
+    settled-tests e = all-of (min k 8) (categoryKeeps rows ps inner n now) (λ c h. by c (omega (arith, few-cats)) (status c) refl)
       where
-        places : (c : ℕ) → c < t .cats → allBelow (fewer n 32) (signalKeeps rows ps inner n now c) ≡ true
-        places c h = all-of (fewer n 32) (signalKeeps rows ps inner n now c) (λ s l. each s (omega (arith, few-signals)) (beside (rowAt rows (st .signal)) (getD rows s 0) c))
+        places : (c : ℕ) → c < t .cats → allBelow (min n 32) (signalKeeps rows ps inner n now c) ≡ true
+        places c h = all-of (min n 32) (signalKeeps rows ps inner n now c) (λ s l. each s (omega (arith, few-signals)) (beside (rowAt rows (st .signal)) (getD rows s 0) c))
           where
             each : (s : ℕ) → s < length (t .signals) → (b : Bool) → cond b (keepsAt rows ps inner n now c (digit (getD rows s 0) c) true) true ≡ true
             each s l false = refl

@@ -1,5 +1,5 @@
 -- Whether a state is settled, on node numbers: a signal can only become another one that differs from it in one category.
-use Prim.Native.Nat.{ℕ, _-_}
+use Prim.Native.Nat.{ℕ, _-_, min}
 use mathlib.Core.Bool.{Bool, true, false, cond, _&&_}
 use mathlib.Core.List.{List}
 use lib.Dec.{eqb, leb}
@@ -7,7 +7,6 @@ use lib.ListN.{getD}
 use Rattle.resolution.specs.Lists.{allBelow}
 use Rattle.node_step.specs.Step.{digit, put, rowAt}
 use Rattle.node_step.specs.StatusByte.{stepPacked}
-use Rattle.node_search.specs.Search.{fewer}
 use Rattle.node_step.specs.declared.stored.Packed.{Packed}
 
 -- the step in category c, at the node or root d, keeps the signal
@@ -34,8 +33,8 @@ heldKeeps rows ps inner n st c b = cond (leb b 1) true (keepsAt rows ps inner n 
 unfoldable pub categoryKeeps : List ℕ → List ℕ → List Bool → ℕ → Packed → ℕ → Bool
 categoryKeeps rows ps inner n st c =
     cond (eqb (digit (st .statuses) c) 1) true
-    (heldKeeps rows ps inner n st c (digit (st .statuses) c) && allBelow (fewer n 32) (signalKeeps rows ps inner n st c))
+    (heldKeeps rows ps inner n st c (digit (st .statuses) c) && allBelow (min n 32) (signalKeeps rows ps inner n st c))
 
 -- no URN of the k categories does
 unfoldable pub settledBy : List ℕ → List ℕ → List Bool → ℕ → ℕ → Packed → Bool
-settledBy rows ps inner n k st = allBelow (fewer k 8) (categoryKeeps rows ps inner n st)
+settledBy rows ps inner n k st = allBelow (min k 8) (categoryKeeps rows ps inner n st)

@@ -1,13 +1,12 @@
 // Whether a state is settled: no URN leads from it to another signal. Only a signal that differs from the current one in one
 // category can be reached by a URN, and a step tells whether it is.
-use node_search::uses::at_most;
+use text_bytes::compare::at_most;
 use node_step::stored::Packed;
 use node_step::stored::step_packed;
 ghost use mathlib.Core.Path.{_≡_};
-ghost use Prim.Native.Nat.{_<_};
+ghost use Prim.Native.Nat.{_<_, min};
 ghost use Rattle.resolution.specs.Lists.{allBelow};
 ghost use Rattle.node_step.specs.Step.{digit, rowAt};
-ghost use Rattle.node_search.specs.Search.{fewer};
 ghost use Rattle.early.specs.SettledBy.{keepsAt, beside, besideKeeps, signalKeeps, heldKeeps, categoryKeeps, settledBy};
 
 // The step in category c, at the node or root d, keeps the signal.
@@ -91,7 +90,7 @@ fn signals_keep<'a>(
     c: usize,
 ) -> bool
     requires { ⌜ c < 8 ⌝ }
-    ensures { λ r. ⌜ r ≡ allBelow (fewer signals 32) (signalKeeps (now (rows .entry)) (now (parents .entry)) (now (inner .entry)) signals st c) ⌝ }
+    ensures { λ r. ⌜ r ≡ allBelow (min signals 32) (signalKeeps (now (rows .entry)) (now (parents .entry)) (now (inner .entry)) signals st c) ⌝ }
 {
     let row = row_of(rows, st.signal);
     let n = at_most(signals, 32);

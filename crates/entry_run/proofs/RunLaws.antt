@@ -1,5 +1,5 @@
 -- One turn of a run.
-use Prim.Native.Nat.{ℕ, _+_, _-_, _*_, _≤_}
+use Prim.Native.Nat.{ℕ, _+_, _-_, _*_, _≤_, min}
 use mathlib.Core.Path.{_≡_, refl, sym, ap, ap₂, _∙_, subst}
 use mathlib.Core.Bool.{Bool, true, false, cond, true≢false}
 use mathlib.Core.List.{List, [], _∷_}
@@ -15,7 +15,6 @@ use Rattle.alert_info.proofs.ReadingLaws.{reading-last, reading-more, reading-n
 use Rattle.node_step.specs.Step.{stepNumbers}
 use Rattle.node_step.specs.Tries.{triesNumbers}
 use Rattle.node_step.proofs.TriesLaws.{tries-bound}
-use Rattle.node_search.specs.Search.{fewer}
 use Rattle.node_step.specs.declared.State.{State}
 use Rattle.node_search.specs.declared.uses.Use.{Use}
 use Rattle.node_search.specs.declared.uses.Use.the-variants.{Skipped, Used}
@@ -29,9 +28,9 @@ use Rattle.entry_run.specs.declared.run.Outcome.{Outcome}
 
 module _ (rows parent : List ℕ) (inner : List Bool) (signals nodes : ℕ) (m : Machine) (x : Current) (c k : ℕ) (w : Bool) {y : Current} where
   pub moved-walk : {r n : ℕ} → x .walks ≡ true → n ≡ symbolNumber (m .index) (m .symbols) (m .count) parent nodes c k w
-      → r ≡ targetIn (fewer (m .categories) 8) (m .image) (x .number) n → y ≡ Walk r → y ≡ moved rows parent inner signals nodes m x c k w
+      → r ≡ targetIn (min (m .categories) 8) (m .image) (x .number) n → y ≡ Walk r → y ≡ moved rows parent inner signals nodes m x c k w
   unfolding moved
-  moved-walk e f g h = simp e (h ∙ ap Walk (g ∙ ap (targetIn (fewer (m .categories) 8) (m .image) (x .number)) f))
+  moved-walk e f g h = simp e (h ∙ ap Walk (g ∙ ap (targetIn (min (m .categories) 8) (m .image) (x .number)) f))
 
   pub moved-direct : {r : State} {n : ℕ} → x .walks ≡ false → r ≡ stepNumbers rows parent inner signals (x .state) c k w
       → n ≡ triesNumbers rows parent signals (x .state) c k w → y ≡ Direct r (x .tries + n) → y ≡ moved rows parent inner signals nodes m x c k w
@@ -40,7 +39,7 @@ module _ (rows parent : List ℕ) (inner : List Bool) (signals nodes : ℕ) (m :
 
 -- the signal where a resolver is
 module _ (cats : ℕ) (im : List ℕ) (x : Current) where
-  pub signal-walk : {s : ℕ} → x .walks ≡ true → s ≡ signalIn (fewer cats 8) im (x .number) → s ≡ signalNow cats im x
+  pub signal-walk : {s : ℕ} → x .walks ≡ true → s ≡ signalIn (min cats 8) im (x .number) → s ≡ signalNow cats im x
   unfolding signalNow
   signal-walk e g = simp e g
 

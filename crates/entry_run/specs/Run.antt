@@ -1,5 +1,5 @@
 -- How a value is gone through: from entry to entry, each taken as it is met.
-use Prim.Native.Nat.{ℕ, _+_, _≤_, _<_}
+use Prim.Native.Nat.{ℕ, _+_, _≤_, _<_, min}
 use mathlib.Core.Path.{_≡_}
 use mathlib.Core.Bool.{Bool, true, false, cond}
 use mathlib.Core.Option.{Option, none, some}
@@ -9,7 +9,7 @@ use lib.Dec.{ltb}
 use Rattle.alert_info.specs.Value.{Reading, unfit, spans, add, partOf, readingFrom}
 use Rattle.node_step.specs.Step.{stepNumbers}
 use Rattle.node_step.specs.Tries.{triesNumbers}
-use Rattle.node_search.specs.Search.{fewer, usesOf}
+use Rattle.node_search.specs.Search.{usesOf}
 use Rattle.node_step.specs.declared.Status.the-variants.{Open}
 use Rattle.node_step.specs.declared.State.{State}
 use Rattle.node_search.specs.declared.uses.Use.{Use}
@@ -51,7 +51,7 @@ pub record Machine : Type 0 where
 
 -- the target that the row of state j holds for a URN's symbol
 abbrev pub targetNow : List ℕ → ℕ → Machine → ℕ → ℕ → ℕ → Bool → ℕ
-targetNow parent nodes m j c k w = targetIn (fewer (m .categories) 8) (m .image) j (symbolNumber (m .index) (m .symbols) (m .count) parent nodes c k w)
+targetNow parent nodes m j c k w = targetIn (min (m .categories) 8) (m .image) j (symbolNumber (m .index) (m .symbols) (m .count) parent nodes c k w)
 
 -- a used URN takes direct resolution one step on, with its tries added, or the walk to the target for its symbol
 unfoldable pub moved : List ℕ → List ℕ → List Bool → ℕ → ℕ → Machine → Current → ℕ → ℕ → Bool → Current
@@ -89,7 +89,7 @@ runFrom t d m v p at = runOf p (over v (after t d m) p (readingFrom v at))
 
 -- the signal where a resolver is
 unfoldable pub signalNow : ℕ → List ℕ → Current → ℕ
-signalNow cats im x = cond (x .walks) (signalIn (fewer cats 8) im (x .number)) (x .state .signal)
+signalNow cats im x = cond (x .walks) (signalIn (min cats 8) im (x .number)) (x .state .signal)
 
 -- the answer at the end of a value: 2 if it does not fit, 3 if it has over 64 entries
 unfoldable pub answerOf : Outcome → ℕ → Resolution

@@ -1,5 +1,5 @@
 -- Loops that search: one turn, and the end.
-use Prim.Native.Nat.{ℕ, suc, _+_, _-_, _≤_, _<_}
+use Prim.Native.Nat.{ℕ, suc, _+_, _-_, _≤_, _<_, min}
 use mathlib.Core.Path.{_≡_, refl, sym, ap, ap₂, _∙_, subst}
 use mathlib.Core.Bool.{Bool, true, false, cond, _&&_, _||_, and-false}
 use mathlib.Core.List.{List, [], _∷_, _++_}
@@ -15,11 +15,10 @@ use Rattle.resolution.specs.Table.{Urn, urn, Table}
 use Rattle.resolution.specs.Nodes.{sameUrn, nodes, nodeAt, isNode}
 use Rattle.text_bytes.specs.Text.{fields}
 use Rattle.node_search.specs.Arrays.{stretch, NamesIn, NodesIn}
-use Rattle.node_search.specs.Search.{fewer}
-use Rattle.node_search.proofs.UseLaws.{fewer-le}
 use Rattle.text_bytes.proofs.Fields.{byTest, same-fields, fields-join}
 use Rattle.free_names.specs.FirstFree.{zName, firstFree, nameTaken, partTaken, foreign, strange}
 use Rattle.free_names.proofs.NameLaws.{z-alone}
+use Rattle.text_bytes.proofs.Lesser.{min-le}
 
 -- a member, looked for from the i-th element on
 module _ {A : Type 0} (f : A → A → Bool) (z : A) (l : List A) (d : A) (i : ℕ) (inv : memberBy f z l ≡ memberBy f z (drop i l)) where
@@ -183,16 +182,16 @@ part-same ns c k n p bs h e g =
     (ap (λ (z : List ℕ). fields 58 (p ++ 58 ∷ z)) (front-name k n bs e) ∙ fields-join 58 p (zName k) ∙ ap (λ (l : Parts). fields 58 p ++ l) (z-alone k h))
 
 -- the names that are answered
-pub foreign-name : (t at len : List ℕ) (m : ℕ) {k n : ℕ} {names : List Name} {l : List ℕ} → NamesIn t at len m names → n ≡ fewer m 8
+pub foreign-name : (t at len : List ℕ) (m : ℕ) {k n : ℕ} {names : List Name} {l : List ℕ} → NamesIn t at len m names → n ≡ min m 8
     → ((xs : List Name) → NamesIn t at len n xs → k ≡ firstFree (nameTaken xs) (length xs) 0) → l ≡ zName k → l ≡ foreign names
 unfolding foreign
 foreign-name t at len m {k} {n} {names} {l} h e f g =
-    let q : n ≡ m = e ∙ sym (fewer-le m 8 (h .few-names)) in
+    let q : n ≡ m = e ∙ sym (min-le m 8 (h .few-names)) in
     g ∙ ap zName (f names (subst (λ (j : ℕ). NamesIn t at len j names) (sym q) h))
 
-pub strange-name : (t category at len : List ℕ) (m : ℕ) (u : Urn) (T : Table) {k n : ℕ} {l : List ℕ} → NodesIn t category at len m T → n ≡ fewer m 64
+pub strange-name : (t category at len : List ℕ) (m : ℕ) (u : Urn) (T : Table) {k n : ℕ} {l : List ℕ} → NodesIn t category at len m T → n ≡ min m 64
     → ((S : Table) → NodesIn t category at len n S → k ≡ firstFree (partTaken (nodes S) u) (length (nodes S)) 0) → l ≡ zName k → l ≡ strange (nodes T) u
 unfolding strange
 strange-name t category at len m u T {k} {n} {l} h e f g =
-    let q : n ≡ m = e ∙ sym (fewer-le m 64 (h .few-nodes)) in
+    let q : n ≡ m = e ∙ sym (min-le m 64 (h .few-nodes)) in
     g ∙ ap zName (f T (subst (λ (j : ℕ). NodesIn t category at len j T) (sym q) h))

@@ -5,7 +5,7 @@
 //   search.rt  which of the names are taken
 mod search;
 
-use node_search::uses::at_most;
+use text_bytes::compare::at_most;
 use stored_table::Decoded;
 ghost use mathlib.Core.Path.{_≡_};
 ghost use Prim.Native.Nat.{_≤_};

@@ -6,9 +6,8 @@
 mod states;
 
 ghost use mathlib.Core.Path.{_≡_};
-ghost use Prim.Native.Nat.{_+_, _*_, _≤_};
+ghost use Prim.Native.Nat.{_+_, _*_, _≤_, min};
 ghost use lib.ListN.{length, replicate};
-ghost use Rattle.node_search.specs.Search.{fewer};
 ghost use Rattle.machine_builder.specs.Built.{refused};
 ghost use Rattle.machine_symbols.specs.Steps.{nextState};
 ghost use Rattle.machine_builder.specs.States.{headBytes, builtBy, bufferBy};
@@ -72,7 +71,7 @@ fn write_image<'a>(
 {
     let head = 3 + 3 * count;
     let room = buf.len();
-    let from = node_search::uses::at_most(head, room);
+    let from = text_bytes::compare::at_most(head, room);
     let n = states::discover(
         rows,
         parents,
@@ -110,10 +109,10 @@ pub fn build_by<'a>(
     count: usize,
     buf: &mut [u8],
 ) -> Built
-    ensures { λ r. ⌜ r ≡ builtBy (nextState (now (rows .entry)) (now (parents .entry)) (now (inner .entry)) signals (now (symbols .entry))) (fewer categories 8) (fewer count 128) (length (now (buf .entry))) ⌝ }
-    ensures { λ _. ⌜ now (buf .exit) ≡ bufferBy (nextState (now (rows .entry)) (now (parents .entry)) (now (inner .entry)) signals (now (symbols .entry))) (fewer categories 8) (fewer count 128) (now (symbols .entry)) (length (now (buf .entry))) ⌝ }
+    ensures { λ r. ⌜ r ≡ builtBy (nextState (now (rows .entry)) (now (parents .entry)) (now (inner .entry)) signals (now (symbols .entry))) (min categories 8) (min count 128) (length (now (buf .entry))) ⌝ }
+    ensures { λ _. ⌜ now (buf .exit) ≡ bufferBy (nextState (now (rows .entry)) (now (parents .entry)) (now (inner .entry)) signals (now (symbols .entry))) (min categories 8) (min count 128) (now (symbols .entry)) (length (now (buf .entry))) ⌝ }
 {
-    let k = node_search::uses::at_most(categories, 8);
-    let n = node_search::uses::at_most(count, 128);
+    let k = text_bytes::compare::at_most(categories, 8);
+    let n = text_bytes::compare::at_most(count, 128);
     write_image(rows, parents, inner, signals, k, symbols, n, buf)
 }

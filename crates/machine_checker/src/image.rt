@@ -2,9 +2,8 @@
 use machine_symbols::steps::wide;
 use node_step::stored::Packed;
 ghost use mathlib.Core.Path.{_≡_};
-ghost use Prim.Native.Nat.{_≤_, _<_};
+ghost use Prim.Native.Nat.{_≤_, _<_, min};
 ghost use lib.ListN.{getD};
-ghost use Rattle.node_search.specs.Search.{fewer};
 ghost use Rattle.machine_image.specs.Image.{stateCount, placeOf, signalIn, targetIn};
 ghost use Rattle.machine_checker.specs.Checks.{packFrom, packedIn};
 
@@ -72,9 +71,9 @@ pub(crate) fn state(im: &[u8], categories: usize, j: usize) -> Packed
 
 // The target of state j for symbol k.
 pub fn target(im: &[u8], categories: usize, j: u8, k: u8) -> u8
-    ensures { λ r. ⌜ r ≡ targetIn (fewer categories 8) (now (im .entry)) j k ⌝ }
+    ensures { λ r. ⌜ r ≡ targetIn (min categories 8) (now (im .entry)) j k ⌝ }
 {
-    let cats = node_search::uses::at_most(categories, 8);
+    let cats = text_bytes::compare::at_most(categories, 8);
     let state = wide(j);
     let symbol = wide(k);
     let i = place(im, cats, state) + 1 + cats;
@@ -83,9 +82,9 @@ pub fn target(im: &[u8], categories: usize, j: u8, k: u8) -> u8
 
 // The signal of state j.
 pub fn signal(im: &[u8], categories: usize, j: u8) -> u8
-    ensures { λ r. ⌜ r ≡ signalIn (fewer categories 8) (now (im .entry)) j ⌝ }
+    ensures { λ r. ⌜ r ≡ signalIn (min categories 8) (now (im .entry)) j ⌝ }
 {
-    let cats = node_search::uses::at_most(categories, 8);
+    let cats = text_bytes::compare::at_most(categories, 8);
     let state = wide(j);
     let i = place(im, cats, state);
     byte(im, i)

@@ -105,7 +105,7 @@ pub(crate) fn rows_right<'a>(
 {
     let mut signal = [0u8; 256];
     let mut statuses = [0u64; 256];
-    let read = node_search::uses::at_most(n, 256);
+    let read = text_bytes::compare::at_most(n, 256);
     read_states(im, categories, read, &mut signal, &mut statuses);
     let mut from = 0;
     while from < n {

@@ -1,11 +1,11 @@
 -- The number of a used URN's symbol, by the arrays, is its symbol's place in the table's list.
-use Prim.Native.Nat.{ℕ, zero, suc, _+_, _<_}
+use Prim.Native.Nat.{ℕ, zero, suc, _+_, _<_, min}
 use mathlib.Core.Path.{_≡_, refl, sym, ap, ap₂, _∙_}
 use mathlib.Core.Logic.{inl, inr}
 use mathlib.Core.Bool.{Bool, true, false, cond, not, _&&_, _||_, and-eq-true-iff}
 use mathlib.Core.List.{List, []}
 use lib.Dec.{eqb}
-use borrow.Author.Tests.{eqb-true, eq-eqb, ne-eqb, le-leb}
+use borrow.Author.Tests.{eqb-true, eq-eqb, ne-eqb}
 use lib.ListN.{drop, drop-of-length-le}
 use lib.Seq.{drop-cons}
 use native.Mathlib.Omega.{arith}
@@ -23,11 +23,11 @@ use Rattle.resolution.proofs.Symbols.{symbol-exact, symbol-known}
 use Rattle.node_search.specs.Arrays.{childless, NodesIn}
 use Rattle.node_step.specs.Rows.{Numbers}
 use Rattle.machine_image.specs.Image.{kindOf}
-use Rattle.node_search.specs.Search.{fewer}
 use Rattle.machine_symbols.specs.Listed.{SymbolsIn, isTriple, tripleIndex, kindFor, indexFrom, symbolNumber}
 use Rattle.machine_symbols.proofs.SymbolLaws.{by-index}
 use Rattle.node_step.proofs.Leaves.{leaf-is}
 use Rattle.machine_symbols.proofs.StepRight.{category-at, node-at, kind-at}
+use Rattle.text_bytes.proofs.Lesser.{min-le}
 
 kind-same : (a b : Bool) → kindOf a ≡ kindOf b → a ≡ b
 kind-same true true e = refl
@@ -112,15 +112,15 @@ module _ (t ca pos len : List ℕ) (n : ℕ) (T : Table) (ni : NodesIn t ca pos 
         go true ih = sym (add-zero i)
         go false ih = ih ∙ ap (λ z. i + 1 + indexBy sameSymbol s (drop z (symbols T))) (add-one i) ∙ omega arith
 
-  pub number-right : (ix : List ℕ) → ix ≡ indexFrom sy 0 (fewer count 128) → (u : Urn)
+  pub number-right : (ix : List ℕ) → ix ≡ indexFrom sy 0 (min count 128) → (u : Urn)
       → symbolNumber ix sy count ps n (u .cat) (number ns (u .cat) (deepest ns (u .cat) (u .path))) (sameParts (deepest ns (u .cat) (u .path)) (u .path))
       ≡ symbolIndex (symbolOf ns u) (symbols T)
   unfolding symbolNumber
   number-right ix xi u =
       let g = deepest-node ns (u .cat) (u .path) in
-      by-index sy (u .cat) (number ns (u .cat) (deepest ns (u .cat) (u .path))) (kindFor ps (fewer n 64) (number ns (u .cat) (deepest ns (u .cat) (u .path))) (sameParts (deepest ns (u .cat) (u .path)) (u .path))) ix (fewer count 128) xi
+      by-index sy (u .cat) (number ns (u .cat) (deepest ns (u .cat) (u .path))) (kindFor ps (min n 64) (number ns (u .cat) (deepest ns (u .cat) (u .path))) (sameParts (deepest ns (u .cat) (u .path)) (u .path))) ix (min count 128) xi
       ∙ ap₂ (λ x y. tripleIndex sy (u .cat) (number ns (u .cat) (deepest ns (u .cat) (u .path))) (kindFor ps x (number ns (u .cat) (deepest ns (u .cat) (u .path))) (sameParts (deepest ns (u .cat) (u .path)) (u .path))) 0 y)
-      (ap (λ b. cond b n 64) (le-leb n 64 (ni .few-nodes))) (ap (λ b. cond b count 128) (le-leb count 128 (si .few-symbols)))
+      (sym (min-le n 64 (ni .few-nodes))) (sym (min-le count 128 (si .few-symbols)))
       ∙ ap (λ z. tripleIndex sy (u .cat) (number ns (u .cat) (deepest ns (u .cat) (u .path))) z 0 count) (kind-right (u .cat) (deepest ns (u .cat) (u .path)) (u .path) g)
       ∙ index-right (symbolOf ns u) g count 0 (zero-add count)
       ∙ zero-add (indexBy sameSymbol (symbolOf ns u) (symbols T))

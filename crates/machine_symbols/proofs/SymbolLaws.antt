@@ -12,10 +12,9 @@ use native.Mathlib.Nat.{sub-zero}
 use native.Mathlib.Numerals.{add-one}
 use native.Mathlib.Decide.{decLt, ℕ-discrete}
 use Rattle.node_search.specs.Arrays.{childless}
-use Rattle.node_search.specs.Search.{fewer}
-use Rattle.node_search.proofs.UseLaws.{fewer-le, fewer-gt}
 use Rattle.machine_symbols.specs.declared.Symbols.{Symbols}
 use Rattle.machine_symbols.specs.Listed.{triple, nodeTriples, nodesTriples, categoryTriples, tripleLists, symbolsOf, Listed, isTriple, tripleIndex, kindFor, slot, slotAt, indexFrom, entryAt, numberFrom, symbolNumber}
+use Rattle.text_bytes.proofs.Lesser.{min-le, min-gt}
 
 -- a node without children
 pub child-more : (ps : List ℕ) (d i : ℕ) → childless ps d i ≡ true → (getD ps i 0 ≡ d → ⊥) → childless ps d (i + 1) ≡ true
@@ -118,13 +117,13 @@ pub listed-all : (bytes : List ℕ) (n : ℕ) (l : List ℕ) → Listed bytes n 
 unfolding symbolsOf
 listed-all bytes n l v = ap₂ (λ (k : ℕ) (b : List ℕ). record { count = k; bytes = b }) (go (decLt 384 (length l))) filled
   where
-    go : Dec (384 < length l) → n ≡ fewer (length l / 3) 128
+    go : Dec (384 < length l) → n ≡ min (length l / 3) 128
     go (yes h) = let e : n ≡ 128 = omega (arith, v .counted) in e ∙ at-most (ℕ-discrete (length l / 3) 128)
       where
-        at-most : Dec (length l / 3 ≡ 128) → 128 ≡ fewer (length l / 3) 128
-        at-most (yes e) = sym e ∙ fewer-le (length l / 3) 128 (omega arith)
-        at-most (no e) = fewer-gt (length l / 3) 128 (omega arith)
-    go (no h) = let e : n ≡ length l / 3 = omega (arith, v .counted) in e ∙ fewer-le (length l / 3) 128 (omega arith)
+        at-most : Dec (length l / 3 ≡ 128) → 128 ≡ min (length l / 3) 128
+        at-most (yes e) = sym e ∙ min-le (length l / 3) 128 (omega arith)
+        at-most (no e) = min-gt (length l / 3) 128 (omega arith)
+    go (no h) = let e : n ≡ length l / 3 = omega (arith, v .counted) in e ∙ min-le (length l / 3) 128 (omega arith)
 
     filled : bytes ≡ take 384 l ++ replicate (384 - length l) 0
     filled =
@@ -178,9 +177,9 @@ listed-of l h = go (decLt 384 (length l))
           rest = drop-at (take 384 l) zeros (3 * k) t ∙ ap (λ m. replicate m 0) f;
         }
 
-    go : Dec (384 < length l) → Listed (take 384 l ++ zeros) (fewer (length l / 3) 128) l
-    go (yes i) = subst (λ (k : ℕ). Listed (take 384 l ++ zeros) k l) (fewer-gt (length l / 3) 128 (omega arith)) (sized 128 (omega arith))
-    go (no i) = subst (λ (k : ℕ). Listed (take 384 l ++ zeros) k l) (fewer-le (length l / 3) 128 (omega arith)) (sized (length l / 3) (omega arith))
+    go : Dec (384 < length l) → Listed (take 384 l ++ zeros) (min (length l / 3) 128) l
+    go (yes i) = subst (λ (k : ℕ). Listed (take 384 l ++ zeros) k l) (min-gt (length l / 3) 128 (omega arith)) (sized 128 (omega arith))
+    go (no i) = subst (λ (k : ℕ). Listed (take 384 l ++ zeros) k l) (min-le (length l / 3) 128 (omega arith)) (sized (length l / 3) (omega arith))
 
 pub lists-listed : (ca ps : List ℕ) (n k : ℕ) {r : Symbols} → r ≡ symbolsOf (tripleLists ca ps n k)
     → Listed (r .bytes) (r .count) (tripleLists ca ps n k) × (r .count ≤ 128)
@@ -313,12 +312,12 @@ module _ (sy : List ℕ) (m c d kind k : ℕ) where
   unfolding numberFrom
   from-out h = sym (rw (le-ltb k m h))
 
-pub number-is : (ix sy : List ℕ) (count : ℕ) (ps : List ℕ) (n c d : ℕ) (whole : Bool) {n′ m kind s k r : ℕ} → n′ ≡ fewer n 64 → m ≡ fewer count 128
+pub number-is : (ix sy : List ℕ) (count : ℕ) (ps : List ℕ) (n c d : ℕ) (whole : Bool) {n′ m kind s k r : ℕ} → n′ ≡ min n 64 → m ≡ min count 128
     → kind ≡ kindFor ps n′ d whole → s ≡ slot c d kind → k ≡ entryAt ix s → r ≡ numberFrom sy m c d kind k → r ≡ symbolNumber ix sy count ps n c d whole
 unfolding symbolNumber
 number-is ix sy count ps n c d whole {kind = kind} {k = k} e f g h i j =
-    let y : kind ≡ kindFor ps (fewer n 64) d whole = g ∙ ap (λ z. kindFor ps z d whole) e in
-    j ∙ ap (λ z. numberFrom sy z c d kind k) f ∙ ap₂ (numberFrom sy (fewer count 128) c d) y (i ∙ ap (entryAt ix) (h ∙ ap (slot c d) y))
+    let y : kind ≡ kindFor ps (min n 64) d whole = g ∙ ap (λ z. kindFor ps z d whole) e in
+    j ∙ ap (λ z. numberFrom sy z c d kind k) f ∙ ap₂ (numberFrom sy (min count 128) c d) y (i ∙ ap (entryAt ix) (h ∙ ap (slot c d) y))
 
 -- the index names the first symbol of its slot, so the number is that of the search
 module _ (sy : List ℕ) (c d kind : ℕ) where

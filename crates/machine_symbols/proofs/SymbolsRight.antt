@@ -1,10 +1,10 @@
 -- The symbols listed from the arrays are the table's, in their order.
-use Prim.Native.Nat.{ℕ, zero, suc, _+_, _*_, _≤_, _<_}
+use Prim.Native.Nat.{ℕ, zero, suc, _+_, _*_, _≤_, _<_, min}
 use mathlib.Core.Path.{_≡_, refl, sym, ap, ap₂, _∙_}
 use mathlib.Core.Bool.{Bool, true, false, cond}
 use mathlib.Core.List.{List, [], _∷_, _++_, append-assoc, append-nil}
 use lib.Dec.{eqb}
-use borrow.Author.Tests.{eqb-true, le-leb}
+use borrow.Author.Tests.{eqb-true}
 use lib.ListN.{length, take}
 use lib.Seq.{take-suc, take-all}
 use native.Mathlib.Omega.{arith}
@@ -19,8 +19,8 @@ use Rattle.node_step.specs.Rows.{Numbers}
 use Rattle.node_step.proofs.Leaves.{leaf-is}
 use Rattle.machine_image.specs.Image.{joined, symbolBytes, storedSymbols}
 use Rattle.machine_image.proofs.Joined.{stored-length}
-use Rattle.node_search.specs.Search.{fewer}
 use Rattle.machine_symbols.specs.Listed.{triple, nodeTriples, nodesTriples, categoryTriples, tripleLists, Listed, SymbolsIn}
+use Rattle.text_bytes.proofs.Lesser.{min-le}
 
 joined-append : {A : Type 0} (f : A → List ℕ) (a b : List A) → joined f (a ++ b) ≡ joined f a ++ joined f b
 unfolding joined
@@ -100,11 +100,11 @@ module _ (t ca pos len : List ℕ) (n : ℕ) (T : Table) (ni : NodesIn t ca pos 
 
   -- the symbols in the array are the table's
   pub symbols-in : (sy : List ℕ) (count : ℕ) → length (symbols T) ≤ 128
-      → Listed sy count (tripleLists ca ps (fewer n 64) (fewer (T .cats) 8)) → SymbolsIn T sy count
+      → Listed sy count (tripleLists ca ps (min n 64) (min (T .cats) 8)) → SymbolsIn T sy count
   symbols-in sy count few v =
-      let e : tripleLists ca ps (fewer n 64) (fewer (T .cats) 8) ≡ storedSymbols T =
-      ap₂ (tripleLists ca ps) (ap (λ b. cond b n 64) (le-leb n 64 (ni .few-nodes))) (ap (λ b. cond b (T .cats) 8) (le-leb (T .cats) 8 (nu .few-cats))) ∙ lists-right (T .cats) in
-      let l : length (tripleLists ca ps (fewer n 64) (fewer (T .cats) 8)) ≡ 3 * length (symbols T) = ap length e ∙ stored-length T in
+      let e : tripleLists ca ps (min n 64) (min (T .cats) 8) ≡ storedSymbols T =
+      ap₂ (tripleLists ca ps) (sym (min-le n 64 (ni .few-nodes))) (sym (min-le (T .cats) 8 (nu .few-cats))) ∙ lists-right (T .cats) in
+      let l : length (tripleLists ca ps (min n 64) (min (T .cats) 8)) ≡ 3 * length (symbols T) = ap length e ∙ stored-length T in
       record {
         wide = v .wide;
         all-symbols = omega (arith, v .counted, l);

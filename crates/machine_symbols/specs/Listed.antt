@@ -8,7 +8,6 @@ use lib.ListN.{length, getD, set, take, drop, replicate}
 use Rattle.resolution.specs.Table.{Table}
 use Rattle.resolution.specs.Symbols.{symbols}
 use Rattle.node_search.specs.Arrays.{childless}
-use Rattle.node_search.specs.Search.{fewer}
 use Rattle.machine_image.specs.Image.{storedSymbols}
 use Rattle.machine_symbols.specs.declared.Symbols.{Symbols}
 
@@ -36,7 +35,7 @@ tripleLists ca ps n (suc c) = tripleLists ca ps n c ++ categoryTriples ca ps n c
 
 -- the symbols of a list of symbols' bytes, the first 128 of them: how many, and their bytes with zeros after them
 unfoldable pub symbolsOf : List ℕ → Symbols
-symbolsOf l = record { count = fewer (length l / 3) 128; bytes = take 384 l ++ replicate (384 - length l) 0 }
+symbolsOf l = record { count = min (length l / 3) 128; bytes = take 384 l ++ replicate (384 - length l) 0 }
 
 -- while they are listed: an array of 384 bytes holds n of them, all or 128, and zeros after them
 pub record Listed (bytes : List ℕ) (n : ℕ) (l : List ℕ) : Type 0 where
@@ -89,4 +88,4 @@ numberFrom sy m c d kind k = cond (ltb k m && isTriple sy c d kind k) k (tripleI
 -- the number of the symbol of a URN of category c under node d, by the index
 unfoldable pub symbolNumber : List ℕ → List ℕ → ℕ → List ℕ → ℕ → ℕ → ℕ → Bool → ℕ
 symbolNumber ix sy count ps n c d whole =
-    numberFrom sy (fewer count 128) c d (kindFor ps (fewer n 64) d whole) (entryAt ix (slot c d (kindFor ps (fewer n 64) d whole)))
+    numberFrom sy (min count 128) c d (kindFor ps (min n 64) d whole) (entryAt ix (slot c d (kindFor ps (min n 64) d whole)))

@@ -7,10 +7,9 @@ pub mod steps;
 
 ghost use mathlib.Core.Path.{_≡_};
 ghost use mathlib.Core.List.{List, [], _∷_, _++_};
-ghost use Prim.Native.Nat.{ℕ, _+_, _*_, _≤_, _<_};
+ghost use Prim.Native.Nat.{ℕ, _+_, _*_, _≤_, _<_, min};
 ghost use lib.ListN.{replicate};
 ghost use Rattle.node_search.specs.Arrays.{childless};
-ghost use Rattle.node_search.specs.Search.{fewer};
 ghost use Rattle.machine_symbols.specs.Listed.{nodeTriples, categoryTriples, tripleLists, symbolsOf, Listed, isTriple, tripleIndex, kindFor, slot, slotAt, indexFrom, entryAt, numberFrom, symbolNumber};
 
 // How many symbols there are, and three bytes for each.
@@ -131,11 +130,11 @@ pub fn list<'a>(
     nodes: usize,
     categories: usize,
 ) -> Symbols
-    ensures { λ r. ⌜ r ≡ symbolsOf (tripleLists (now (category .entry)) (now (parents .entry)) (fewer nodes 64) (fewer categories 8)) ⌝ }
+    ensures { λ r. ⌜ r ≡ symbolsOf (tripleLists (now (category .entry)) (now (parents .entry)) (min nodes 64) (min categories 8)) ⌝ }
 {
     let mut bytes = [0u8; 384];
-    let n = node_search::uses::at_most(nodes, 64);
-    let k = node_search::uses::at_most(categories, 8);
+    let n = text_bytes::compare::at_most(nodes, 64);
+    let k = text_bytes::compare::at_most(categories, 8);
     let count = push_all(category, parents, n, k, &mut bytes);
     Symbols { count, bytes }
 }
@@ -208,10 +207,10 @@ fn slot_at(bytes: &[u8; 384], k: usize) -> usize
 
 // The index of the first symbols: at each one's slot the number of the first that has it.
 pub fn index(bytes: &[u8; 384], count: usize) -> [u8; 136]
-    ensures { λ r. ⌜ r ≡ indexFrom (now (bytes .entry)) 0 (fewer count 128) ⌝ }
+    ensures { λ r. ⌜ r ≡ indexFrom (now (bytes .entry)) 0 (min count 128) ⌝ }
 {
     let mut index = [0u8; 136];
-    let mut k = node_search::uses::at_most(count, 128);
+    let mut k = text_bytes::compare::at_most(count, 128);
     while 0 < k {
         k -= 1;
         let s = slot_at(bytes, k);
@@ -258,8 +257,8 @@ pub fn number(
 ) -> u8
     ensures { λ r. ⌜ r ≡ symbolNumber (now (index .entry)) (now (bytes .entry)) count (now (parents .entry)) nodes c d whole ⌝ }
 {
-    let n = node_search::uses::at_most(nodes, 64);
-    let m = node_search::uses::at_most(count, 128);
+    let n = text_bytes::compare::at_most(nodes, 64);
+    let m = text_bytes::compare::at_most(count, 128);
     let kind = kind_for(parents, n, d, whole);
     let k = entry_at(index, slot(c, d, kind));
     number_from(bytes, m, c, d, kind, k)

@@ -20,7 +20,7 @@ use Rattle.text_bytes.proofs.Fields.{upTo-take, upTo-le, past-drop}
 use Rattle.node_search.specs.declared.uses.Search.{Search}
 use Rattle.node_search.specs.declared.uses.Use.the-variants.{Skipped}
 use Rattle.node_search.specs.Arrays.{stretch}
-use Rattle.node_search.specs.Search.{findName, nothing, coversBy, metWith, countedIn, lookBy, lookAt, searchFrom, foundIn, fewer, usedBy, usesOf}
+use Rattle.node_search.specs.Search.{findName, nothing, coversBy, metWith, countedIn, lookBy, lookAt, searchFrom, foundIn, usedBy, usesOf}
 
 module _ (t s na nl : List ℕ) (n i : ℕ) (v : findName t na nl s 0 n ≡ findName t na nl s i (n - i)) where
   module _ {b : Bool} (h : i < n) (e : b ≡ sameName s (stretch t na nl i)) where
@@ -129,31 +129,25 @@ module _ (t ca pos len sh : List ℕ) (inner : List Bool) (c : ℕ) (w : List �
   unfolding searchFrom
   search-done h = let m : n - i ≡ 0 = omega arith in sym (v ∙ ap (λ k. searchFrom t ca pos len sh inner c w i k s) m)
 
-pub fewer-le : (n m : ℕ) → n ≤ m → n ≡ fewer n m
-fewer-le n m h = simp (le-leb n m h)
-
-pub fewer-gt : (n m : ℕ) → m < n → m ≡ fewer n m
-fewer-gt n m h = simp (lt-leb n m h)
-
 module _ (t na nl : List ℕ) (k : ℕ) (ca pos len sh : List ℕ) (inner : List Bool) (n : ℕ) (uri : List ℕ) {a : Bool} (f : a ≡ alertUrn uri) where
   pub uses-other : a ≡ false → Skipped ≡ usesOf t na nl k ca pos len sh inner n uri
   unfolding usesOf
   uses-other e = simp (sym f ∙ e)
 
   module _ (e : a ≡ true) (s : List ℕ) (i : s ≡ drop 10 uri) {x : List ℕ} {m c : ℕ}
-      (y : x ≡ upTo 58 s) (z : m ≡ fewer k 8) (h : c ≡ findName t na nl (lowered x) 0 m) where
-    found : c ≡ findName t na nl (upTo 58 (lowered (drop 10 uri))) 0 (fewer k 8)
+      (y : x ≡ upTo 58 s) (z : m ≡ min k 8) (h : c ≡ findName t na nl (lowered x) 0 m) where
+    found : c ≡ findName t na nl (upTo 58 (lowered (drop 10 uri))) 0 (min k 8)
     found = h ∙ ap₂ (λ a b. findName t na nl a 0 b) (ap lowered (y ∙ ap (upTo 58) i) ∙ sym (lowered-upTo 58 (omega arith) (inl (omega arith)) (drop 10 uri))) z
 
     pub uses-strange : 8 ≤ c → Skipped ≡ usesOf t na nl k ca pos len sh inner n uri
     unfolding usesOf usedBy
     uses-strange l = simp (sym f ∙ e, ← found, le-ltb c 8 l)
 
-    pub uses-found : {w : List ℕ} {l : ℕ} {r : Search} → c < 8 → w ≡ past 58 s → l ≡ fewer n 64
+    pub uses-found : {w : List ℕ} {l : ℕ} {r : Search} → c < 8 → w ≡ past 58 s → l ≡ min n 64
         → r ≡ searchFrom t ca pos len sh inner c (lowered w) 0 l nothing → foundIn c r ≡ usesOf t na nl k ca pos len sh inner n uri
     unfolding usesOf usedBy
     uses-found {w} {l} {r} u j p d =
-        let r′ : r ≡ searchFrom t ca pos len sh inner c (past 58 (lowered (drop 10 uri))) 0 (fewer n 64) nothing =
+        let r′ : r ≡ searchFrom t ca pos len sh inner c (past 58 (lowered (drop 10 uri))) 0 (min n 64) nothing =
         d ∙ ap₂ (λ a b. searchFrom t ca pos len sh inner c a 0 b nothing) (ap lowered (j ∙ ap (past 58) i) ∙ sym (lowered-past 58 (omega arith) (inl (omega arith)) (drop 10 uri))) p in
         sym (simp (sym f ∙ e, ← found, lt-ltb c 8 u, ← r′))
 

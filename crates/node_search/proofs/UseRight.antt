@@ -6,7 +6,7 @@ use mathlib.Core.Bool.{Bool, true, false, cond, not, _&&_, _||_, false≢true, a
 use mathlib.Core.Option.{Option, none, some}
 use mathlib.Core.List.{List, [], _∷_, _++_, append-nil}
 use lib.Dec.{eqb, ltb, leb}
-use borrow.Author.Tests.{eqb-true, eq-eqb, ne-eqb, lt-ltb, ltb-true, le-leb, lt-leb, leb-true, leb-false}
+use borrow.Author.Tests.{eqb-true, eq-eqb, ne-eqb, lt-ltb, ltb-true, lt-leb, leb-true, leb-false}
 use lib.ListN.{length, getD, drop, length-append, drop-of-length-le}
 use lib.Seq.{drop-cons}
 use native.Mathlib.Omega.{arith}
@@ -33,8 +33,9 @@ use Rattle.text_bytes.proofs.Turns.{covers-level, covers-not, covers-ends, comm
 use Rattle.node_search.specs.declared.uses.Search.{Search}
 use Rattle.node_search.specs.declared.uses.Use.the-variants.{Skipped, Used}
 use Rattle.node_search.specs.Uses.{usedUrn, CaseIgnored, comparedOver, useOf}
-use Rattle.node_search.specs.Search.{findName, nothing, coversBy, metWith, countedIn, lookBy, lookAt, searchFrom, foundIn, fewer, usedBy, usesOf}
+use Rattle.node_search.specs.Search.{findName, nothing, coversBy, metWith, countedIn, lookBy, lookAt, searchFrom, foundIn, usedBy, usesOf}
 use Rattle.node_search.specs.Arrays.{stretch, NamesIn, NodesIn, lastPath, SharedIn, InnerIn}
+use Rattle.text_bytes.proofs.Lesser.{min-le}
 
 -- the names
 names-right : (t s na nl : List ℕ) (ns : List Name) (i : ℕ)
@@ -357,12 +358,12 @@ used-right : (t : List ℕ) (tb : Table) (ca pos len : List ℕ) (n : ℕ) → N
     → usedBy t ca pos len sh inner n w c ≡ useOf tb (some (urn c (fields 58 w)))
 unfolding usedBy
 used-right t tb ca pos len n ni sh si inner ii c l w =
-    ap (λ b. cond b (foundIn c (searchFrom t ca pos len sh inner c w 0 (fewer n 64) nothing)) Skipped) (lt-ltb c 8 l)
+    ap (λ b. cond b (foundIn c (searchFrom t ca pos len sh inner c w 0 (min n 64) nothing)) Skipped) (lt-ltb c 8 l)
     ∙ ap (λ z. foundIn c (searchFrom t ca pos len sh inner c w 0 z nothing)) few
     ∙ found-right t tb ca pos len n ni c w sh si inner ii
   where
-    few : fewer n 64 ≡ n
-    few = ap (λ b. cond b n 64) (le-leb n 64 (ni .few-nodes))
+    few : min n 64 ≡ n
+    few = sym (min-le n 64 (ni .few-nodes))
 
 -- the use of a URI, by the arrays, is the used URN's
 pub uses-right : (t : List ℕ) (tb : Table) (na nl : List ℕ) (k : ℕ) (cs : List Name) (ca pos len : List ℕ) (n : ℕ)
@@ -376,9 +377,9 @@ uses-right t tb na nl k cs ca pos len n nm ni sh si inner ii uri = go (alertUrn 
     path : List ℕ
     path = past 58 (lowered (drop 10 uri))
 
-    found : findName t na nl name 0 (fewer k 8) ≡ cond (memberBy sameName name cs) (indexBy sameName name cs) 8
+    found : findName t na nl name 0 (min k 8) ≡ cond (memberBy sameName name cs) (indexBy sameName name cs) 8
     found =
-        let e : fewer k 8 ≡ length cs = ap (λ b. cond b k 8) (le-leb k 8 (nm .few-names)) ∙ sym (nm .all-names) in
+        let e : min k 8 ≡ length cs = sym (min-le k 8 (nm .few-names)) ∙ sym (nm .all-names) in
         ap (findName t na nl name 0) e
         ∙ names-right t name na nl cs 0 (λ i l. ap (λ z. stretch t na nl z) (zero-add i) ∙ nm .name-at i (omega (arith, nm .all-names)))
         ∙ ap (λ z. cond (memberBy sameName name cs) z 8) (zero-add (indexBy sameName name cs))
@@ -391,7 +392,7 @@ uses-right t tb na nl k cs ca pos len n nm ni sh si inner ii uri = go (alertUrn 
         let i = index-member sameName name-exact [] name cs h in
         used-right t tb ca pos len n ni sh si inner ii (indexBy sameName name cs) (omega (arith, i .0, nm .all-names, nm .few-names)) path
 
-    go : (b : Bool) → cond b (usedBy t ca pos len sh inner n path (findName t na nl name 0 (fewer k 8))) Skipped
+    go : (b : Bool) → cond b (usedBy t ca pos len sh inner n path (findName t na nl name 0 (min k 8))) Skipped
         ≡ useOf tb (cond (b && memberBy sameName name cs) (some (urn (indexBy sameName name cs) (fields 58 path))) none)
     go false = refl
     go true = ap (usedBy t ca pos len sh inner n path) found ∙ known (memberBy sameName name cs) refl

@@ -60,21 +60,17 @@ searchFrom t category at len shared inner c w i (suc n) s =
     (lookAt t category at len shared inner c w i s)
     (searchFrom t category at len shared inner c w (i + 1) n (lookAt t category at len shared inner c w i s))
 
--- n, or m if that is less
-abbrev pub fewer : ℕ → ℕ → ℕ
-fewer n m = cond (leb n m) n m
-
 -- what is found in category c
 abbrev pub foundIn : ℕ → Search → Use
 foundIn c s = Used c (s .node) (s .whole) (s .compared)
 
 -- the path w in category c, if that is one
 unfoldable pub usedBy : List ℕ → List ℕ → List ℕ → List ℕ → List ℕ → List Bool → ℕ → List ℕ → ℕ → Use
-usedBy t category at len shared inner n w c = cond (ltb c 8) (foundIn c (searchFrom t category at len shared inner c w 0 (fewer n 64) nothing)) Skipped
+usedBy t category at len shared inner n w c = cond (ltb c 8) (foundIn c (searchFrom t category at len shared inner c w 0 (min n 64) nothing)) Skipped
 
 -- what a URI is to the table in the arrays
 unfoldable pub usesOf : List ℕ → List ℕ → List ℕ → ℕ → List ℕ → List ℕ → List ℕ → List ℕ → List Bool → ℕ → List ℕ → Use
 usesOf t nameAt nameLen k category at len shared inner n uri =
     cond (alertUrn uri)
-    (usedBy t category at len shared inner n (pathOf (lowered (drop 10 uri))) (findName t nameAt nameLen (categoryOf (lowered (drop 10 uri))) 0 (fewer k 8)))
+    (usedBy t category at len shared inner n (pathOf (lowered (drop 10 uri))) (findName t nameAt nameLen (categoryOf (lowered (drop 10 uri))) 0 (min k 8)))
     Skipped

@@ -2,11 +2,10 @@
 // category, and whether the node has nodes under it. Found once, when a table is decoded.
 ghost use mathlib.Core.Path.{_≡_};
 ghost use mathlib.Core.Bool.{false, not, _||_};
-ghost use Prim.Native.Nat.{ℕ, _+_, _≤_, _<_};
+ghost use Prim.Native.Nat.{ℕ, _+_, _≤_, _<_, min};
 ghost use lib.Dec.{eqb};
 ghost use lib.ListN.{length, getD};
 ghost use Rattle.node_search.specs.Arrays.{lastPath, SharedIn, childless};
-ghost use Rattle.node_search.specs.Search.{fewer};
 
 pub struct Marks {
     pub shared: [u8; 64],
@@ -102,10 +101,10 @@ pub fn of_nodes<'a>(
     len: &'a [u8; 64],
     nodes: usize,
 ) -> Marks
-    ensures { λ r. ⌜ SharedIn (now (t .entry)) (now (category .entry)) (now (at .entry)) (now (len .entry)) (r .shared) (fewer nodes 64) ⌝ }
-    ensures { λ r. ⌜ ((k : ℕ) → k < 64 → getD (r .inner) k false ≡ not (childless (now (parent .entry)) (k + 1) (fewer nodes 64))) ⌝ }
+    ensures { λ r. ⌜ SharedIn (now (t .entry)) (now (category .entry)) (now (at .entry)) (now (len .entry)) (r .shared) (min nodes 64) ⌝ }
+    ensures { λ r. ⌜ ((k : ℕ) → k < 64 → getD (r .inner) k false ≡ not (childless (now (parent .entry)) (k + 1) (min nodes 64))) ⌝ }
 {
-    let n = crate::uses::at_most(nodes, 64);
+    let n = text_bytes::compare::at_most(nodes, 64);
     let mut shared = [0u8; 64];
     share_paths(t, n, category, at, len, &mut shared);
     let mut inner = [false; 64];

@@ -5,7 +5,7 @@ ghost use lib.Dec.{eqb, leb};
 ghost use lib.ListN.{length};
 ghost use Rattle.text_bytes.specs.Text.{differAt, endsAt, lowered};
 ghost use Rattle.node_search.specs.Arrays.{stretch};
-ghost use Rattle.node_search.specs.Search.{findName, nothing, metWith, countedIn, lookBy, searchFrom, fewer, usesOf};
+ghost use Rattle.node_search.specs.Search.{findName, nothing, metWith, countedIn, lookBy, searchFrom, usesOf};
 
 // What a URI is to the table: skipped, or used, with its deepest node, or the root, whether it is that node, and the
 // bytes compared to find it.
@@ -226,16 +226,6 @@ fn search_nodes<'a>(
     s
 }
 
-// n, or m if that is less.
-pub fn at_most(n: usize, m: usize) -> usize
-    ensures { λ r. ⌜ (r ≡ fewer n m) × (r ≤ m) ⌝ }
-{
-    if n <= m {
-        return n;
-    }
-    m
-}
-
 // What a URI is to the table t, whose names and nodes the arrays hold.
 pub fn uses<'a>(
     t: &[u8],
@@ -260,12 +250,12 @@ pub fn uses<'a>(
         let s = text_bytes::cut::part(uri, 10, n);
         let colon = text_bytes::cut::find(s, 58);
         let name = text_bytes::cut::part(s, 0, colon);
-        let c = find_name(t, name_at, name_len, name, at_most(categories, 8));
+        let c = find_name(t, name_at, name_len, name, text_bytes::compare::at_most(categories, 8));
         if c < 8 {
             let found = c as u8;
             let path = colon + 1;
             let w = text_bytes::cut::part(s, path, n);
-            let most = at_most(nodes, 64);
+            let most = text_bytes::compare::at_most(nodes, 64);
             let e = search_nodes(t, category, at, len, shared, inner, found, w, most);
             return Use::Used {
                 category: found,

@@ -1,5 +1,5 @@
 -- Laws of the step over states whose categories' bytes are in one number.
-use Prim.Native.Nat.{ℕ, zero, suc, _+_, _-_, _*_, _/_, _%_, _^_, _≤_, _<_}
+use Prim.Native.Nat.{ℕ, zero, suc, _+_, _-_, _*_, _/_, _%_, _^_, _≤_, _<_, min}
 use mathlib.Core.Path.{_≡_, refl, sym, ap, ap₂, _∙_}
 use mathlib.Core.Bool.{Bool, true, false, _&&_, and-eq-true-iff}
 use mathlib.Core.List.{List}
@@ -18,9 +18,8 @@ use Rattle.node_step.specs.declared.Status.the-variants.{Open}
 use Rattle.node_step.specs.declared.Progress.{Progress}
 use Rattle.node_step.specs.declared.Hit.{Hit}
 use Rattle.node_step.specs.declared.stored.Packed.{Packed}
-use Rattle.node_step.specs.Step.{few, digit, put, rowAt, seek, extends, statusIn, takes, statusFrom, moved, stepNumbers}
+use Rattle.node_step.specs.Step.{digit, put, rowAt, seek, extends, statusIn, takes, statusFrom, moved, stepNumbers}
 use Rattle.node_step.specs.StatusByte.{byteOf, statusOf, packed, unpacked, packedOf, ofPacked, samePacked, stepPacked, movedPacked, fitsBy}
-use Rattle.node_search.specs.Search.{fewer}
 use Rattle.node_step.specs.Rows.{pack}
 use Rattle.node_step.proofs.PackedLaws.{pack-set}
 use Rattle.node_step.proofs.ProgressLaws.{same-lists}
@@ -122,9 +121,9 @@ module _ (rows ps : List ℕ) (inner : List Bool) (n : ℕ) (st : Packed) (c d :
     unfolding stepPacked stepNumbers
     packed-stay z = let a = test-is ∙ z in sym (rw (lt-leb 8 c h, a) again)
 
-    module _ {m : ℕ} {i : Hit} {res : Packed} (z : b ≡ true) (em : m ≡ few n) (ei : i ≡ seek rows ps m row c q 9 d) (er : res ≡ movedPacked inner st c d whole i) where
+    module _ {m : ℕ} {i : Hit} {res : Packed} (z : b ≡ true) (em : m ≡ min n 32) (ei : i ≡ seek rows ps m row c q 9 d) (er : res ≡ movedPacked inner st c d whole i) where
       abbrev hit : Hit
-      hit = seek rows ps (few n) (rowAt rows (st .signal)) c (digit (rowAt rows (st .signal)) c) 9 d
+      hit = seek rows ps (min n 32) (rowAt rows (st .signal)) c (digit (rowAt rows (st .signal)) c) 9 d
 
       hit-is : i ≡ hit
       hit-is = ei ∙ ap₂ (λ x y. seek rows ps m x c y 9 d) r q-is ∙ ap (λ x. seek rows ps x (rowAt rows (st .signal)) c (digit (rowAt rows (st .signal)) c) 9 d) em
@@ -144,7 +143,7 @@ module _ (rows ps : List ℕ) (inner : List Bool) (ca : List ℕ) (n s c b : ℕ
     unfolding fitsBy
     fits-past l = sym (rw (lt-leb b 1 h, le-leb 8 c l))
 
-    module _ (l : c < 8) {m : ℕ} (e : m ≡ fewer n 64) where
+    module _ (l : c < 8) {m : ℕ} (e : m ≡ min n 64) where
       pub fits-out : m ≤ b - 2 → false ≡ fitsBy rows ps inner ca n s c b
       unfolding fitsBy
       fits-out k = sym (rw (lt-leb b 1 h, lt-leb 8 c l, ← e, le-ltb (b - 2) m k))

@@ -21,7 +21,7 @@ use Rattle.resolution.specs.Direct as direct
 use Rattle.resolution.proofs.Lists.{getD-set-cases}
 use Rattle.resolution.proofs.Step.{EnvLaws}
 use Rattle.node_step.specs.declared.Hit.{Hit}
-use Rattle.node_step.specs.Step.{few, digit, put, parentOf, reaches, findRow, noHit, hitAt, seek}
+use Rattle.node_step.specs.Step.{digit, put, parentOf, reaches, findRow, noHit, hitAt, seek}
 use Rattle.node_step.specs.Rows.{pack, numbersFrom, Numbers}
 use Rattle.node_step.proofs.PackedLaws.{pack-digit, pack-set}
 use Rattle.node_step.proofs.NumberLaws.{numbers-length, numbers-at, numbers-set, numbers-bytes, Anchored, foundRow}

@@ -1,5 +1,5 @@
 -- The step at a node's number is the theory's step at the node.
-use Prim.Native.Nat.{ℕ, suc, _+_, _-_, _≤_, _<_}
+use Prim.Native.Nat.{ℕ, suc, _+_, _-_, _≤_, _<_, min}
 use mathlib.Core.Path.{_≡_, refl, sym, ap, ap₂, _∙_}
 use mathlib.Core.Logic.{inl, inr}
 use mathlib.Core.Bool.{Bool, true, false, cond, not, _&&_, and-false, false≢true, and-eq-true-iff}
@@ -25,12 +25,13 @@ use Rattle.node_step.specs.declared.Status.{Status}
 use Rattle.node_step.specs.declared.Status.the-variants.{Open, Held, Shut}
 use Rattle.node_step.specs.declared.State.{State}
 use Rattle.node_step.specs.declared.Hit.{Hit}
-use Rattle.node_step.specs.Step.{codedStatus, progressFrom, coded, few, digit, rowAt, innerAt, noHit, seek, extends, statusIn, isShut, lastTaken, takesPast, takes, statusFrom, moved, hitNumbers, stepNumbers}
+use Rattle.node_step.specs.Step.{codedStatus, progressFrom, coded, digit, rowAt, innerAt, noHit, seek, extends, statusIn, isShut, lastTaken, takesPast, takes, statusFrom, moved, hitNumbers, stepNumbers}
 use Rattle.node_search.specs.Arrays.{InnerIn}
 use Rattle.node_step.specs.Rows.{pack, numbersFrom, Numbers}
 use Rattle.node_step.proofs.ProgressLaws.{progress-at, progress-set}
 use Rattle.node_step.proofs.SearchedBy.{SearchedBy, rows-own}
 use Rattle.node_step.proofs.SeekRight.{reach-right, wide, digit-is, hitOf, seek-right}
+use Rattle.text_bytes.proofs.Lesser.{min-le}
 
 -- what has a proper extension of p has p above it
 some-under : (u : Option Parts) (whole : Bool) → nodeUnder u whole ≡ true → someBelow u ≡ true
@@ -197,9 +198,6 @@ module _ (table ps : List ℕ) (inner : List Bool) (n : ℕ) (t : Table) (wf : W
       go none f = absurd (false≢true (rw f at (taken-above now (g .fits c known) e)))
       go (some r) f = move-right r (below-to here d r f)
 
-  few-is : (n : ℕ) → n ≤ 32 → few n ≡ n
-  few-is n h = rw (le-leb n 32 h)
-
   status-is : statusIn (progressFrom (nodes t) (st .status) 0 8) c ≡ codedStatus (nodes t) c now
   status-is =
       ap (λ p. p .status) (progress-at (nodes t) (st .status) 0 8 c (record { status = Open }) (let k = nu .few-cats in omega arith))
@@ -211,7 +209,7 @@ module _ (table ps : List ℕ) (inner : List Bool) (n : ℕ) (t : Table) (wf : W
   hit-test =
       ap₂ (λ r m. cond (takes ps (statusIn (progressFrom (nodes t) (st .status) 0 8) c) (digit r c) (no d) whole) (seek rows ps m r c (digit r c) 9 (no d)) noHit)
       (by .own (st .signal) (g .live))
-      (few-is n (nu .few-signals))
+      (sym (min-le n 32 (nu .few-signals)))
       ∙ ap₂ (λ s z. cond (takes ps s z (no d) whole) (seek rows ps n packs c z 9 (no d)) noHit) status-is (digit-is t (nu .few-nodes) c known (st .signal))
       ∙ ap (λ b. cond b (seek rows ps n packs c (no here) 9 (no d)) noHit) (takes-right now (g .fits c known))
 
@@ -230,7 +228,7 @@ module _ (table ps : List ℕ) (inner : List Bool) (n : ℕ) (t : Table) (wf : W
       ap (λ b. cond b (coded t st) body) (lt-leb 8 c (let k = nu .few-cats in omega arith))
       ∙ ap₂ (λ r m. cond (takes ps (statusIn (progressFrom (nodes t) (st .status) 0 8) c) (digit r c) (no d) whole) (moved inner (coded t st) c (no d) whole (seek rows ps m r c (digit r c) 9 (no d))) (coded t st))
       (by .own (st .signal) (g .live))
-      (few-is n (nu .few-signals))
+      (sym (min-le n 32 (nu .few-signals)))
       ∙ ap₂ (λ s z. cond (takes ps s z (no d) whole) (moved inner (coded t st) c (no d) whole (seek rows ps n packs c z 9 (no d))) (coded t st))
       status-is
       (digit-is t (nu .few-nodes) c known (st .signal))
@@ -240,5 +238,5 @@ module _ (table ps : List ℕ) (inner : List Bool) (n : ℕ) (t : Table) (wf : W
       body : State
       body =
           cond (takes ps (statusIn (progressFrom (nodes t) (st .status) 0 8) c) (digit (rowAt rows (st .signal)) c) (no d) whole)
-          (moved inner (coded t st) c (no d) whole (seek rows ps (few n) (rowAt rows (st .signal)) c (digit (rowAt rows (st .signal)) c) 9 (no d)))
+          (moved inner (coded t st) c (no d) whole (seek rows ps (min n 32) (rowAt rows (st .signal)) c (digit (rowAt rows (st .signal)) c) 9 (no d)))
           (coded t st)

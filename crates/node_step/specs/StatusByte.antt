@@ -1,5 +1,5 @@
 -- Statuses as the image of a machine stores them, and all of a state's in one number.
-use Prim.Native.Nat.{ℕ, zero, suc, _+_, _-_, _*_}
+use Prim.Native.Nat.{ℕ, zero, suc, _+_, _-_, _*_, min}
 use mathlib.Core.Bool.{Bool, true, false, cond, _&&_}
 use mathlib.Core.List.{List}
 use lib.ListN.{getD, set, replicate}
@@ -11,7 +11,6 @@ use Rattle.node_step.specs.declared.State.{State}
 use Rattle.node_step.specs.declared.Hit.{Hit}
 use Rattle.node_step.specs.declared.stored.Packed.{Packed}
 use Rattle.node_step.specs.Step.{digit, put, rowAt, extends, statusIn, statusFrom, stepNumbers}
-use Rattle.node_search.specs.Search.{fewer}
 
 -- 0 open, 1 shut, 1 + n held at node n, which is at most 64
 abbrev pub byteOf : Status → ℕ
@@ -61,6 +60,6 @@ unfoldable pub fitsBy : List ℕ → List ℕ → List Bool → List ℕ → ℕ
 fitsBy rows ps inner category n s c b =
     cond (leb b 1) true
     (cond (leb 8 c) false
-    (cond (ltb (b - 2) (fewer n 64))
+    (cond (ltb (b - 2) (min n 64))
     (eqb (getD category (b - 2) 0) c && (getD inner (b - 2) false && extends ps (digit (rowAt rows s) c) (b - 1) true))
     false))

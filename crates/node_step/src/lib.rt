@@ -9,11 +9,12 @@
 pub mod stored;
 pub mod tries;
 
+use text_bytes::compare::at_most;
 ghost use mathlib.Core.Path.{_≡_};
 ghost use mathlib.Core.Bool.{_&&_};
 ghost use Prim.Native.Nat.{_≤_, _<_};
 ghost use lib.Dec.{eqb};
-ghost use Rattle.node_step.specs.Step.{few, rowAt, digit, put, parentOf, innerAt, reaches, findRow, seek, extends, progressIn, isShut, lastTaken, takesPast, statusFrom, moved, hitNumbers, stepNumbers};
+ghost use Rattle.node_step.specs.Step.{rowAt, digit, put, parentOf, innerAt, reaches, findRow, seek, extends, progressIn, isShut, lastTaken, takesPast, statusFrom, moved, hitNumbers, stepNumbers};
 
 // What is kept of the last URN that a category took: the category is open at its place, held at a node, or shut for good.
 pub enum Status {
@@ -38,17 +39,6 @@ pub struct Hit {
     pub found: bool,
     pub node: u8,
     pub signal: u8,
-}
-
-// n, or 32 if that is less.
-pub(crate) fn few_of(n: usize) -> usize
-    ensures { λ r. ⌜ r ≡ few n ⌝ }
-    ensures { λ r. ⌜ r ≤ 32 ⌝ }
-{
-    if n <= 32 {
-        return n;
-    }
-    32
 }
 
 // The places of a signal, one byte for each category.
@@ -307,7 +297,7 @@ fn hit_for<'a>(
     let progress = progress_in(categories, c);
     let last = last_taken(progress, q);
     if takes_at(parents, progress, last, d, whole) {
-        let n = few_of(signals);
+        let n = at_most(signals, 32);
         return seek_from(rows, parents, n, row, c, q, d);
     }
     Hit {

@@ -4,17 +4,16 @@ use crate::Progress;
 use crate::Status;
 use crate::digit_at;
 use crate::extends_of;
-use crate::few_of;
 use crate::last_taken;
 use crate::progress_from;
 use crate::put_at;
 use crate::row_at;
 use crate::seek_from;
 use crate::takes_at;
-use node_search::uses::at_most;
+use text_bytes::compare::at_most;
 ghost use mathlib.Core.Path.{_≡_};
 ghost use mathlib.Core.Bool.{true};
-ghost use Prim.Native.Nat.{_≤_, _<_};
+ghost use Prim.Native.Nat.{_<_};
 ghost use Rattle.node_step.specs.Step.{rowAt, digit, extends};
 ghost use Rattle.node_step.specs.StatusByte.{byteOf, statusOf, stepPacked, movedPacked, fitsBy};
 
@@ -108,7 +107,7 @@ pub fn step_packed<'a>(
     let progress = progress_of(b);
     let last = last_taken(progress, q);
     if takes_at(parents, progress, last, d, whole) {
-        let n = few_of(signals);
+        let n = at_most(signals, 32);
         let h = seek_from(rows, parents, n, row, c, q, d);
         return moved_packed(inner, st, c, b, d, whole, h);
     }

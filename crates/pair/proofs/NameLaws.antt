@@ -1,19 +1,18 @@
 -- The test by arrays whether two tables have a category in common is the one by names.
-use Prim.Native.Nat.{ℕ, _+_, _≤_, _<_}
+use Prim.Native.Nat.{ℕ, _+_, _≤_, _<_, min}
 use mathlib.Core.Path.{_≡_, refl, sym, ap, ap₂, _∙_}
 use mathlib.Core.Bool.{Bool, true, false, not, and-eq-true-iff}
 use mathlib.Core.List.{List, []}
 use lib.ListN.{getD}
-use borrow.Author.Tests.{le-leb}
 use native.Mathlib.Omega.{arith}
 use native.Mathlib.Numerals.{add-one}
 use Rattle.resolution.specs.Lists.{allBelow}
 use Rattle.resolution.specs.Names.{Name, sameName}
 use Rattle.resolution.proofs.Lists.{same-test, all-to, all-of, all-stop}
 use Rattle.node_search.specs.Arrays.{stretch, NamesIn}
-use Rattle.node_search.specs.Search.{fewer}
 use Rattle.pair.specs.Pair.{otherName, noneOf, apart}
 use Rattle.pair.specs.Alone.{otherAt, noneAt, apartBy}
+use Rattle.text_bytes.proofs.Lesser.{min-le}
 
 -- a test that the first k of n have passed
 pub record Passed (f : ℕ → Bool) (n k : ℕ) : Type 0 where
@@ -54,7 +53,7 @@ pub none-is : (ring rat rlen lamp lat llen : List ℕ) (n i : ℕ) {b : Bool} {x
 unfolding noneAt
 none-is ring rat rlen lamp lat llen n i e h = sym (e ∙ ap (λ x. allBelow n (otherAt x lamp lat llen)) h)
 
-pub apart-is : (ring rat rlen lamp lat llen : List ℕ) (rings lamps : ℕ) {m n : ℕ} {b : Bool} → m ≡ fewer rings 8 → n ≡ fewer lamps 8
+pub apart-is : (ring rat rlen lamp lat llen : List ℕ) (rings lamps : ℕ) {m n : ℕ} {b : Bool} → m ≡ min rings 8 → n ≡ min lamps 8
     → b ≡ allBelow m (noneAt ring rat rlen lamp lat llen n) → b ≡ apartBy ring rat rlen rings lamp lat llen lamps
 unfolding apartBy
 apart-is ring rat rlen lamp lat llen rings lamps e f h = h ∙ ap₂ (λ m n. allBelow m (noneAt ring rat rlen lamp lat llen n)) e f
@@ -64,7 +63,7 @@ pub none-stop : (x : Name) (t at len : List ℕ) (n j : ℕ) {b : Bool} {y : Nam
     → false ≡ allBelow n (otherAt x t at len)
 none-stop x t at len n j h e i q = passed-not (otherAt x t at len) n j h (other-same x t at len j e i q)
 
-pub apart-stop : (ring rat rlen lamp lat llen : List ℕ) (rings lamps i : ℕ) {m n : ℕ} {b : Bool} {x : Name} → m ≡ fewer rings 8 → n ≡ fewer lamps 8 → i < m
+pub apart-stop : (ring rat rlen lamp lat llen : List ℕ) (rings lamps i : ℕ) {m n : ℕ} {b : Bool} {x : Name} → m ≡ min rings 8 → n ≡ min lamps 8 → i < m
     → b ≡ allBelow n (otherAt x lamp lat llen) → x ≡ stretch ring rat rlen i → b ≡ false → false ≡ apartBy ring rat rlen rings lamp lat llen lamps
 apart-stop ring rat rlen lamp lat llen rings lamps i {m} {n} em en h e j q =
     apart-is ring rat rlen lamp lat llen rings lamps em en
@@ -74,9 +73,6 @@ apart-stop ring rat rlen lamp lat llen rings lamps i {m} {n} em en h e j q =
 all-alike : (n : ℕ) (f g : ℕ → Bool) → ((k : ℕ) → k < n → f k ≡ g k) → allBelow n f ≡ allBelow n g
 all-alike n f g h =
     same-test (allBelow n f) (allBelow n g) (λ e. all-of n g (λ k l. sym (h k l) ∙ all-to n f e k l)) (λ e. all-of n f (λ k l. h k l ∙ all-to n g e k l))
-
-few-names : (n : ℕ) → n ≤ 8 → fewer n 8 ≡ n
-few-names n h = rw (le-leb n 8 h)
 
 module _ (ring rat rlen lamp lat llen : List ℕ) (m n : ℕ) (a b : List Name) (ra : NamesIn ring rat rlen m a) (lb : NamesIn lamp lat llen n b) where
   one-right : (i : ℕ) → i < m → noneAt ring rat rlen lamp lat llen n i ≡ noneOf a b i
@@ -89,6 +85,6 @@ module _ (ring rat rlen lamp lat llen : List ℕ) (m n : ℕ) (a b : List Name) 
   pub apart-right : apartBy ring rat rlen m lamp lat llen n ≡ apart a b
   unfolding apartBy
   apart-right =
-      ap₂ (λ x y. allBelow x (noneAt ring rat rlen lamp lat llen y)) (few-names m (ra .few-names)) (few-names n (lb .few-names))
+      ap₂ (λ x y. allBelow x (noneAt ring rat rlen lamp lat llen y)) (sym (min-le m 8 (ra .few-names))) (sym (min-le n 8 (lb .few-names)))
       ∙ all-alike m (noneAt ring rat rlen lamp lat llen n) (noneOf a b) one-right
       ∙ ap (λ k. allBelow k (noneOf a b)) (sym (ra .all-names))

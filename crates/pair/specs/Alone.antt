@@ -1,11 +1,10 @@
 -- What the code goes by: the categories' names in arrays.
-use Prim.Native.Nat.{ℕ}
+use Prim.Native.Nat.{ℕ, min}
 use mathlib.Core.Bool.{Bool, not}
 use mathlib.Core.List.{List}
 use Rattle.resolution.specs.Lists.{allBelow}
 use Rattle.resolution.specs.Names.{Name, sameName}
 use Rattle.node_search.specs.Arrays.{stretch}
-use Rattle.node_search.specs.Search.{fewer}
 
 -- the name x is not that of category j
 unfoldable pub otherAt : Name → List ℕ → List ℕ → List ℕ → ℕ → Bool
@@ -17,4 +16,4 @@ noneAt ring rat rlen lamp lat llen n i = allBelow n (otherAt (stretch ring rat r
 
 -- no category of the one table is one of the other's, of at most 8 each
 unfoldable pub apartBy : List ℕ → List ℕ → List ℕ → ℕ → List ℕ → List ℕ → List ℕ → ℕ → Bool
-apartBy ring rat rlen m lamp lat llen n = allBelow (fewer m 8) (noneAt ring rat rlen lamp lat llen (fewer n 8))
+apartBy ring rat rlen m lamp lat llen n = allBelow (min m 8) (noneAt ring rat rlen lamp lat llen (min n 8))

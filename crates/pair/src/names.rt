@@ -1,12 +1,11 @@
 // Whether two tables have a category in common, by the names of their categories. Tables hold no capital letter, so names are
 // compared byte for byte.
-use node_search::uses::at_most;
+use text_bytes::compare::at_most;
 ghost use mathlib.Core.Path.{_≡_};
 ghost use Prim.Native.Nat.{_≤_, _<_};
 ghost use Rattle.resolution.specs.Lists.{allBelow};
 ghost use Rattle.node_search.specs.Arrays.{stretch};
-ghost use Rattle.node_search.specs.Search.{fewer};
-ghost use Rattle.pair.specs.Alone.{otherAt, noneAt, apartBy};
+ghost use Rattle.pair.specs.Alone.{otherAt, apartBy};
 
 // The name of category i, in the table's bytes.
 fn name<'a, 'b>(t: &'a [u8], at: &'b [u16; 8], len: &'b [u8; 8], i: usize) -> &'a [u8]

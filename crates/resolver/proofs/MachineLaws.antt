@@ -1,10 +1,10 @@
 -- An image walked over a whole value.
-use Prim.Native.Nat.{ℕ, _<_}
+use Prim.Native.Nat.{ℕ, _<_, min}
 use mathlib.Core.Path.{_≡_, refl, sym, ap, ap₂, _∙_}
 use mathlib.Core.Bool.{Bool, true, false, cond}
 use mathlib.Core.List.{List}
 use lib.Dec.{eqb}
-use borrow.Author.Tests.{eq-eqb, le-leb}
+use borrow.Author.Tests.{eq-eqb}
 use Rattle.alert_info.specs.Value.{refusalOf, urisOf}
 use Rattle.text_bytes.proofs.Fields.{byTest}
 use Rattle.resolution.proofs.Claim.{run-used}
@@ -21,17 +21,17 @@ use Rattle.entry_run.specs.declared.answer.Ended.{Ended}
 use Rattle.entry_run.proofs.FoldLaws.{Steps, holds-reads}
 use Rattle.entry_run.proofs.AnswerLaws.{value-refused, refused-first, value-ends, end-answer}
 use Rattle.node_step.specs.StatusByte.{fitsBy}
-use Rattle.node_search.specs.Search.{fewer}
 use Rattle.machine_symbols.specs.Listed.{SymbolsIn, tripleLists, symbolsOf, indexFrom}
 use Rattle.machine_symbols.specs.declared.Symbols.{Symbols}
 use Rattle.machine_checker.specs.Checks.{formBy}
 use Rattle.signal_table.proofs.TableRight.{table-symbols, table-form}
 use Rattle.machine_symbols.proofs.NumberRight.{number-right}
+use Rattle.text_bytes.proofs.Lesser.{min-le}
 
 module _ (t : List ℕ) (d : Decoded) (h : Holds t (tableOf t) d) (m : Machine) (listed : SymbolsIn (tableOf t) (m .symbols) (m .count))
-    (indexed : m .index ≡ indexFrom (m .symbols) 0 (fewer (m .count) 128)) (cats : m .categories ≡ d .categories) where
-  all-cats : fewer (m .categories) 8 ≡ tableOf t .cats
-  all-cats = let e = cats ∙ h .categories in ap (λ k. fewer k 8) e ∙ ap (λ b. cond b (tableOf t .cats) 8) (le-leb (tableOf t .cats) 8 (h .numbers .few-cats))
+    (indexed : m .index ≡ indexFrom (m .symbols) 0 (min (m .count) 128)) (cats : m .categories ≡ d .categories) where
+  all-cats : min (m .categories) 8 ≡ tableOf t .cats
+  all-cats = let e = cats ∙ h .categories in ap (λ k. min k 8) e ∙ sym (min-le (tableOf t .cats) 8 (h .numbers .few-cats))
 
   walk-steps : Steps t (tableOf t) d (holds-reads t (tableOf t) d h) m (λ j. Unit) (stepIn (tableOf t) (m .image)) Walk
   unfolding moved
@@ -72,7 +72,7 @@ module _ (t im v : List ℕ) where
 
 -- the listed symbols, and the form of an image, of a decoded table
 module _ (t : List ℕ) (d : Decoded) (means : Means t d) (z : d .refusal ≡ 0) {s : Symbols}
-    (listed : s ≡ symbolsOf (tripleLists (d .category) (d .parent) (fewer (d .nodes) 64) (fewer (d .categories) 8))) where
+    (listed : s ≡ symbolsOf (tripleLists (d .category) (d .parent) (min (d .nodes) 64) (min (d .categories) 8))) where
   pub symbols-listed : SymbolsIn (tableOf t) (s .bytes) (s .count)
   symbols-listed = table-symbols t d means z s listed
 

@@ -1,5 +1,5 @@
 -- What the builder and the checker answer for a stored table, from its decoded arrays.
-use Prim.Native.Nat.{ℕ}
+use Prim.Native.Nat.{ℕ, min}
 use mathlib.Core.Path.{_≡_, sym, ap, ap₂, subst, _∙_}
 use mathlib.Core.Bool.{Bool, true, false}
 use mathlib.Core.List.{List}
@@ -9,9 +9,7 @@ use lib.ListN.{replicate}
 use native.Mathlib.Omega.{arith}
 use Rattle.resolution.proofs.SymbolCount.{few-symbols}
 use Rattle.node_step.specs.StatusByte.{fitsBy}
-use Rattle.node_search.specs.Search.{fewer}
 use Rattle.node_step.specs.declared.stored.Packed.{Packed}
-use Rattle.node_search.proofs.UseLaws.{fewer-le}
 use Rattle.machine_image.specs.Refusals.{formOf}
 use Rattle.stored_table.specs.Tables.{tableOf, tableRefusal}
 use Rattle.stored_table.specs.Decoded.{Holds, Means}
@@ -30,6 +28,7 @@ use Rattle.signal_table.proofs.Claims.{all-used}
 use Rattle.machine_symbols.proofs.SymbolsRight.{symbols-in}
 use Rattle.machine_builder.proofs.BuildRight.{built-right, buffer-right}
 use Rattle.machine_checker.proofs.CheckRight.{form-right, check-right}
+use Rattle.text_bytes.proofs.Lesser.{min-le}
 
 module _ (t : List ℕ) (r : Decoded) (m : Means t r) where
   -- a refused table
@@ -50,7 +49,7 @@ module _ (t : List ℕ) (r : Decoded) (m : Means t r) where
     refused-check im = m .refusal ∙ sym (rw other)
 
   -- a well-formed one, with its symbols listed
-  module _ (z : r .refusal ≡ 0) (s : Symbols) (v : s ≡ symbolsOf (tripleLists (r .category) (r .parent) (fewer (r .nodes) 64) (fewer (r .categories) 8))) where
+  module _ (z : r .refusal ≡ 0) (s : Symbols) (v : s ≡ symbolsOf (tripleLists (r .category) (r .parent) (min (r .nodes) 64) (min (r .categories) 8))) where
     abbrev sy : List ℕ
     sy = s .bytes
 
@@ -73,7 +72,7 @@ module _ (t : List ℕ) (r : Decoded) (m : Means t r) where
     table-symbols =
         symbols-in t (r .category) (r .at) (r .len) (r .nodes) (tableOf t) (held .nodes) (r .rows) (r .parent) (r .signals) (held .numbers) sy count
         (omega (arith, few-symbols (tableOf t) (all-used t well), all-well .few-nodes))
-        (subst (λ (k : ℕ). Listed sy count (tripleLists (r .category) (r .parent) (fewer (r .nodes) 64) (fewer k 8))) (held .categories) (lists-listed (r .category) (r .parent) (fewer (r .nodes) 64) (fewer (r .categories) 8) v .0))
+        (subst (λ (k : ℕ). Listed sy count (tripleLists (r .category) (r .parent) (min (r .nodes) 64) (min k 8))) (held .categories) (lists-listed (r .category) (r .parent) (min (r .nodes) 64) (min (r .categories) 8) v .0))
 
     abbrev next : Packed → ℕ → Packed
     next = nextState (r .rows) (r .parent) (r .inner) (r .signals) sy
@@ -82,19 +81,19 @@ module _ (t : List ℕ) (r : Decoded) (m : Means t r) where
     fits = fitsBy (r .rows) (r .parent) (r .inner) (r .category) (r .nodes)
 
     -- the builder's limits are the table's own numbers
-    cats-are : fewer (r .categories) 8 ≡ tableOf t .cats
-    cats-are = ap (λ k. fewer k 8) (held .categories) ∙ sym (fewer-le (tableOf t .cats) 8 (held .numbers .few-cats))
+    cats-are : min (r .categories) 8 ≡ tableOf t .cats
+    cats-are = ap (λ k. min k 8) (held .categories) ∙ sym (min-le (tableOf t .cats) 8 (held .numbers .few-cats))
 
-    count-is : fewer count 128 ≡ count
-    count-is = sym (fewer-le count 128 (table-symbols .few-symbols))
+    count-is : min count 128 ≡ count
+    count-is = sym (min-le count 128 (table-symbols .few-symbols))
 
-    pub table-built : (room : ℕ) → builtBy next (fewer (r .categories) 8) (fewer count 128) room ≡ builtFrom t room
+    pub table-built : (room : ℕ) → builtBy next (min (r .categories) 8) (min count 128) room ≡ builtFrom t room
     unfolding builtFrom
     table-built room =
         ap₂ (λ k n. builtBy next k n room) cats-are count-is
         ∙ built-right (tableOf t) (held .well-formed) (r .rows) (r .parent) (r .signals) (held .numbers) sy count table-symbols (r .inner) (held .inner) room ∙ sym (rw same)
 
-    pub table-buffer : (room : ℕ) → bufferBy next (fewer (r .categories) 8) (fewer count 128) sy room ≡ bufferFrom t room
+    pub table-buffer : (room : ℕ) → bufferBy next (min (r .categories) 8) (min count 128) sy room ≡ bufferFrom t room
     unfolding bufferFrom
     table-buffer room =
         ap₂ (λ k n. bufferBy next k n sy room) cats-are count-is

@@ -1,5 +1,5 @@
 -- What the code answers over an image's rows is what is answered for the image; an accepted image has what they ask for.
-use Prim.Native.Nat.{ℕ, _+_, _-_, _*_, _≤_}
+use Prim.Native.Nat.{ℕ, _+_, _-_, _*_, _≤_, min}
 use mathlib.Core.Path.{_≡_, refl, sym, ap, _∙_}
 use mathlib.Core.Bool.{Bool, true, false, cond}
 use mathlib.Core.Option.{Option, some, none}
@@ -16,8 +16,6 @@ use Rattle.machine_image.specs.Refusals.{checkOf}
 use Rattle.machine_image.proofs.Form.{Formed, form-to}
 use Rattle.machine_image.proofs.Check.{check-to}
 use Rattle.stored_table.specs.Tables.{tableOf, tableRefusal}
-use Rattle.node_search.specs.Search.{fewer}
-use Rattle.node_search.proofs.UseLaws.{fewer-le}
 use Rattle.stored_table.specs.Decoded.{Means}
 use Rattle.stored_table.specs.declared.Decoded.{Decoded}
 use Rattle.stored_table.specs.Accepted.{Accepted}
@@ -36,6 +34,7 @@ use Rattle.small_writer.proofs.AnswerLaws.{answer-refused}
 use Rattle.small_machine.specs.Smaller.{machineFrom, classesRefusal, numberOf, bytesOf, proposeRefusal}
 use Rattle.small_machine.specs.Rows.{frontOf, rowsOf, machineBy}
 use Rattle.small_machine.proofs.RowLaws.{fits-same, proposed-same, small-same}
+use Rattle.text_bytes.proofs.Lesser.{min-le}
 
 -- the parts of an image as the code lends them
 pub rows-is : (im : List ℕ) (k : ℕ) → k ≡ symbolCount im → take (length im - (3 + 3 * k)) (drop (3 + 3 * k) im) ≡ rowsOf im
@@ -196,9 +195,9 @@ module _ (t im : List ℕ) (z : checkFrom t im ≡ 0) where
     )
 
 -- the bytes before a state's targets: one for the signal, and one for each category
-pub head-is : (t : List ℕ) (r : Decoded) → Means t r → r .refusal ≡ 0 → (n : ℕ) → n ≡ fewer (r .categories) 8 → n + 1 ≡ 1 + tableOf t .cats
+pub head-is : (t : List ℕ) (r : Decoded) → Means t r → r .refusal ≡ 0 → (n : ℕ) → n ≡ min (r .categories) 8 → n + 1 ≡ 1 + tableOf t .cats
 head-is t r m z n e =
     let h = m .holds (sym (m .refusal) ∙ z) in
     let w : n ≡ tableOf t .cats =
-    e ∙ ap (λ k. fewer k 8) (h .categories) ∙ sym (fewer-le (tableOf t .cats) 8 (accepted t (sym (m .refusal) ∙ z) .few-categories)) in
+    e ∙ ap (λ k. min k 8) (h .categories) ∙ sym (min-le (tableOf t .cats) 8 (accepted t (sym (m .refusal) ∙ z) .few-categories)) in
     omega (arith, w)

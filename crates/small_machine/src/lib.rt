@@ -44,7 +44,7 @@ fn judge(t: &[u8], im: &[u8]) -> Judged
         s.count,
         im,
     );
-    let head = node_search::uses::at_most(d.categories, 8) + 1;
+    let head = text_bytes::compare::at_most(d.categories, 8) + 1;
     Judged { refusal, head }
 }
 

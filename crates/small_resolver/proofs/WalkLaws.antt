@@ -1,5 +1,5 @@
 -- A small image walked over a whole value.
-use Prim.Native.Nat.{ℕ, _<_}
+use Prim.Native.Nat.{ℕ, _<_, min}
 use mathlib.Core.Path.{_≡_, refl, sym, ap, ap₂, _∙_}
 use mathlib.Core.Bool.{Bool, true, false, cond}
 use mathlib.Core.List.{List}
@@ -10,7 +10,6 @@ use Rattle.text_bytes.proofs.Fields.{byTest}
 use Rattle.resolution.proofs.Claim.{run-used}
 use Rattle.machine_image.specs.Image.{signalIn, targetIn}
 use Rattle.node_step.specs.StatusByte.{fitsBy}
-use Rattle.node_search.specs.Search.{fewer}
 use Rattle.stored_table.specs.Tables.{tableRefusal, tableOf}
 use Rattle.stored_table.specs.Decoded.{Holds, Means}
 use Rattle.stored_table.specs.declared.Decoded.{Decoded}
@@ -30,9 +29,9 @@ use Rattle.small_resolver.specs.Resolve.{walkedSmall, resolvedSmall}
 use Rattle.small_resolver.proofs.FormLaws.{small-right}
 
 module _ (t : List ℕ) (d : Decoded) (h : Holds t (tableOf t) d) (m : Machine) (listed : SymbolsIn (tableOf t) (m .symbols) (m .count))
-    (indexed : m .index ≡ indexFrom (m .symbols) 0 (fewer (m .count) 128)) (no-category : m .categories ≡ 0) where
-  no-byte : fewer (m .categories) 8 ≡ 0
-  no-byte = ap (λ k. fewer k 8) no-category
+    (indexed : m .index ≡ indexFrom (m .symbols) 0 (min (m .count) 128)) (no-category : m .categories ≡ 0) where
+  no-byte : min (m .categories) 8 ≡ 0
+  no-byte = ap (λ k. min k 8) no-category
 
   walk-steps : Steps t (tableOf t) d (holds-reads t (tableOf t) d h) m (λ c. Unit) (smallStep (tableOf t) (m .image)) Walk
   unfolding moved
@@ -70,7 +69,7 @@ module _ (t small v : List ℕ) where
 
 -- the listed symbols, and the form of a small image, of a decoded table
 module _ (t : List ℕ) (d : Decoded) (means : Means t d) (z : d .refusal ≡ 0) {s : Symbols}
-    (listed : s ≡ symbolsOf (tripleLists (d .category) (d .parent) (fewer (d .nodes) 64) (fewer (d .categories) 8))) where
+    (listed : s ≡ symbolsOf (tripleLists (d .category) (d .parent) (min (d .nodes) 64) (min (d .categories) 8))) where
   pub symbols-listed : SymbolsIn (tableOf t) (s .bytes) (s .count)
   symbols-listed = table-symbols t d means z s listed
 

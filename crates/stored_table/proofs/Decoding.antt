@@ -1,5 +1,5 @@
 -- From the nodes and the places to the answer: 9 to 12, and what the arrays of an accepted table hold.
-use Prim.Native.Nat.{ℕ, zero, suc, _+_, _≤_, _<_}
+use Prim.Native.Nat.{ℕ, zero, suc, _+_, _≤_, _<_, min}
 use mathlib.Core.Path.{_≡_, refl, ap, ap₂, sym, _∙_, subst}
 use mathlib.Core.Logic.{inl, inr, _≢_}
 use mathlib.Core.Bool.{Bool, true, false, cond, not}
@@ -16,10 +16,8 @@ use Rattle.resolution.proofs.Lists.{tabulate-length, tabulate-at}
 use Rattle.resolution.proofs.Numbers.{number-at, root-number}
 use Rattle.node_search.specs.Arrays.{stretch, NamesIn, NodesIn, SharedIn, childless}
 use Rattle.node_step.specs.Rows.{Numbers}
-use Rattle.node_search.specs.Search.{fewer}
 use Rattle.node_step.proofs.Leaves.{inner-is}
 use Rattle.node_search.proofs.MarkLaws.{shared-of}
-use Rattle.node_search.proofs.UseLaws.{fewer-le}
 use Rattle.table_sections.specs.declared.Counts.{Counts}
 use Rattle.table_nodes.specs.Nodes.{nodeUrn, Numbered, Nodes, AllAdded}
 use Rattle.signal_places.specs.Slots.{urnOf, Listing, Numbering, Placed}
@@ -28,6 +26,7 @@ use Rattle.stored_table.specs.Tables.{single, zeroSilent, distinct, fewN
 use Rattle.stored_table.specs.Stages.{ListedAs}
 use Rattle.stored_table.specs.Decoded.{Means}
 use Rattle.stored_table.proofs.Accepting.{accepted, node-parts}
+use Rattle.text_bytes.proofs.Lesser.{min-le}
 
 snoc-same : (p q : Parts) (x y : Name) → p ++ x ∷ [] ≡ q ++ y ∷ [] → p ≡ q
 snoc-same [] [] x y e = refl
@@ -133,11 +132,11 @@ module _ (t nameAt nameLen signal category pathAt pathLen : List ℕ) (l : Count
       placed-refused = S .refusal ∙ sym (P .refusal)
 
       -- the answer to an accepted table
-      pub means-accepted : r ≡ 0 → (shared : List ℕ) → SharedIn t cats at len shared (fewer n 64)
-          → (inner : List Bool) → ((k : ℕ) → k < 64 → getD inner k false ≡ not (childless parents (k + 1) (fewer n 64)))
+      pub means-accepted : r ≡ 0 → (shared : List ℕ) → SharedIn t cats at len shared (min n 64)
+          → (inner : List Bool) → ((k : ℕ) → k < 64 → getD inner k false ≡ not (childless parents (k + 1) (min n 64)))
           → Means t (record { refusal = 0; categories = l .categories; signals = l .signals; nodes = n; «name_at» = nameAt; «name_len» = nameLen; category = cats; parent = parents; at = at; len = len; shared = shared; inner = inner; rows = rows })
       means-accepted z shared si inner marked =
-          let few : n ≡ fewer n 64 = fewer-le n 64 h in
+          let few : n ≡ min n 64 = min-le n 64 h in
           let zero-is : tableRefusal t ≡ 0 = placed-refused ∙ z in
           let acc = accepted t zero-is in
           record {

@@ -26,7 +26,7 @@ pub fn needed(t: &[u8]) -> usize
 pub fn value(t: &[u8], records: [Tally; 32], n: usize, refusals: &mut [u32], v: &[u8]) -> Counted
     ensures { λ r. ⌜ Tallied (now (t .entry)) (take n records) (now (refusals .entry)) (now (v .entry)) (r .answer) (take n (r .records)) (now (refusals .exit)) ⌝ }
 {
-    let k = text_bytes::compare::lesser(n, 32);
+    let k = text_bytes::compare::at_most(n, 32);
     let r = judge::judge(t, k, refusals, v);
     let s = records::place(r, k);
     if k <= s {

@@ -105,21 +105,21 @@ pub fn same(a: &[u8], b: &[u8]) -> bool
     same_words(a, b)
 }
 
-// The lesser of two numbers.
-pub fn lesser(a: usize, b: usize) -> usize
-    ensures { λ r. ⌜ r ≡ min a b ⌝ }
+// n, or m if that is less.
+pub fn at_most(n: usize, m: usize) -> usize
+    ensures { λ r. ⌜ (r ≡ min n m) × (r ≤ m) ⌝ }
 {
-    if a <= b {
-        return a;
+    if n <= m {
+        return n;
     }
-    b
+    m
 }
 
 // From a byte on, up to which two texts agree: the first at which they do not, or that one of them lacks. One by one.
 fn common_bytes(p: &[u8], w: &[u8], from: usize) -> usize
     ensures { λ r. ⌜ r ≡ from + common (drop from (now (p .entry))) (drop from (now (w .entry))) ⌝ }
 {
-    let n = lesser(p.len(), w.len());
+    let n = at_most(p.len(), w.len());
     let mut i = from;
     while i < n {
         if p[i] == w[i] {
@@ -135,7 +135,7 @@ fn common_bytes(p: &[u8], w: &[u8], from: usize) -> usize
 pub fn common_from(p: &[u8], w: &[u8], from: usize) -> usize
     ensures { λ r. ⌜ r ≡ from + common (drop from (now (p .entry))) (drop from (now (w .entry))) ⌝ }
 {
-    let n = lesser(p.len(), w.len());
+    let n = at_most(p.len(), w.len());
     let mut i = from;
     while i < n {
         if n - i < 8 {

@@ -43,7 +43,7 @@ fn lower_word_at(s: &[u8], i: usize) -> u64
 fn common_lowered_bytes(p: &[u8], w: &[u8], from: usize) -> usize
     ensures { λ r. ⌜ r ≡ from + common (drop from (now (p .entry))) (drop from (lowered (now (w .entry)))) ⌝ }
 {
-    let n = crate::compare::lesser(p.len(), w.len());
+    let n = crate::compare::at_most(p.len(), w.len());
     let mut i = from;
     while i < n {
         if p[i] == lower_of(w[i]) {
@@ -59,7 +59,7 @@ fn common_lowered_bytes(p: &[u8], w: &[u8], from: usize) -> usize
 fn common_lowered_from(p: &[u8], w: &[u8], from: usize) -> usize
     ensures { λ r. ⌜ r ≡ from + common (drop from (now (p .entry))) (drop from (lowered (now (w .entry)))) ⌝ }
 {
-    let n = crate::compare::lesser(p.len(), w.len());
+    let n = crate::compare::at_most(p.len(), w.len());
     let mut i = from;
     while i < n {
         if n - i < 8 {
@@ -82,7 +82,7 @@ pub fn common_lowered_next(p: &[u8], w: &[u8], k: usize, l: usize) -> usize
     if k == l {
         return common_lowered_from(p, w, k);
     }
-    crate::compare::lesser(k, l)
+    crate::compare::at_most(k, l)
 }
 
 // Both texts have a byte at n, and w's, taken as a small letter, is another than p's.

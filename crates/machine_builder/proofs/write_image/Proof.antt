@@ -1,12 +1,12 @@
 use mathlib.Core.Path.{refl, sym, ap, _∙_}
 use native.Mathlib.Omega.{arith}
 use lib.ListN.{replicate}
-use Rattle.node_search.proofs.UseLaws.{fewer-le}
 use Rattle.machine_symbols.specs.Steps.{nextState}
 use Rattle.machine_builder.proofs.WriteLaws.{first-length, built-many, built-short, built-done, rows-fit}
 use borrow.Author.Needs.{needs}
 use Rattle.machine_builder.proofs.write_image.Statement.{statement}
 use Rattle.machine_builder.proofs.write_image.Tie as tie
+use Rattle.text_bytes.proofs.Lesser.{min-le}
 
 mul-head : tie.Need-mul-head
 mul-head c = search needs
@@ -94,7 +94,7 @@ same-length-3 c = search needs
 returns-3 : tie.Need-returns-3
 returns-3 c = let a = c .before .before .before .before .before .before .before .before .before .before .before .before .before .before .before .before .args in
     built-done (nextState (a .rows .now) (a .parents .now) (a .inner .now) (a .signals) (a .symbols .now)) (a .categories) (a .count) (a .symbols .now) (a .buf .now) (c .before .before .before .before .before .before .before .before .before .before .before .before .discover .last .1 .1 .1 .1 .1 .1 .1 .0) _ (c .before .before .before .before .before .before .before .before .before .before .before .before .before .before .at-most .result) (c .before .before .before .before .before .before .before .before .before .before .before .before .discover .result) (c .before .before .before .before .before .before .before .before .before .before .before .before .discover .ensures) (c .before .before .before .before .before .before .before .before .before .if1 .left)
-    (c .before .before .before .before .before .before .before .before .if2 .left) (c .before .before .before .before .before .before .put-head .last .1 .1 .1 .0) (c .before .before .clear .last .0) (c .before .before .before .before .before .before .before .before .before .before .before .before .before .before .at-most .ensures .0 ∙ sym (fewer-le _ _ (omega arith))) refl (c .before .before .before .before .before .before .put-head .ensures) (c .before .before .clear .ensures)
+    (c .before .before .before .before .before .before .before .before .if2 .left) (c .before .before .before .before .before .before .put-head .last .1 .1 .1 .0) (c .before .before .clear .last .0) (c .before .before .before .before .before .before .before .before .before .before .before .before .before .before .at-most .ensures .0 ∙ sym (min-le _ _ (omega arith))) refl (c .before .before .before .before .before .before .put-head .ensures) (c .before .before .clear .ensures)
 
 pub write-image-spec : {M : Type 1} → statement M
 write-image-spec =

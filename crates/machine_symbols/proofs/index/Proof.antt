@@ -1,7 +1,6 @@
 use native.Mathlib.Omega.{arith}
-use Prim.Native.Nat.{_-_, _≤_}
+use Prim.Native.Nat.{_-_, _≤_, min}
 use mathlib.Core.Path.{_≡_, refl}
-use Rattle.node_search.specs.Search.{fewer}
 use Rattle.machine_symbols.specs.Listed.{indexFrom}
 use Rattle.machine_symbols.proofs.SymbolLaws.{index-none, index-put, index-skip, index-all}
 use borrow.Author.Needs.{needs}
@@ -9,7 +8,7 @@ use Rattle.machine_symbols.proofs.index.Statement.{statement}
 use Rattle.machine_symbols.proofs.index.Tie as tie
 
 abbrev Inv-loop : tie.InvT-loop
-Inv-loop bytes count index₀ k₀ index k = (k ≤ 128) × (k ≤ fewer count 128) × (index ≡ indexFrom bytes k (fewer count 128 - k))
+Inv-loop bytes count index₀ k₀ index k = (k ≤ 128) × (k ≤ min count 128) × (index ≡ indexFrom bytes k (min count 128 - k))
 
 abbrev μ-loop : tie.MeasureT-loop
 μ-loop bytes count index₀ k₀ index k = k

@@ -19,14 +19,14 @@ last-taken-requires c κs = search needs
 takes-at-requires : tie.Need-takes-at-requires
 takes-at-requires c κs = search needs
 
-few-of-requires : tie.Need-few-of-requires
-few-of-requires c κs = search needs
+at-most-requires : tie.Need-at-most-requires
+at-most-requires c κs = search needs
 
 seek-from-requires : tie.Need-seek-from-requires
 seek-from-requires c κs = search needs
 
 returns : tie.Need-returns
-returns c = hit-sought _ _ _ _ _ _ _ _ _ (c .before .before .before .before .before .before .before .before .row-at .ensures) (c .before .before .before .before .before .before .before .digit-at .ensures) (ap (λ x. x .status) (c .before .before .before .before .before .progress-in .ensures)) (takes-last _ _ _ _ _ (c .before .before .before .before .last-taken .ensures) (c .before .before .before .takes-at .ensures)) (c .before .before .if1 .taken) (c .before .few-of .ensures .0) (c .seek-from .ensures)
+returns c = hit-sought _ _ _ _ _ _ _ _ _ (c .before .before .before .before .before .before .before .before .row-at .ensures) (c .before .before .before .before .before .before .before .digit-at .ensures) (ap (λ x. x .status) (c .before .before .before .before .before .progress-in .ensures)) (takes-last _ _ _ _ _ (c .before .before .before .before .last-taken .ensures) (c .before .before .before .takes-at .ensures)) (c .before .before .if1 .taken) (c .before .at-most .ensures .0) (c .seek-from .ensures)
 
 returns-2 : tie.Need-returns-2
 returns-2 c = hit-none _ _ _ _ _ _ _ _ _ (c .before .before .before .before .before .before .row-at .ensures) (c .before .before .before .before .before .digit-at .ensures) (ap (λ x. x .status) (c .before .before .before .progress-in .ensures)) (takes-last _ _ _ _ _ (c .before .before .last-taken .ensures) (c .before .takes-at .ensures)) (c .if1 .left)
@@ -40,7 +40,7 @@ hit-for-spec =
     progress-in-requires
     last-taken-requires
     takes-at-requires
-    few-of-requires
+    at-most-requires
     seek-from-requires
     returns
     returns-2)

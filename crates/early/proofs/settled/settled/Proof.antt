@@ -12,7 +12,7 @@ use Rattle.early.proofs.settled.settled.Tie as tie
 use Rattle.early.proofs.settled.settled.Reads as reads
 use Rattle.early.proofs.settled.settled.Lts as lts
 use Rattle.early.proofs.settled.category_keeps.Reads as category-keeps-reads
-use Rattle.node_search.proofs.uses.at_most.Reads as at-most-reads
+use Rattle.text_bytes.proofs.compare.at_most.Reads as at-most-reads
 
 abbrev Inv-loop : tie.InvT-loop
 Inv-loop rows parents inner signals categories st k c₀ c = (c ≤ k) × (allBelow c (categoryKeeps rows parents inner signals st) ≡ true)

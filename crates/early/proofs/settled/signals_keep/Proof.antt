@@ -13,7 +13,7 @@ use Rattle.early.proofs.settled.signals_keep.Reads as reads
 use Rattle.early.proofs.settled.signals_keep.Lts as lts
 use Rattle.early.proofs.settled.beside_keeps.Reads as beside-keeps-reads
 use Rattle.early.proofs.settled.row_of.Reads as row-of-reads
-use Rattle.node_search.proofs.uses.at_most.Reads as at-most-reads
+use Rattle.text_bytes.proofs.compare.at_most.Reads as at-most-reads
 
 abbrev Inv-loop : tie.InvT-loop
 Inv-loop rows parents inner signals st c row n s₀ s = (s ≤ n) × (allBelow s (signalKeeps rows parents inner signals st c) ≡ true)

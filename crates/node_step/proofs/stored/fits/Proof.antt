@@ -7,7 +7,7 @@ use Rattle.node_step.proofs.stored.fits.Tie as tie
 use Rattle.node_step.proofs.stored.fits.Reads as reads
 use Rattle.node_step.proofs.stored.fits.Lts as lts
 use Rattle.node_step.proofs.stored.beyond.Reads as beyond-reads
-use Rattle.node_search.proofs.uses.at_most.Reads as at-most-reads
+use Rattle.text_bytes.proofs.compare.at_most.Reads as at-most-reads
 use Rattle.text_bytes.proofs.cut.wide8.Reads as wide8-reads
 
 -- src/stored.rt:166:9

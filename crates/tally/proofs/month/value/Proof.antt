@@ -5,8 +5,8 @@ use borrow.Author.Needs.{needs}
 use Rattle.tally.proofs.month.value.Statement.{statement}
 use Rattle.tally.proofs.month.value.Tie as tie
 
-lesser-requires : tie.Need-lesser-requires
-lesser-requires c κs = search needs
+at-most-requires : tie.Need-at-most-requires
+at-most-requires c κs = search needs
 
 judge-requires : tie.Need-judge-requires
 judge-requires c κs = search needs
@@ -18,7 +18,7 @@ same-length : tie.Need-same-length
 same-length c = search needs
 
 returns : tie.Need-returns
-returns c = let w : length (c .before .before .before .before .before .before .before .before .before .before .args .t2) ≡ 32 = c .before .before .before .before .before .before .before .before .before .before .good .1 .0 .1 .0 .1 in first-past _ (c .before .before .before .before .before .before .before .before .before .before .args .t2) (c .before .before .before .before .before .before .before .before .before .before .args .n) _ _ _ _ _ _ w (c .before .before .before .before .before .before .lesser .ensures) (c .before .before .before .before .judge .ensures) (c .before .place .ensures) (c .if1 .taken)
+returns c = let w : length (c .before .before .before .before .before .before .before .before .before .before .args .t2) ≡ 32 = c .before .before .before .before .before .before .before .before .before .before .good .1 .0 .1 .0 .1 in first-past _ (c .before .before .before .before .before .before .before .before .before .before .args .t2) (c .before .before .before .before .before .before .before .before .before .before .args .n) _ _ _ _ _ _ w (c .before .before .before .before .before .before .at-most .ensures .0) (c .before .before .before .before .judge .ensures) (c .before .place .ensures) (c .if1 .taken)
 
 mul-plus : tie.Need-mul-plus
 mul-plus c = search needs
@@ -39,13 +39,13 @@ same-length-2 : tie.Need-same-length-2
 same-length-2 c = search needs
 
 returns-2 : tie.Need-returns-2
-returns-2 c = let w : length (c .before .before .before .before .before .before .before .before .before .before .before .before .before .before .args .t2) ≡ 32 = c .before .before .before .before .before .before .before .before .before .before .before .before .before .before .good .1 .0 .1 .0 .1 in first-within _ (c .before .before .before .before .before .before .before .before .before .before .before .before .before .before .args .t2) (c .before .before .before .before .before .before .before .before .before .before .before .before .before .before .args .n) _ _ _ _ _ _ w (c .before .before .before .before .before .before .before .before .before .before .lesser .ensures) (c .before .before .before .before .before .before .before .before .judge .ensures) (c .before .before .before .before .before .place .ensures) (c .before .before .before .before .if1 .left) _ (c .before .before .plus .ensures)
+returns-2 c = let w : length (c .before .before .before .before .before .before .before .before .before .before .before .before .before .before .args .t2) ≡ 32 = c .before .before .before .before .before .before .before .before .before .before .before .before .before .before .good .1 .0 .1 .0 .1 in first-within _ (c .before .before .before .before .before .before .before .before .before .before .before .before .before .before .args .t2) (c .before .before .before .before .before .before .before .before .before .before .before .before .before .before .args .n) _ _ _ _ _ _ w (c .before .before .before .before .before .before .before .before .before .before .at-most .ensures .0) (c .before .before .before .before .before .before .before .before .judge .ensures) (c .before .before .before .before .before .place .ensures) (c .before .before .before .before .if1 .left) _ (c .before .before .plus .ensures)
 
 pub value-spec : {M : Type 1} → statement M
 value-spec =
     tie.close
     (tie.spec
-    lesser-requires
+    at-most-requires
     judge-requires
     place-requires
     same-length

@@ -14,8 +14,8 @@ Inv-loop p w from n i₀ i = from + common (drop from p) (drop from w) ≡ i + c
 abbrev μ-loop : tie.MeasureT-loop
 μ-loop p w from n i₀ i = length p - i
 
-lesser-requires : tie.Need-lesser-requires Inv-loop μ-loop
-lesser-requires c κs = search needs
+at-most-requires : tie.Need-at-most-requires Inv-loop μ-loop
+at-most-requires c κs = search needs
 
 loop-holds : tie.Need-loop-holds Inv-loop μ-loop
 loop-holds c = refl
@@ -30,19 +30,19 @@ add-i : tie.Need-add-i Inv-loop μ-loop
 add-i c = search needs
 
 loop-less : tie.Need-loop-less Inv-loop μ-loop
-loop-less c = omega (arith, c .before .before .before .before .before .lesser .ensures)
+loop-less c = omega (arith, c .before .before .before .before .before .at-most .ensures .0)
 
 loop-again : tie.Need-loop-again Inv-loop μ-loop
 loop-again c = let a = c .before .before .before .before .before .before .before .before .args in
-    common-more (a .p .now) (a .w .now) (c .before .before .before .before .loop .i) (c .before .before .before .before .loop .inv) (omega (arith, c .before .before .before .before .before .lesser .ensures)) (omega (arith, c .before .before .before .before .before .lesser .ensures)) (c .if1 .taken)
+    common-more (a .p .now) (a .w .now) (c .before .before .before .before .loop .i) (c .before .before .before .before .loop .inv) (omega (arith, c .before .before .before .before .before .at-most .ensures .0)) (omega (arith, c .before .before .before .before .before .at-most .ensures .0)) (c .if1 .taken)
 
 returns : tie.Need-returns Inv-loop μ-loop
 returns c = let a = c .before .before .before .before .before .before .before .before .args in
-    common-less (a .p .now) (a .w .now) (c .before .before .before .before .loop .i) (c .before .before .before .before .loop .inv) (omega (arith, c .before .before .before .before .before .lesser .ensures)) (omega (arith, c .before .before .before .before .before .lesser .ensures)) (c .if1 .left)
+    common-less (a .p .now) (a .w .now) (c .before .before .before .before .loop .i) (c .before .before .before .before .loop .inv) (omega (arith, c .before .before .before .before .before .at-most .ensures .0)) (omega (arith, c .before .before .before .before .before .at-most .ensures .0)) (c .if1 .left)
 
 returns-2 : tie.Need-returns-2 Inv-loop μ-loop
 returns-2 c = let a = c .before .before .before .before .before .args in
-    common-end (a .p .now) (a .w .now) (c .before .loop .i) (c .before .loop .inv) (omega (arith, c .before .before .lesser .ensures))
+    common-end (a .p .now) (a .w .now) (c .before .loop .i) (c .before .loop .inv) (omega (arith, c .before .before .at-most .ensures .0))
 
 pub common-bytes-spec : {M : Type 1} → statement M
 common-bytes-spec =
@@ -50,7 +50,7 @@ common-bytes-spec =
     (tie.spec
     Inv-loop
     μ-loop
-    lesser-requires
+    at-most-requires
     loop-holds
     shared-slice-read-if1
     shared-slice-read-if1-2

@@ -15,8 +15,8 @@ Inv-loop p w from n i₀ i = from + common (drop from p) (drop from (lowered w))
 abbrev μ-loop : tie.MeasureT-loop
 μ-loop p w from n i₀ i = n - i
 
-lesser-requires : tie.Need-lesser-requires Inv-loop μ-loop
-lesser-requires c κs = search needs
+at-most-requires : tie.Need-at-most-requires Inv-loop μ-loop
+at-most-requires c κs = search needs
 
 loop-holds : tie.Need-loop-holds Inv-loop μ-loop
 loop-holds c = refl
@@ -38,15 +38,15 @@ loop-less c = omega arith
 
 loop-again : tie.Need-loop-again Inv-loop μ-loop
 loop-again c = let a = c .before .before .before .before .before .before .before .before .before .args in
-    common-more (a .p .now) (lowered (a .w .now)) (c .before .before .before .before .before .loop .i) (c .before .before .before .before .before .loop .inv) (omega (arith, c .before .before .before .before .before .before .lesser .ensures)) (omega (arith, c .before .before .before .before .before .before .lesser .ensures, lowered-length (a .w .now))) (c .if1 .taken ∙ c .before .lower-of .ensures ∙ sym (lowered-at (a .w .now) (c .before .before .before .before .before .loop .i) (omega (arith, c .before .before .before .before .before .before .lesser .ensures))))
+    common-more (a .p .now) (lowered (a .w .now)) (c .before .before .before .before .before .loop .i) (c .before .before .before .before .before .loop .inv) (omega (arith, c .before .before .before .before .before .before .at-most .ensures .0)) (omega (arith, c .before .before .before .before .before .before .at-most .ensures .0, lowered-length (a .w .now))) (c .if1 .taken ∙ c .before .lower-of .ensures ∙ sym (lowered-at (a .w .now) (c .before .before .before .before .before .loop .i) (omega (arith, c .before .before .before .before .before .before .at-most .ensures .0))))
 
 returns : tie.Need-returns Inv-loop μ-loop
 returns c = let a = c .before .before .before .before .before .before .before .before .before .args in
-    common-less (a .p .now) (lowered (a .w .now)) (c .before .before .before .before .before .loop .i) (c .before .before .before .before .before .loop .inv) (omega (arith, c .before .before .before .before .before .before .lesser .ensures)) (omega (arith, c .before .before .before .before .before .before .lesser .ensures, lowered-length (a .w .now))) (λ e. c .if1 .left (e ∙ lowered-at (a .w .now) (c .before .before .before .before .before .loop .i) (omega (arith, c .before .before .before .before .before .before .lesser .ensures)) ∙ sym (c .before .lower-of .ensures)))
+    common-less (a .p .now) (lowered (a .w .now)) (c .before .before .before .before .before .loop .i) (c .before .before .before .before .before .loop .inv) (omega (arith, c .before .before .before .before .before .before .at-most .ensures .0)) (omega (arith, c .before .before .before .before .before .before .at-most .ensures .0, lowered-length (a .w .now))) (λ e. c .if1 .left (e ∙ lowered-at (a .w .now) (c .before .before .before .before .before .loop .i) (omega (arith, c .before .before .before .before .before .before .at-most .ensures .0)) ∙ sym (c .before .lower-of .ensures)))
 
 returns-2 : tie.Need-returns-2 Inv-loop μ-loop
 returns-2 c = let a = c .before .before .before .before .before .args in
-    common-end (a .p .now) (lowered (a .w .now)) (c .before .loop .i) (c .before .loop .inv) (omega (arith, c .before .before .lesser .ensures, lowered-length (a .w .now)))
+    common-end (a .p .now) (lowered (a .w .now)) (c .before .loop .i) (c .before .loop .inv) (omega (arith, c .before .before .at-most .ensures .0, lowered-length (a .w .now)))
 
 pub common-lowered-bytes-spec : {M : Type 1} → statement M
 common-lowered-bytes-spec =
@@ -54,7 +54,7 @@ common-lowered-bytes-spec =
     (tie.spec
     Inv-loop
     μ-loop
-    lesser-requires
+    at-most-requires
     loop-holds
     shared-slice-read-if1
     shared-slice-read-lower-of

@@ -10,12 +10,12 @@ common-lowered-from-requires c κs = search needs
 returns : tie.Need-returns
 returns c = let a = c .before .before .before .before .args in next-equal (a .p .now) (lowered (a .w .now)) (a .k) (a .l) (c .before .if1 .taken) (c .common-lowered-from .ensures)
 
-lesser-requires : tie.Need-lesser-requires
-lesser-requires c κs = search needs
+at-most-requires : tie.Need-at-most-requires
+at-most-requires c κs = search needs
 
 returns-2 : tie.Need-returns-2
-returns-2 c = let a = c .before .before .before .before .args in next-lesser (a .p .now) (lowered (a .w .now)) (a .k) (a .l) (c .before .if1 .left) (c .lesser .ensures)
+returns-2 c = let a = c .before .before .before .before .args in next-lesser (a .p .now) (lowered (a .w .now)) (a .k) (a .l) (c .before .if1 .left) (c .at-most .ensures .0)
 
 pub common-lowered-next-spec : {M : Type 1} → statement M
 common-lowered-next-spec =
-    tie.close (tie.spec common-lowered-from-requires returns lesser-requires returns-2)
+    tie.close (tie.spec common-lowered-from-requires returns at-most-requires returns-2)
