@@ -7,8 +7,8 @@
 mod rows;
 
 use entry_run::Resolution;
+use entry_run::answer::direct;
 use entry_run::answer::refused;
-use entry_run::answer::resolved;
 use entry_run::answer::value_first;
 use entry_run::run::at_start;
 use text_bytes::compare::at_most;
@@ -48,19 +48,7 @@ pub fn by(t: &[u8], d: Decoded, set: u32, v: &[u8]) -> Resolution
     if !is_known(set, d.signals) {
         return value_first(v, 23);
     }
-    let no_index = [0u8; 136];
-    let no_symbols = [0u8; 384];
-    let e = resolved(
-        t,
-        among(d, set),
-        &no_index,
-        &no_symbols,
-        0,
-        0,
-        t,
-        at_start(),
-        v,
-    );
+    let e = direct(t, among(d, set), at_start(), v);
     e.answer
 }
 

@@ -10,9 +10,6 @@ use borrow.Author.Tests.{ne-eqb, le-leb, lt-leb}
 use Rattle.call_log.specs.Log.{wordAt, afterCall, endFrom, endOf, isLog}
 
 -- a byte past the end counts as 0
-pub byte-past : (log : List ℕ) (at : ℕ) → length log ≤ at → 0 ≡ getD log at 0
-byte-past log at h = sym (List·getD-eq-default log 0 {n = at} h)
-
 -- calls end no earlier than they begin
 pub ends-after : (log : List ℕ) (n at : ℕ) → at ≤ endFrom log at n
 unfolding endFrom

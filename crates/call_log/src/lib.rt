@@ -8,6 +8,7 @@ mod c;
 
 use entry_run::Resolution;
 use stored_table::Decoded;
+use text_bytes::cut::byte;
 use text_bytes::cut::part;
 ghost use mathlib.Core.Path.{_≡_};
 ghost use Prim.Native.Nat.{_+_, _<_};
@@ -53,16 +54,6 @@ fn differs(k: u16, r: Resolution) -> Verdict
         used: r.used,
         skipped: r.skipped,
     }
-}
-
-// The byte at a position, 0 past the end.
-fn byte(log: &[u8], at: usize) -> u8
-    ensures { λ r. ⌜ r ≡ getD (now (log .entry)) at 0 ⌝ }
-{
-    if at < log.len() {
-        return log[at];
-    }
-    0
 }
 
 // The number that two bytes say, low first.

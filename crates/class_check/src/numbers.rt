@@ -1,4 +1,5 @@
 // Classes by their first states: the first state of each state's class, and classes numbered in the order of these.
+use text_bytes::cut::wide;
 ghost use mathlib.Core.Path.{_≡_};
 ghost use Prim.Native.Nat.{suc, _≤_, _<_};
 ghost use mathlib.Core.Bool.{cond};
@@ -7,12 +8,6 @@ ghost use lib.ListN.{length, getD};
 ghost use Rattle.resolution.specs.Lists.{sameList, tabulate};
 ghost use Rattle.machine_classes.specs.Refine.{leader, leaders, sameClass, blockNumber};
 ghost use Rattle.class_check.specs.Found.{Firsts};
-
-pub(crate) fn wide(x: u8) -> usize
-    ensures { λ r. ⌜ (r ≡ x) × (r < 256) ⌝ }
-{
-    x as usize
-}
 
 // Two lists of bytes of one length are the same.
 pub(crate) fn same(a: &[u8], b: &[u8]) -> bool

@@ -1,5 +1,5 @@
 // The states that state 0 leads to, and the classes that have one of them.
-use crate::numbers::wide;
+use text_bytes::cut::wide;
 ghost use mathlib.Core.Path.{_≡_};
 ghost use Prim.Native.Nat.{ℕ, _≤_, _<_, max};
 ghost use lib.ListN.{length, take, getD};

@@ -1,3 +1,4 @@
+use text_bytes::cut::wide;
 ghost use mathlib.Core.Path.{_≡_};
 ghost use Prim.Native.Nat.{_≤_, _<_};
 ghost use lib.Dec.{eqb};
@@ -5,12 +6,6 @@ ghost use lib.ListN.{length};
 ghost use Rattle.resolution.specs.Lists.{sameList, tabulate};
 ghost use Rattle.machine_classes.specs.Refine.{leader, sameRow, refine, blocks};
 ghost use Rattle.class_rounds.specs.Stored.{storedMachine, Stored};
-
-pub(crate) fn wide(x: u8) -> usize
-    ensures { λ r. ⌜ (r ≡ x) × (r < 256) ⌝ }
-{
-    x as usize
-}
 
 // States i and j have one class, and so have their targets for each symbol.
 fn same_row(rows: &[u8], p: &[u8], n: usize, head: usize, k: usize, i: usize, j: usize) -> bool

@@ -49,6 +49,10 @@ pub record Machine : Type 0 where
   pub categories : ℕ
   pub image : List ℕ
 
+-- what a resolver that does not walk goes by: nothing is read of it, so the table's bytes stand for an image's
+abbrev pub unwalked : List ℕ → Machine
+unwalked t = record { index = t; symbols = t; count = 0; categories = 0; image = t }
+
 -- the target that the row of state j holds for a URN's symbol
 abbrev pub targetNow : List ℕ → ℕ → Machine → ℕ → ℕ → ℕ → Bool → ℕ
 targetNow parent nodes m j c k w = targetIn (min (m .categories) 8) (m .image) j (symbolNumber (m .index) (m .symbols) (m .count) parent nodes c k w)

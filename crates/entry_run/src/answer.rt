@@ -11,7 +11,7 @@ ghost use Prim.Native.Nat.{_+_, _≤_};
 ghost use lib.Dec.{eqb};
 ghost use Rattle.alert_info.specs.Value.{refusalOf};
 ghost use Rattle.entry_run.specs.Answers.{refused as refusedWith};
-ghost use Rattle.entry_run.specs.Run.{signalNow, answerOf, endedFrom};
+ghost use Rattle.entry_run.specs.Run.{signalNow, unwalked, answerOf, endedFrom};
 
 // Where a resolver ends: its answer, and where it is.
 pub struct Ended {
@@ -79,8 +79,8 @@ fn answer(o: Outcome, signal: u8) -> Resolution
 pub fn resolved(
     t: &[u8],
     d: Decoded,
-    index: &[u8; 136],
-    symbols: &[u8; 384],
+    index: &[u8],
+    symbols: &[u8],
     count: usize,
     categories: usize,
     image: &[u8],
@@ -111,4 +111,11 @@ pub fn resolved(
     let signal = signal_in(categories, image, last);
     let answer = answer(o, signal);
     Ended { answer, last }
+}
+
+// The same by direct resolution, which needs no image.
+pub fn direct(t: &[u8], d: Decoded, from: Current, v: &[u8]) -> Ended
+    ensures { λ r. ⌜ r ≡ endedFrom (now (t .entry)) d (unwalked (now (t .entry))) from (now (v .entry)) ⌝ }
+{
+    resolved(t, d, t, t, 0, 0, t, from, v)
 }

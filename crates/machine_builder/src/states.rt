@@ -1,7 +1,7 @@
 // The states that are reached, by breadth-first discovery, each one's row in its own stretch of a lent part.
 use machine_symbols::steps::next;
 use machine_symbols::steps::same;
-use machine_symbols::steps::wide;
+use text_bytes::cut::wide;
 use node_step::stored::Packed;
 ghost use mathlib.Core.Path.{_≡_};
 ghost use mathlib.Core.Bool.{_&&_};

@@ -1,9 +1,9 @@
 // The form of an image.
 use crate::image::at;
-use crate::image::byte;
 use crate::image::place;
 use crate::image::state_count;
-use machine_symbols::steps::wide;
+use text_bytes::cut::byte;
+use text_bytes::cut::wide;
 ghost use mathlib.Core.Path.{_≡_};
 ghost use Prim.Native.Nat.{_≤_, _<_, max};
 ghost use Rattle.resolution.specs.Lists.{allBelow};

@@ -1,5 +1,6 @@
 // Reading an image, wherever its bytes come from: past its end every byte is 0.
-use machine_symbols::steps::wide;
+use text_bytes::cut::byte;
+use text_bytes::cut::wide;
 use node_step::stored::Packed;
 ghost use mathlib.Core.Path.{_≡_};
 ghost use Prim.Native.Nat.{_≤_, _<_, min};
@@ -7,17 +8,7 @@ ghost use lib.ListN.{getD};
 ghost use Rattle.machine_image.specs.Image.{stateCount, placeOf, signalIn, targetIn};
 ghost use Rattle.machine_checker.specs.Checks.{packFrom, packedIn};
 
-// The byte at i, or 0 past the end.
-pub(crate) fn byte(im: &[u8], i: usize) -> u8
-    ensures { λ r. ⌜ r ≡ getD (now (im .entry)) i 0 ⌝ }
-{
-    if i < im.len() {
-        return im[i];
-    }
-    0
-}
-
-// The same as an index.
+// The byte at i as an index, 0 past the end.
 pub(crate) fn at(im: &[u8], i: usize) -> usize
     ensures { λ r. ⌜ (r ≡ getD (now (im .entry)) i 0) × (r < 256) ⌝ }
 {

@@ -5,6 +5,8 @@
 //   steps.rt  the step of a symbol
 pub mod steps;
 
+use text_bytes::cut::byte;
+use text_bytes::cut::wide;
 ghost use mathlib.Core.Path.{_≡_};
 ghost use mathlib.Core.List.{List, [], _∷_, _++_};
 ghost use Prim.Native.Nat.{ℕ, _+_, _*_, _≤_, _<_, min};
@@ -140,22 +142,22 @@ pub fn list<'a>(
 }
 
 // Symbol k is c, d and kind.
-fn is_symbol(bytes: &[u8; 384], c: u8, d: u8, kind: u8, k: usize) -> bool
+fn is_symbol(bytes: &[u8], c: u8, d: u8, kind: u8, k: usize) -> bool
     requires { ⌜ k < 128 ⌝ }
     ensures { λ r. ⌜ r ≡ isTriple (now (bytes .entry)) c d kind k ⌝ }
 {
     let at = 3 * k;
-    if bytes[at] != c {
+    if byte(bytes, at) != c {
         return false;
     }
-    if bytes[at + 1] != d {
+    if byte(bytes, at + 1) != d {
         return false;
     }
-    bytes[at + 2] == kind
+    byte(bytes, at + 2) == kind
 }
 
 // The number of the first of the n symbols that is c, d and kind, or n.
-fn find(bytes: &[u8; 384], n: usize, c: u8, d: u8, kind: u8) -> u8
+fn find(bytes: &[u8], n: usize, c: u8, d: u8, kind: u8) -> u8
     requires { ⌜ n ≤ 128 ⌝ }
     ensures { λ r. ⌜ r ≡ tripleIndex (now (bytes .entry)) c d kind 0 n ⌝ }
 {
@@ -191,9 +193,9 @@ fn slot(c: u8, d: u8, kind: u8) -> usize
     ensures { λ r. ⌜ r ≡ slot c d kind ⌝ }
 {
     if d == 0 {
-        return crate::steps::wide(c);
+        return wide(c);
     }
-    6 + 2 * crate::steps::wide(d) + crate::steps::wide(kind)
+    6 + 2 * wide(d) + wide(kind)
 }
 
 // The same of symbol k.
@@ -222,17 +224,17 @@ pub fn index(bytes: &[u8; 384], count: usize) -> [u8; 136]
 }
 
 // What the index has at a slot, 0 if there is no such slot.
-fn entry_at(index: &[u8; 136], s: usize) -> usize
+fn entry_at(index: &[u8], s: usize) -> usize
     ensures { λ r. ⌜ r ≡ entryAt (now (index .entry)) s ⌝ }
 {
     if s < 136 {
-        return crate::steps::wide(index[s]);
+        return wide(byte(index, s));
     }
     0
 }
 
 // The number of the symbol c, d and kind among the first m: k if that is it, else by the search.
-fn number_from(bytes: &[u8; 384], m: usize, c: u8, d: u8, kind: u8, k: usize) -> u8
+fn number_from(bytes: &[u8], m: usize, c: u8, d: u8, kind: u8, k: usize) -> u8
     requires { ⌜ m ≤ 128 ⌝ }
     ensures { λ r. ⌜ r ≡ numberFrom (now (bytes .entry)) m c d kind k ⌝ }
 {
@@ -246,8 +248,8 @@ fn number_from(bytes: &[u8; 384], m: usize, c: u8, d: u8, kind: u8, k: usize) ->
 
 // The number of the symbol of a used URN, by its category, the deepest node above it, and whether it is that node.
 pub fn number(
-    index: &[u8; 136],
-    bytes: &[u8; 384],
+    index: &[u8],
+    bytes: &[u8],
     count: usize,
     parents: &[u8; 64],
     nodes: usize,

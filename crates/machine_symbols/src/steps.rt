@@ -1,16 +1,10 @@
 // States with their statuses in one number: the step of a symbol, and whether two of them are the same.
 use node_step::stored::Packed;
+use text_bytes::cut::wide;
 ghost use mathlib.Core.Path.{_≡_};
 ghost use Prim.Native.Nat.{_<_};
 ghost use Rattle.node_step.specs.StatusByte.{samePacked};
 ghost use Rattle.machine_symbols.specs.Steps.{nextState};
-
-// A byte as an index.
-pub fn wide(x: u8) -> usize
-    ensures { λ r. ⌜ (r ≡ x) × (r < 256) ⌝ }
-{
-    x as usize
-}
 
 // The state after symbol k, which is one of at most 128.
 pub fn next<'a>(

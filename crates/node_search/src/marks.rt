@@ -22,7 +22,7 @@ fn mark(p: u8, inner: &mut [bool; 64])
         return;
     }
     if p <= 64 {
-        let i = text_bytes::cut::wide8(p) - 1;
+        let i = text_bytes::cut::wide(p) - 1;
         inner[i] = true;
     }
 }

@@ -42,8 +42,8 @@ fn find_name<'a>(
 {
     let mut i = 0;
     while i < n {
-        let from = text_bytes::cut::wide16(name_at[i]);
-        let size = text_bytes::cut::wide8(name_len[i]);
+        let from = text_bytes::cut::wider(name_at[i]);
+        let size = text_bytes::cut::wide(name_len[i]);
         if text_bytes::letter_case::same_lowered(s, text_bytes::cut::part(t, from, size)) {
             return i;
         }
@@ -63,8 +63,8 @@ pub(crate) fn path_at<'a, 'b>(
     ensures { λ r. ⌜ now r ≡ stretch (now (t .entry)) (now (at .entry)) (now (len .entry)) i ⌝ }
     ensures short { λ r. ⌜ length (now r) ≤ 255 ⌝ }
 {
-    let from = text_bytes::cut::wide16(at[i]);
-    let size = text_bytes::cut::wide8(len[i]);
+    let from = text_bytes::cut::wider(at[i]);
+    let size = text_bytes::cut::wide(len[i]);
     text_bytes::cut::part(t, from, size)
 }
 
@@ -214,7 +214,7 @@ fn search_nodes<'a>(
                 inner,
                 w,
                 i,
-                text_bytes::cut::wide8(shared[i]),
+                text_bytes::cut::wide(shared[i]),
                 s,
             );
             if s.ends {

@@ -148,7 +148,7 @@ pub fn fits<'a>(
     if n <= k {
         return false;
     }
-    if text_bytes::cut::wide8(category[k]) != c {
+    if text_bytes::cut::wide(category[k]) != c {
         return false;
     }
     if !inner[k] {

@@ -5,7 +5,7 @@
 //   names.rt  whether the tables have a category in common
 mod names;
 
-use entry_run::answer::resolved;
+use entry_run::answer::direct;
 use entry_run::run::at_start;
 use stored_table::Decoded;
 ghost use mathlib.Core.Path.{_≡_};
@@ -37,9 +37,7 @@ fn refused(k: u8) -> Pair
 fn alone(t: &[u8], d: Decoded, v: &[u8]) -> u8
     ensures { λ r. ⌜ (Means (now (t .entry)) d → tableRefusal (now (t .entry)) ≡ 0 → refusalOf (now (v .entry)) ≡ 0 → r ≡ signalIn (now (t .entry)) (now (v .entry))) ⌝ }
 {
-    let no_index = [0u8; 136];
-    let no_symbols = [0u8; 384];
-    let e = resolved(t, d, &no_index, &no_symbols, 0, 0, t, at_start(), v);
+    let e = direct(t, d, at_start(), v);
     let a = e.answer;
     a.signal
 }

@@ -12,8 +12,8 @@ fn name<'a, 'b>(t: &'a [u8], at: &'b [u16; 8], len: &'b [u8; 8], i: usize) -> &'
     requires { ⌜ i < 8 ⌝ }
     ensures { λ r. ⌜ now r ≡ stretch (now (t .entry)) (now (at .entry)) (now (len .entry)) i ⌝ }
 {
-    let from = text_bytes::cut::wide16(at[i]);
-    let size = text_bytes::cut::wide8(len[i]);
+    let from = text_bytes::cut::wider(at[i]);
+    let size = text_bytes::cut::wide(len[i]);
     text_bytes::cut::part(t, from, size)
 }
 

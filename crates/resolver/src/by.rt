@@ -2,8 +2,8 @@
 // decodes it once.
 use crate::PlainResolution;
 use entry_run::Resolution;
+use entry_run::answer::direct;
 use entry_run::answer::refused;
-use entry_run::answer::resolved;
 use entry_run::answer::value_first;
 use entry_run::run::at_start;
 use stored_table::Decoded;
@@ -42,9 +42,7 @@ pub fn tried(t: &[u8], d: Decoded, v: &[u8]) -> PlainResolution
     if d.refusal != 0 {
         return with_tries(value_first(v, d.refusal), 0);
     }
-    let no_index = [0u8; 136];
-    let no_symbols = [0u8; 384];
-    let e = resolved(t, d, &no_index, &no_symbols, 0, 0, t, at_start(), v);
+    let e = direct(t, d, at_start(), v);
     let last = e.last;
     with_tries(e.answer, last.tries)
 }

@@ -3,7 +3,7 @@ use crate::Fed;
 use carried_record::Carried;
 use entry_run::Resolution;
 use entry_run::answer::refused;
-use entry_run::answer::resolved;
+use entry_run::answer::direct;
 use entry_run::run::at_state;
 use stored_table::Decoded;
 ghost use mathlib.Core.Path.{_≡_};
@@ -47,9 +47,7 @@ pub(crate) fn read_from(t: &[u8], d: Decoded, carried: Carried, v: &[u8]) -> Fed
     ensures { λ r. ⌜ r ≡ readFrom (now (t .entry)) carried (now (v .entry)) ⌝ }
 {
     let start = carried_record::state(carried);
-    let no_index = [0u8; 136];
-    let no_symbols = [0u8; 384];
-    let e = resolved(t, d, &no_index, &no_symbols, 0, 0, t, at_state(start, 0), v);
+    let e = direct(t, d, at_state(start, 0), v);
     let a = e.answer;
     if a.refusal != 0 {
         return counted(a, carried);

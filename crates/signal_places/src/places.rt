@@ -1,5 +1,5 @@
-use table_sections::bytes::wide;
-use table_sections::bytes::wider;
+use text_bytes::cut::wide;
+use text_bytes::cut::wider;
 use table_sections::texts::urn_text;
 ghost use mathlib.Core.Path.{_≡_};
 ghost use mathlib.Core.Bool.{cond};

@@ -1,5 +1,5 @@
 use table_sections::bytes::short;
-use table_sections::bytes::wide;
+use text_bytes::cut::wide;
 ghost use mathlib.Core.Path.{_≡_};
 ghost use mathlib.Core.Bool.{true, false};
 ghost use Prim.Native.Nat.{ℕ, _≤_, _<_, _+_, _*_};

@@ -4,7 +4,7 @@ use form_bytes::put::byte;
 use form_bytes::sections::count_of;
 use form_bytes::sections::text_in;
 use table_sections::bytes::small;
-use table_sections::bytes::wide;
+use text_bytes::cut::wide;
 ghost use Prim.Native.Nat.{_+_, _-_, _≤_, _<_};
 ghost use lib.ListN.{getD};
 ghost use Rattle.resolution.specs.Lists.{tabulate};

@@ -1,5 +1,5 @@
 use machine_builder::Built;
-use machine_symbols::steps::wide;
+use text_bytes::cut::wide;
 ghost use mathlib.Core.Path.{_≡_};
 ghost use Prim.Native.Nat.{_+_, _*_, _≤_, _<_};
 ghost use lib.ListN.{length, getD};

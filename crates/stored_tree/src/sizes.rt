@@ -1,4 +1,4 @@
-use table_sections::bytes::wide;
+use text_bytes::cut::wide;
 use table_sections::texts::name_text;
 use tree_nodes::texts::last_text;
 ghost use mathlib.Core.Path.{_≡_};

@@ -3,8 +3,8 @@
 // In: the names and the URNs as places in the bytes. Out: 7 and 8 as two tests, and each URN's category.
 use table_sections::bytes::short;
 use table_sections::bytes::small;
-use table_sections::bytes::wide;
-use table_sections::bytes::wider;
+use text_bytes::cut::wide;
+use text_bytes::cut::wider;
 use table_sections::texts::name_text;
 use table_sections::texts::urn_text;
 ghost use mathlib.Core.Path.{_≡_};

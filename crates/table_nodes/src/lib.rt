@@ -3,8 +3,8 @@
 // In: the URNs' categories and paths as places in the bytes. Out: the nodes in their order, in arrays, or that there are over 64.
 use table_sections::bytes::short;
 use table_sections::bytes::small;
-use table_sections::bytes::wide;
-use table_sections::bytes::wider;
+use text_bytes::cut::wide;
+use text_bytes::cut::wider;
 ghost use mathlib.Core.Path.{_≡_};
 ghost use mathlib.Core.Bool.{true, false, _||_};
 ghost use Prim.Native.Nat.{_≤_, _<_};

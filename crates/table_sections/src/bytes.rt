@@ -1,3 +1,4 @@
+use text_bytes::cut::wide;
 ghost use mathlib.Core.Path.{_≡_};
 ghost use Prim.Native.Nat.{_<_, _%_};
 ghost use Rattle.table_sections.specs.Stored.{byteIn, text};
@@ -9,19 +10,7 @@ pub enum Reading {
     Got(usize, usize),
 }
 
-// A number in more bytes, or in its last one or two.
-pub fn wide(b: u8) -> usize
-    ensures { λ r. ⌜ (r ≡ b) × (r < 256) ⌝ }
-{
-    b as usize
-}
-
-pub fn wider(x: u16) -> usize
-    ensures { λ r. ⌜ (r ≡ x) × (r < 65536) ⌝ }
-{
-    x as usize
-}
-
+// A number in its last byte, or its last two.
 pub fn small(x: usize) -> u8
     ensures { λ r. ⌜ r ≡ x % 256 ⌝ }
 {

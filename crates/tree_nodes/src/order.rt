@@ -1,4 +1,4 @@
-use table_sections::bytes::wide;
+use text_bytes::cut::wide;
 ghost use mathlib.Core.Path.{_≡_};
 ghost use mathlib.Core.List.{foldl};
 ghost use Prim.Native.Nat.{ℕ, _≤_, _<_};

@@ -29,13 +29,13 @@ among-requires c κs = search needs
 at-start-requires : tie.Need-at-start-requires
 at-start-requires c κs = search needs
 
-resolved-requires : tie.Need-resolved-requires
-resolved-requires c κs = search needs
+direct-requires : tie.Need-direct-requires
+direct-requires c κs = search needs
 
 returns-3 : tie.Need-returns-3
 returns-3 c = λ m.
-    let z = sym (m .refusal) ∙ c .before .before .before .before .before .before .before .before .if1 .left in
-    available-right _ _ _ z _ (m .holds z) (sym (c .before .before .before .before .before .before .before .is-known .ensures ∙ ap (known _) (signals-few _ _ (m .holds z))) ∙ not-false _ (c .before .before .before .before .before .before .if2 .left)) _ (c .before .before .at-start .ensures) (c .before .before .before .before .before .among .ensures) (c .before .resolved .ensures)
+    let z = sym (m .refusal) ∙ c .before .before .before .before .before .before .if1 .left in
+    available-right _ _ _ z _ (m .holds z) (sym (c .before .before .before .before .before .is-known .ensures ∙ ap (known _) (signals-few _ _ (m .holds z))) ∙ not-false _ (c .before .before .before .before .if2 .left)) _ (c .before .before .at-start .ensures) (c .before .before .before .among .ensures) (c .before .direct .ensures)
 
 pub by-spec : {M : Type 1} → statement M
 by-spec =
@@ -48,5 +48,5 @@ by-spec =
     returns-2
     among-requires
     at-start-requires
-    resolved-requires
+    direct-requires
     returns-3)

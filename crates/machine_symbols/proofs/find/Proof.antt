@@ -15,7 +15,7 @@ abbrev μ-loop : tie.MeasureT-loop
 μ-loop bytes n c d kind k₀ k = n - k
 
 loop-holds : tie.Need-loop-holds Inv-loop μ-loop
-loop-holds c = let a = c .args in (omega arith, ap (tripleIndex (a .bytes .now) (a .c) (a .d) (a .kind) 0) (sym (sub-zero (a .n))))
+loop-holds c = let a = c .before .args in (omega arith, ap (tripleIndex (a .bytes .now) (a .c) (a .d) (a .kind) 0) (sym (sub-zero (a .n))))
 
 is-symbol-requires : tie.Need-is-symbol-requires Inv-loop μ-loop
 is-symbol-requires c κs = search needs
@@ -24,7 +24,7 @@ cast-result : tie.Need-cast-result Inv-loop μ-loop
 cast-result c = search needs
 
 returns : tie.Need-returns Inv-loop μ-loop
-returns c = let a = c .before .before .before .before .args in index-found (a .bytes .now) (a .c) (a .d) (a .kind) (a .n) (c .before .before .before .loop .k) (c .before .before .before .loop .inv .1) (c .before .before .loop-test .taken) (c .before .is-symbol .ensures) (c .if1 .taken)
+returns c = let a = c .before .before .before .before .before .args in index-found (a .bytes .now) (a .c) (a .d) (a .kind) (a .n) (c .before .before .before .loop .k) (c .before .before .before .loop .inv .1) (c .before .before .loop-test .taken) (c .before .is-symbol .ensures) (c .if1 .taken)
 
 add-k : tie.Need-add-k Inv-loop μ-loop
 add-k c = search needs
@@ -33,13 +33,13 @@ loop-less : tie.Need-loop-less Inv-loop μ-loop
 loop-less c = omega arith
 
 loop-again : tie.Need-loop-again Inv-loop μ-loop
-loop-again c = let a = c .before .before .before .before .args in (omega arith, index-more (a .bytes .now) (a .c) (a .d) (a .kind) (a .n) (c .before .before .before .loop .k) (c .before .before .before .loop .inv .1) (c .before .before .loop-test .taken) (c .before .is-symbol .ensures) (c .if1 .left))
+loop-again c = let a = c .before .before .before .before .before .args in (omega arith, index-more (a .bytes .now) (a .c) (a .d) (a .kind) (a .n) (c .before .before .before .loop .k) (c .before .before .before .loop .inv .1) (c .before .before .loop-test .taken) (c .before .is-symbol .ensures) (c .if1 .left))
 
 cast-result-2 : tie.Need-cast-result-2 Inv-loop μ-loop
 cast-result-2 c = search needs
 
 returns-2 : tie.Need-returns-2 Inv-loop μ-loop
-returns-2 c = let a = c .before .before .args in index-end (a .bytes .now) (a .c) (a .d) (a .kind) (a .n) (c .before .loop .k) (c .before .loop .inv .1) (c .before .loop .inv .0) (c .loop-test .left)
+returns-2 c = let a = c .before .before .before .args in index-end (a .bytes .now) (a .c) (a .d) (a .kind) (a .n) (c .before .loop .k) (c .before .loop .inv .1) (c .before .loop .inv .0) (c .loop-test .left)
 
 pub find-spec : {M : Type 1} → statement M
 find-spec =

@@ -22,7 +22,7 @@ number-from-requires : tie.Need-number-from-requires
 number-from-requires c κs = search needs
 
 returns : tie.Need-returns
-returns c = let a = c .before .before .before .before .before .before .args in
+returns c = let a = c .before .before .before .before .before .before .before .before .args in
     number-is (a .index .now) (a .bytes .now) (a .count) (a .parents .now) (a .nodes) (a .c) (a .d) (a .whole) (c .before .before .before .before .before .at-most .ensures .0) (c .before .before .before .before .at-most2 .ensures .0) (c .before .before .before .kind-for .ensures) (c .before .before .slot .ensures) (c .before .entry-at .ensures) (c .number-from .ensures)
 
 pub number-spec : {M : Type 1} → statement M

@@ -11,7 +11,7 @@ refused-requires : tie.Need-refused-requires
 refused-requires c κs = search needs
 
 returns : tie.Need-returns
-returns c = ended-long _ _ _ (c .before .before .before .before .before .args .from) _ (c .before .if1 .taken) (c .refused .ensures)
+returns c = ended-long _ _ _ (c .before .before .before .before .before .before .before .args .from) _ (c .before .if1 .taken) (c .refused .ensures)
 
 begin-at-requires : tie.Need-begin-at-requires
 begin-at-requires c κs = search needs
@@ -28,7 +28,7 @@ answer-requires c κs = search needs
 
 returns-2 : tie.Need-returns-2
 returns-2 c =
-    ended-steps _ _ _ (c .before .before .before .before .before .before .before .before .before .before .args .from) _
+    ended-steps _ _ _ (c .before .before .before .before .before .before .before .before .before .before .before .before .args .from) _
     (omega (arith, c .before .before .before .before .before .before .if1 .left)) (c .before .before .before .before .run .result)
     (c .before .before .before .before .before .begin-at .ensures) (c .before .before .before .before .run .ensures .0) (c .before .signal-in .ensures) (c .answer .ensures)
 

@@ -11,8 +11,8 @@ use Rattle.node_search.proofs.marks.mark.Tie as tie
 returns : tie.Need-returns
 returns c = (c .before .pre, λ k h. mark-other (c .before .args .inner .now) (c .before .args .p) k (λ q. omega (arith, c .if1 .taken)))
 
-wide8-requires : tie.Need-wide8-requires
-wide8-requires c κs = search needs
+wide-requires : tie.Need-wide-requires
+wide-requires c κs = search needs
 
 sub-i : tie.Need-sub-i
 sub-i c = search needs
@@ -22,11 +22,11 @@ element-write-inner c = search needs
 
 returns-2 : tie.Need-returns-2
 returns-2 c = let a = c .before .before .before .args in
-    (length-set (a .inner .now) (c .wide8 .result - 1) true ∙ c .before .before .before .pre, λ k h. mark-node (a .inner .now) (a .p) (c .wide8 .result - 1) k (c .before .before .before .pre) (ap (λ (x : ℕ). x - 1) (c .wide8 .ensures .0)) (c .before .before .if1 .left) (c .before .if2 .taken))
+    (length-set (a .inner .now) (c .wide .result - 1) true ∙ c .before .before .before .pre, λ k h. mark-node (a .inner .now) (a .p) (c .wide .result - 1) k (c .before .before .before .pre) (ap (λ (x : ℕ). x - 1) (c .wide .ensures .0)) (c .before .before .if1 .left) (c .before .if2 .taken))
 
 returns-3 : tie.Need-returns-3
 returns-3 c = (c .before .before .pre, λ k h. mark-other (c .before .before .args .inner .now) (c .before .before .args .p) k (λ q. omega (arith, c .if2 .left)))
 
 pub mark-spec : {M : Type 1} → statement M
 mark-spec =
-    tie.close (tie.spec returns wide8-requires sub-i element-write-inner returns-2 returns-3)
+    tie.close (tie.spec returns wide-requires sub-i element-write-inner returns-2 returns-3)

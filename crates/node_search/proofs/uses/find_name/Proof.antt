@@ -21,20 +21,20 @@ loop-holds : tie.Need-loop-holds Inv-loop μ-loop
 loop-holds c = let a = c .before .before .args in
     (omega arith, ap (findName (a .t .now) (a .name-at .now) (a .name-len .now) (lowered (a .s .now)) 0) (sym (sub-zero (a .n))))
 
-mul-wide16 : tie.Need-mul-wide16 Inv-loop μ-loop
-mul-wide16 c = search needs
+mul-wider : tie.Need-mul-wider Inv-loop μ-loop
+mul-wider c = search needs
 
-element-copy-out-wide16 : tie.Need-element-copy-out-wide16 Inv-loop μ-loop
-element-copy-out-wide16 c = search needs
+element-copy-out-wider : tie.Need-element-copy-out-wider Inv-loop μ-loop
+element-copy-out-wider c = search needs
 
-wide16-requires : tie.Need-wide16-requires Inv-loop μ-loop
-wide16-requires c κs = search needs
+wider-requires : tie.Need-wider-requires Inv-loop μ-loop
+wider-requires c κs = search needs
 
-element-copy-out-wide8 : tie.Need-element-copy-out-wide8 Inv-loop μ-loop
-element-copy-out-wide8 c = search needs
+element-copy-out-wide : tie.Need-element-copy-out-wide Inv-loop μ-loop
+element-copy-out-wide c = search needs
 
-wide8-requires : tie.Need-wide8-requires Inv-loop μ-loop
-wide8-requires c κs = search needs
+wide-requires : tie.Need-wide-requires Inv-loop μ-loop
+wide-requires c κs = search needs
 
 part-requires : tie.Need-part-requires Inv-loop μ-loop
 part-requires c κs = search needs
@@ -47,7 +47,7 @@ returns c = let a = c .before .before .before .before .before .before .before .b
     let l = c .before .before .before .before .before .before .before .before .loop in
     name-found (a .t .now) (lowered (a .s .now)) (a .name-at .now) (a .name-len .now) (a .n) (l .i) (l .inv .1) (c .before .before .before .before .before .before .before .loop-test .taken)
     (c .before .same-lowered .ensures ∙ ap (sameName (lowered (a .s .now)))
-    (c .before .before .part .ensures ∙ ap₂ (λ (x : ℕ) (y : ℕ). take y (drop x (a .t .now))) (c .before .before .before .before .before .wide16 .ensures) (c .before .before .before .wide8 .ensures .0)))
+    (c .before .before .part .ensures ∙ ap₂ (λ (x : ℕ) (y : ℕ). take y (drop x (a .t .now))) (c .before .before .before .before .before .wider .ensures .0) (c .before .before .before .wide .ensures .0)))
     (c .if1 .taken)
 
 add-i : tie.Need-add-i Inv-loop μ-loop
@@ -62,7 +62,7 @@ loop-again c = let a = c .before .before .before .before .before .before .before
       omega arith,
       name-more (a .t .now) (lowered (a .s .now)) (a .name-at .now) (a .name-len .now) (a .n) (l .i) (l .inv .1) (c .before .before .before .before .before .before .before .loop-test .taken)
           (c .before .same-lowered .ensures ∙ ap (sameName (lowered (a .s .now)))
-          (c .before .before .part .ensures ∙ ap₂ (λ (x : ℕ) (y : ℕ). take y (drop x (a .t .now))) (c .before .before .before .before .before .wide16 .ensures) (c .before .before .before .wide8 .ensures .0)))
+          (c .before .before .part .ensures ∙ ap₂ (λ (x : ℕ) (y : ℕ). take y (drop x (a .t .now))) (c .before .before .before .before .before .wider .ensures .0) (c .before .before .before .wide .ensures .0)))
           (c .if1 .left),
     )
 
@@ -77,11 +77,11 @@ find-name-spec =
     Inv-loop
     μ-loop
     loop-holds
-    mul-wide16
-    element-copy-out-wide16
-    wide16-requires
-    element-copy-out-wide8
-    wide8-requires
+    mul-wider
+    element-copy-out-wider
+    wider-requires
+    element-copy-out-wide
+    wide-requires
     part-requires
     same-lowered-requires
     returns

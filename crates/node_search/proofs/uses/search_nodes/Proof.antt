@@ -26,19 +26,19 @@ loop-holds c = let a = c .before .before .args in
 element-copy-out-if1 : tie.Need-element-copy-out-if1 Inv-loop μ-loop
 element-copy-out-if1 c = omega (arith, c .before .before .before .before .pre)
 
-element-copy-out-wide8 : tie.Need-element-copy-out-wide8 Inv-loop μ-loop
-element-copy-out-wide8 c = omega (arith, c .before .before .before .before .before .before .pre)
+element-copy-out-wide : tie.Need-element-copy-out-wide Inv-loop μ-loop
+element-copy-out-wide c = omega (arith, c .before .before .before .before .before .before .pre)
 
-wide8-requires : tie.Need-wide8-requires Inv-loop μ-loop
-wide8-requires c κs = search needs
+wide-requires : tie.Need-wide-requires Inv-loop μ-loop
+wide-requires c κs = search needs
 
 look-requires : tie.Need-look-requires Inv-loop μ-loop
-look-requires c κs = (omega (arith, c .before .before .before .before .before .before .before .before .pre), c .wide8 .ensures .1, c .before .before .before .before .before .loop .inv .1)
+look-requires c κs = (omega (arith, c .before .before .before .before .before .before .before .before .pre), omega (arith, c .wide .ensures .1), c .before .before .before .before .before .loop .inv .1)
 
 returns : tie.Need-returns Inv-loop μ-loop
 returns c = let a = c .before .before .before .before .before .before .before .before .before .before .args in
     let l = c .before .before .before .before .before .before .before .loop in
-    search-ends (a .t .now) (a .category .now) (a .at .now) (a .len .now) (a .shared .now) (a .inner .now) (a .c) (lowered (a .w .now)) (a .n) (l .i) (l .s) (l .inv .3) (c .before .before .before .before .before .before .loop-test .taken) (look-node (a .t .now) (a .category .now) (a .at .now) (a .len .now) (a .shared .now) (a .inner .now) (a .c) (lowered (a .w .now)) (l .i) (l .s) (c .before .before .before .before .if1 .taken) (c .before .before .wide8 .ensures .0) (c .before .look .ensures .0)) (c .if2 .taken)
+    search-ends (a .t .now) (a .category .now) (a .at .now) (a .len .now) (a .shared .now) (a .inner .now) (a .c) (lowered (a .w .now)) (a .n) (l .i) (l .s) (l .inv .3) (c .before .before .before .before .before .before .loop-test .taken) (look-node (a .t .now) (a .category .now) (a .at .now) (a .len .now) (a .shared .now) (a .inner .now) (a .c) (lowered (a .w .now)) (l .i) (l .s) (c .before .before .before .before .if1 .taken) (c .before .before .wide .ensures .0) (c .before .look .ensures .0)) (c .if2 .taken)
 
 add-i : tie.Need-add-i Inv-loop μ-loop
 add-i c = search needs
@@ -67,8 +67,8 @@ search-nodes-spec =
     μ-loop
     loop-holds
     element-copy-out-if1
-    element-copy-out-wide8
-    wide8-requires
+    element-copy-out-wide
+    wide-requires
     look-requires
     returns
     add-i

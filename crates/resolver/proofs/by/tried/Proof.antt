@@ -19,17 +19,17 @@ returns c = λ m. c .with-tries .ensures ∙ ap (λ (r : Resolution). triedAs r 
 at-start-requires : tie.Need-at-start-requires
 at-start-requires c κs = search needs
 
-resolved-requires : tie.Need-resolved-requires
-resolved-requires c κs = search needs
+direct-requires : tie.Need-direct-requires
+direct-requires c κs = search needs
 
 with-tries-requires-2 : tie.Need-with-tries-requires-2
 with-tries-requires-2 c κs = search needs
 
 returns-2 : tie.Need-returns-2
 returns-2 c = λ m.
-    let z = sym (m .refusal) ∙ c .before .before .before .before .before .before .if1 .left in
+    let z = sym (m .refusal) ∙ c .before .before .before .before .if1 .left in
     c .with-tries2 .ensures
-    ∙ tried-right _ _ _ (c .before .before .resolved .result) z (plain-ends _ _ (m .holds z) _ _ (c .before .before .before .at-start .ensures) (c .before .before .resolved .ensures))
+    ∙ tried-right _ _ _ (c .before .before .direct .result) z (plain-ends _ _ (m .holds z) _ _ (c .before .before .before .at-start .ensures) (c .before .before .direct .ensures))
 
 pub tried-spec : {M : Type 1} → statement M
 tried-spec =
@@ -39,6 +39,6 @@ tried-spec =
     with-tries-requires
     returns
     at-start-requires
-    resolved-requires
+    direct-requires
     with-tries-requires-2
     returns-2)

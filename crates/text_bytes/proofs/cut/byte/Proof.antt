@@ -1,7 +1,8 @@
-use Rattle.call_log.proofs.ReadLaws.{byte-past}
+use mathlib.Core.Path.{sym}
+use lib.ListN.{List·getD-eq-default}
 use borrow.Author.Needs.{needs}
-use Rattle.call_log.proofs.byte.Statement.{statement}
-use Rattle.call_log.proofs.byte.Tie as tie
+use Rattle.text_bytes.proofs.cut.byte.Statement.{statement}
+use Rattle.text_bytes.proofs.cut.byte.Tie as tie
 
 shared-slice-read-result : tie.Need-shared-slice-read-result
 shared-slice-read-result c = search needs
@@ -10,7 +11,7 @@ returns : tie.Need-returns
 returns c = search needs
 
 returns-2 : tie.Need-returns-2
-returns-2 c = byte-past (c .before .args .log .now) (c .before .args .at) (c .if1 .left)
+returns-2 c = sym (List·getD-eq-default (c .before .args .s .now) 0 (c .if1 .left))
 
 pub byte-spec : {M : Type 1} → statement M
 byte-spec = tie.close (tie.spec shared-slice-read-result returns returns-2)
