@@ -41,7 +41,11 @@ fn node_is(
 {
     let x = cats[i];
     if c == x {
-        return text_bytes::compare::same(s, node_text(t, at, len, i));
+        let p = node_text(t, at, len, i);
+        if text_bytes::compare::ends_differ(s, p) {
+            return false;
+        }
+        return text_bytes::compare::same(s, p);
     }
     false
 }

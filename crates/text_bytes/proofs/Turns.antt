@@ -1,7 +1,7 @@
 -- Laws of the text definitions at a turn of a loop: one byte further.
 use Prim.Native.Nat.{ℕ, suc, zero, _+_, _*_, _-_, _≤_, _<_, min}
 use mathlib.Core.Path.{_≡_, refl, ap, sym, _∙_}
-use mathlib.Core.Bool.{Bool, true, false, cond, not, _&&_, and-false, and-eq-true-iff}
+use mathlib.Core.Bool.{Bool, true, false, cond, not, _&&_, and-false, and-eq-true-iff, false≢true}
 use mathlib.Core.List.{List, [], _∷_}
 use native.Mathlib.Numerals.{add-one}
 use native.Mathlib.Omega.{arith}
@@ -13,7 +13,7 @@ use lib.Dec.{eqb, ltb}
 use borrow.Author.Tests.{eq-eqb, ne-eqb, eqb-true, eqb-false, lt-ltb, le-ltb, ltb-true, ltb-false, not-true}
 use Rattle.resolution.specs.Names.{sameName}
 use Rattle.resolution.proofs.Names.{name-exact}
-use Rattle.text_bytes.specs.Text.{all, upTo, covers, wordOf, common, commonNext, differAt, comparedBytes, endsAt}
+use Rattle.text_bytes.specs.Text.{all, upTo, covers, wordOf, common, commonNext, differAt, endsDiffer, comparedBytes, endsAt}
 use Rattle.ascii.specs.Ascii.{bytes}
 use Rattle.text_bytes.proofs.Fields.{byTest, coversBytes, covers-fields}
 
@@ -80,6 +80,35 @@ words-more a b (suc n) i p q v h k e =
 pub words-less : (a b : List ℕ) (i n : ℕ) {x y : ℕ} → x ≡ wordOf a i n → y ≡ wordOf b i n → (x ≡ y → ⊥) → false ≡ sameName a b
 words-less a b i n e f m =
     byTest (sameName a b) (λ t. absurd (m (e ∙ ap (λ (s : List ℕ). wordOf s i n) (name-exact .to a b t) ∙ sym f))) (λ t. sym t)
+
+-- a text does not differ from itself at its end
+ends-alike : (a : List ℕ) → endsDiffer a a ≡ false
+unfolding endsDiffer
+ends-alike a = rw (eq-eqb (length a) (length a) refl, eq-eqb (getD a (length a - 1) 0) (getD a (length a - 1) 0) refl) (go (eqb (length a) 0))
+  where
+    go : (b : Bool) → cond b false (not true) ≡ false
+    go true = refl
+    go false = refl
+
+-- texts that differ at their ends are not equal
+pub ends-other : (a b : List ℕ) → endsDiffer a b ≡ true → false ≡ sameName a b
+ends-other a b e =
+    byTest (sameName a b) (λ t. absurd (false≢true (sym (ends-alike a) ∙ ap (endsDiffer a) (name-exact .to a b t) ∙ e))) (λ t. sym t)
+
+-- the test, as the code makes it
+module _ (a b : List ℕ) where
+  pub ends-length : (length a ≡ length b → ⊥) → true ≡ endsDiffer a b
+  unfolding endsDiffer
+  ends-length h = sym (rw (ne-eqb (length a) (length b) h))
+
+  module _ (e : length a ≡ length b) where
+    pub ends-none : length a ≡ 0 → false ≡ endsDiffer a b
+    unfolding endsDiffer
+    ends-none h = sym (rw (eq-eqb (length a) (length b) e, eq-eqb (length a) 0 h))
+
+    pub ends-last : (length a ≡ 0 → ⊥) → not (eqb (getD a (length a - 1) 0) (getD b (length a - 1) 0)) ≡ endsDiffer a b
+    unfolding endsDiffer
+    ends-last h = sym (rw (eq-eqb (length a) (length b) e, ne-eqb (length a) 0 h))
 
 -- what two texts have in common, one byte or some bytes further
 module _ (a b : List ℕ) (i : ℕ) {x : ℕ} (v : x ≡ i + common (drop i a) (drop i b)) where

@@ -1,5 +1,5 @@
 -- Texts as bytes: the parts between colons, what two of them have in common, and letter case.
-use Prim.Native.Nat.{ℕ, zero, suc, _+_, _*_, min}
+use Prim.Native.Nat.{ℕ, zero, suc, _+_, _-_, _*_, min}
 use mathlib.Core.Bool.{Bool, true, false, cond, not, _&&_}
 use mathlib.Core.Option.{Option, none, some}
 use mathlib.Core.List.{List, [], _∷_, _++_}
@@ -66,6 +66,10 @@ commonNext p w k l = cond (eqb k l) (k + common (drop k p) (drop k w)) (min k l)
 -- both texts have a byte at n, and not the same one
 unfoldable pub differAt : List ℕ → List ℕ → ℕ → Bool
 differAt p w n = ltb n (length p) && (ltb n (length w) && not (eqb (getD p n 0) (getD w n 0)))
+
+-- the texts differ in their length or in their last byte
+unfoldable pub endsDiffer : List ℕ → List ℕ → Bool
+endsDiffer a b = cond (eqb (length a) (length b)) (cond (eqb (length a) 0) false (not (eqb (getD a (length a - 1) 0) (getD b (length a - 1) 0)))) true
 
 -- how many bytes of p are compared with w, from the first: those that w has at the same places, and the first that it lacks there
 unfoldable pub comparedBytes : List ℕ → List ℕ → ℕ

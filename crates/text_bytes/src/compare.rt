@@ -1,11 +1,10 @@
 // Texts compared byte by byte, eight bytes at once where there are eight.
 ghost use mathlib.Core.Path.{_≡_};
-ghost use mathlib.Core.Bool.{true, false};
 ghost use Prim.Native.Nat.{_≤_, _<_, _+_, min};
 ghost use lib.ListN.{length, drop, getD};
 ghost use Rattle.resolution.specs.Names.{sameName};
 ghost use Rattle.ascii.specs.Ascii.{within};
-ghost use Rattle.text_bytes.specs.Text.{common, wordOf};
+ghost use Rattle.text_bytes.specs.Text.{endsDiffer, common, wordOf};
 
 // lo ≤ x ≤ hi
 pub fn in_range(x: u8, lo: u8, hi: u8) -> bool
@@ -58,26 +57,23 @@ fn same_from(a: &[u8], b: &[u8], from: usize) -> bool
     true
 }
 
-// Two texts of one length have other last bytes. Those that are not equal often differ there.
-fn ends_differ(a: &[u8], b: &[u8]) -> bool
-    ensures { λ r. ⌜ (r ≡ true → false ≡ sameName (now (a .entry)) (now (b .entry))) ⌝ }
+// Two texts differ in their length or in their last byte, where those that are not equal often do.
+pub fn ends_differ(a: &[u8], b: &[u8]) -> bool
+    ensures { λ r. ⌜ r ≡ endsDiffer (now (a .entry)) (now (b .entry)) ⌝ }
 {
     let n = a.len();
     if n != b.len() {
+        return true;
+    }
+    if n == 0 {
         return false;
     }
-    if n < 8 {
-        return false;
-    }
-    let last = n - 8;
-    if word_at(a, last) == word_at(b, last) {
-        return false;
-    }
-    true
+    let last = n - 1;
+    a[last] != b[last]
 }
 
-// Two texts are equal, from the first byte on.
-fn same_words(a: &[u8], b: &[u8]) -> bool
+// Two texts are equal.
+pub fn same(a: &[u8], b: &[u8]) -> bool
     ensures { λ r. ⌜ r ≡ sameName (now (a .entry)) (now (b .entry)) ⌝ }
 {
     let n = a.len();
@@ -93,16 +89,6 @@ fn same_words(a: &[u8], b: &[u8]) -> bool
         return same_from(a, b, i);
     }
     false
-}
-
-// Two texts are equal.
-pub fn same(a: &[u8], b: &[u8]) -> bool
-    ensures { λ r. ⌜ r ≡ sameName (now (a .entry)) (now (b .entry)) ⌝ }
-{
-    if ends_differ(a, b) {
-        return false;
-    }
-    same_words(a, b)
 }
 
 // n, or m if that is less.

@@ -1,31 +1,33 @@
-use Prim.Native.Nat.{_-_}
-use mathlib.Core.Bool.{false≢true}
-use lib.ListN.{length}
-use native.Mathlib.Omega.{arith}
-use Rattle.text_bytes.proofs.Turns.{words-less}
+use Rattle.text_bytes.proofs.Turns.{ends-length, ends-none, ends-last}
 use borrow.Author.Needs.{needs}
 use Rattle.text_bytes.proofs.compare.ends_differ.Statement.{statement}
 use Rattle.text_bytes.proofs.compare.ends_differ.Tie as tie
 
 returns : tie.Need-returns
-returns c = λ e. absurd (false≢true e)
+returns c = ends-length (c .before .args .a .now) (c .before .args .b .now) (c .if1 .taken)
 
 returns-2 : tie.Need-returns-2
-returns-2 c = λ e. absurd (false≢true e)
+returns-2 c = let a = c .before .before .args in ends-none (a .a .now) (a .b .now) (c .before .if1 .left) (c .if2 .taken)
 
-word-at-requires : tie.Need-word-at-requires
-word-at-requires c κs = omega arith
+sub-last : tie.Need-sub-last
+sub-last c = search needs
 
-word-at-requires-2 : tie.Need-word-at-requires-2
-word-at-requires-2 c κs = omega arith
+shared-slice-read-result : tie.Need-shared-slice-read-result
+shared-slice-read-result c = search needs
+
+shared-slice-read-result-2 : tie.Need-shared-slice-read-result-2
+shared-slice-read-result-2 c = search needs
 
 returns-3 : tie.Need-returns-3
-returns-3 c = λ e. absurd (false≢true e)
-
-returns-4 : tie.Need-returns-4
-returns-4 c = λ e.
-    let a = c .before .before .before .before .before .before .before .args in
-    words-less (a .a .now) (a .b .now) (length (a .a .now) - 8) 8 (c .before .before .word-at .ensures) (c .before .word-at2 .ensures) (c .if3 .left)
+returns-3 c = let a = c .before .before .before .before .args in ends-last (a .a .now) (a .b .now) (c .before .before .before .if1 .left) (c .before .before .if2 .left)
 
 pub ends-differ-spec : {M : Type 1} → statement M
-ends-differ-spec = tie.close (tie.spec returns returns-2 word-at-requires word-at-requires-2 returns-3 returns-4)
+ends-differ-spec =
+    tie.close
+    (tie.spec
+    returns
+    returns-2
+    sub-last
+    shared-slice-read-result
+    shared-slice-read-result-2
+    returns-3)
