@@ -1,6 +1,6 @@
 -- Laws of the text definitions at a turn of a loop: one byte further.
 use Prim.Native.Nat.{ℕ, suc, zero, _+_, _*_, _-_, _≤_, _<_, min}
-use mathlib.Core.Path.{_≡_, refl, ap, sym, _∙_}
+use mathlib.Core.Path.{_≡_, refl, ap, ap₂, sym, _∙_}
 use mathlib.Core.Bool.{Bool, true, false, cond, not, _&&_, and-false, and-eq-true-iff, false≢true}
 use mathlib.Core.List.{List, [], _∷_}
 use native.Mathlib.Numerals.{add-one}
@@ -84,11 +84,14 @@ words-less a b i n e f m =
 -- a text does not differ from itself at its end
 ends-alike : (a : List ℕ) → endsDiffer a a ≡ false
 unfolding endsDiffer
-ends-alike a = rw (eq-eqb (length a) (length a) refl, eq-eqb (getD a (length a - 1) 0) (getD a (length a - 1) 0) refl) (go (eqb (length a) 0))
+ends-alike a =
+    rw (eq-eqb (length a) (length a) refl, eq-eqb (getD a (length a - 1) 0) (getD a (length a - 1) 0) refl)
+    (go (eqb (length a) 0) (ltb (length a) 8) (eqb (wordOf a (length a - 8) 8) (wordOf a (length a - 8) 8)) (eq-eqb (wordOf a (length a - 8) 8) (wordOf a (length a - 8) 8) refl))
   where
-    go : (b : Bool) → cond b false (not true) ≡ false
-    go true = refl
-    go false = refl
+    go : (b c d : Bool) → d ≡ true → cond b false (cond c (not true) (not d)) ≡ false
+    go true c d e = refl
+    go false true d e = refl
+    go false false d e = ap not e
 
 -- texts that differ at their ends are not equal
 pub ends-other : (a b : List ℕ) → endsDiffer a b ≡ true → false ≡ sameName a b
@@ -106,9 +109,14 @@ module _ (a b : List ℕ) where
     unfolding endsDiffer
     ends-none h = sym (rw (eq-eqb (length a) (length b) e, eq-eqb (length a) 0 h))
 
-    pub ends-last : (length a ≡ 0 → ⊥) → not (eqb (getD a (length a - 1) 0) (getD b (length a - 1) 0)) ≡ endsDiffer a b
-    unfolding endsDiffer
-    ends-last h = sym (rw (eq-eqb (length a) (length b) e, ne-eqb (length a) 0 h))
+    module _ (h : length a ≡ 0 → ⊥) where
+      pub ends-last : length a < 8 → not (eqb (getD a (length a - 1) 0) (getD b (length a - 1) 0)) ≡ endsDiffer a b
+      unfolding endsDiffer
+      ends-last l = sym (rw (eq-eqb (length a) (length b) e, ne-eqb (length a) 0 h, lt-ltb (length a) 8 l))
+
+      pub ends-words : 8 ≤ length a → {x y : ℕ} → x ≡ wordOf a (length a - 8) 8 → y ≡ wordOf b (length a - 8) 8 → not (eqb x y) ≡ endsDiffer a b
+      unfolding endsDiffer
+      ends-words l p q = ap₂ (λ x y. not (eqb x y)) p q ∙ sym (rw (eq-eqb (length a) (length b) e, ne-eqb (length a) 0 h, le-ltb (length a) 8 l))
 
 -- what two texts have in common, one byte or some bytes further
 module _ (a b : List ℕ) (i : ℕ) {x : ℕ} (v : x ≡ i + common (drop i a) (drop i b)) where

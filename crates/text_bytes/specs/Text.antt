@@ -67,10 +67,6 @@ commonNext p w k l = cond (eqb k l) (k + common (drop k p) (drop k w)) (min k l)
 unfoldable pub differAt : List ℕ → List ℕ → ℕ → Bool
 differAt p w n = ltb n (length p) && (ltb n (length w) && not (eqb (getD p n 0) (getD w n 0)))
 
--- the texts differ in their length or in their last byte
-unfoldable pub endsDiffer : List ℕ → List ℕ → Bool
-endsDiffer a b = cond (eqb (length a) (length b)) (cond (eqb (length a) 0) false (not (eqb (getD a (length a - 1) 0) (getD b (length a - 1) 0)))) true
-
 -- how many bytes of p are compared with w, from the first: those that w has at the same places, and the first that it lacks there
 unfoldable pub comparedBytes : List ℕ → List ℕ → ℕ
 comparedBytes p w = min (length p) (common p w + 1)
@@ -83,6 +79,18 @@ endsAt w n = cond (ltb n (length w)) (eqb (getD w n 0) 58) true
 abbrev pub wordOf : List ℕ → ℕ → ℕ → ℕ
 wordOf s i zero = 0
 wordOf s i (suc n) = getD s i 0 + 256 * wordOf s (i + 1) n
+
+-- the texts differ in n bytes from i on, taken as one number
+abbrev pub wordsDiffer : List ℕ → List ℕ → ℕ → ℕ → Bool
+wordsDiffer a b i n = not (eqb (wordOf a i n) (wordOf b i n))
+
+-- the texts differ in their length or at their end: in their last eight bytes, or in the last one where they have fewer
+unfoldable pub endsDiffer : List ℕ → List ℕ → Bool
+endsDiffer a b =
+    cond (eqb (length a) (length b))
+    (cond (eqb (length a) 0) false
+    (cond (ltb (length a) 8) (not (eqb (getD a (length a - 1) 0) (getD b (length a - 1) 0))) (wordsDiffer a b (length a - 8) 8)))
+    true
 
 -- a letter as a small one
 abbrev pub lower : ℕ → ℕ

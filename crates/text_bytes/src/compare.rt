@@ -57,7 +57,8 @@ fn same_from(a: &[u8], b: &[u8], from: usize) -> bool
     true
 }
 
-// Two texts differ in their length or in their last byte, where those that are not equal often do.
+// Two texts differ in their length or at their end, as those that are not equal often do: in their last eight bytes, or in the
+// last one where they have fewer.
 pub fn ends_differ(a: &[u8], b: &[u8]) -> bool
     ensures { λ r. ⌜ r ≡ endsDiffer (now (a .entry)) (now (b .entry)) ⌝ }
 {
@@ -68,8 +69,12 @@ pub fn ends_differ(a: &[u8], b: &[u8]) -> bool
     if n == 0 {
         return false;
     }
-    let last = n - 1;
-    a[last] != b[last]
+    if n < 8 {
+        let last = n - 1;
+        return a[last] != b[last];
+    }
+    let end = n - 8;
+    word_at(a, end) != word_at(b, end)
 }
 
 // Two texts are equal.
