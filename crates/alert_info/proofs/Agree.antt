@@ -8,8 +8,8 @@ use native.Mathlib.Omega.{arith}
 use lib.Dec.{ltb}
 use lib.ListN.{length, length-map}
 use borrow.Author.Tests.{ltb-true, ltb-false}
+use Rattle.alert_cursor.specs.declared.alert_param.Span.{Span}
 use Rattle.alert_info.specs.Value.{Reading, unfit, spans, readingOf, partOf, refusalOf}
-use Rattle.alert_info.specs.declared.alert_param.Span.{Span}
 use Rattle.alert_info.specs.Grammar.{White, Value}
 use Rattle.alert_info.specs.Claims.{Agrees, OneReading, UnfitIsNoValue, Given, RefusedExactly, AcceptedList}
 use Rattle.alert_info.specs.Claims.{RefusalNumbers, RefusedList}

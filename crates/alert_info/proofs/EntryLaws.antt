@@ -10,9 +10,9 @@ use native.Mathlib.Omega.{arith}
 use lib.Dec.{ltb, eqb}
 use lib.ListN.{length, getD, length-map, List·getD-eq-default}
 use borrow.Author.Tests.{ltb-true, ltb-false, eqb-true, eqb-false, eq-eqb, ne-eqb, lt-ltb, le-ltb}
+use Rattle.alert_cursor.specs.declared.alert_param.Span.{Span}
 use Rattle.alert_info.specs.Value.{spans, readingOf, partOf, refusalOf, urisOf, spansOf}
 use Rattle.alert_info.specs.Value.{entriesOf, entryOf, nowhere, spanOf, entryRefusalOf}
-use Rattle.alert_info.specs.declared.alert_param.Span.{Span}
 use Rattle.alert_info.specs.Grammar.{White, Value}
 use Rattle.alert_info.specs.Grammar as G
 use Rattle.alert_info.specs.Claims.{Given, EntryGiven, there, refused, missing, EntryRefusedExactly}

@@ -7,10 +7,10 @@ use Prim.Native.Nat.{ℕ, zero, suc, _≤_}
 use native.Mathlib.Omega.{arith}
 use lib.ListN.{length, replicate, length-replicate}
 use Rattle.ascii.specs.Ascii.{bytes}
-use Rattle.alert_info.specs.Bytes.{isBlank, isEscapable, isText, isToken, isUri}
-use Rattle.alert_info.specs.Parts.{blankAt, endingAt, endingStep, entryAt, followingAt, paramAt, quoteAt, quotedAt, quotedFrom, quotedStep, settingAt, tokenAt, whiteAt, whiteStep}
+use Rattle.alert_cursor.specs.Bytes.{isBlank, isEscapable, isText, isToken, isUri}
+use Rattle.alert_cursor.specs.Parts.{blankAt, endingAt, endingStep, entryAt, followingAt, paramAt, quoteAt, quotedAt, quotedFrom, quotedStep, settingAt, tokenAt, whiteAt, whiteStep}
+use Rattle.alert_cursor.specs.Walk.{run, runAt, walk, walkAt}
 use Rattle.alert_info.specs.Value.{readingFrom, readingOf, refusalOf, spansOf, urisOf, valueStep, entriesOf, entryRefusalOf}
-use Rattle.alert_info.specs.Walk.{run, runAt, walk, walkAt}
 use Rattle.alert_info.specs.Grammar.{Blanks}
 use Rattle.alert_info.specs.Grammar as G
 use Rattle.alert_info.specs.Claims.{refused, EachNumber, EachEntryNumber}

@@ -7,15 +7,15 @@ use Prim.Native.Nat.{ℕ, zero, suc, _+_, _-_, _≤_, _<_}
 use native.Mathlib.Omega.{arith}
 use lib.ListN.{length, getD, drop, take}
 use borrow.Author.Tests.{eq-eqb, ne-eqb, lt-ltb, le-ltb}
+use Rattle.alert_cursor.specs.declared.alert_param.Span.{Span}
+use Rattle.alert_cursor.proofs.Lands.{SpanIn}
 use Rattle.alert_info.specs.Value.{Reading, unfit, spans, add, readingOf, refusalOf, entriesOf, entryOf}
 use Rattle.alert_info.specs.Value.{nowhere, spanOf, entryRefusalOf}
 use Rattle.alert_info.specs.Pass.{noted, noteAll, summary, blank, scanOf, judgedOf}
-use Rattle.alert_info.specs.declared.alert_param.Span.{Span}
 use Rattle.alert_info.specs.declared.value.Scan.{Scan}
 use Rattle.alert_info.specs.declared.value.Judged.{Judged}
 use Rattle.alert_info.proofs.ReadingLaws.{refusal-long, refused-spans, refusal-unfit, refusal-many, refusal-none}
 use Rattle.alert_info.proofs.ReadingLaws.{accepted-spans, span-in, span-entry, entries-spans}
-use Rattle.alert_info.proofs.Lands.{SpanIn}
 
 summary-add : (k : ℕ) (t : Scan) (p : Span) (r : Reading) → summary k t (add p r) ≡ summary k (noted k t p) r
 unfolding noteAll

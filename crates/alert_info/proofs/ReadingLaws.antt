@@ -9,17 +9,17 @@ use native.Mathlib.Omega.{arith}
 use lib.Dec.{eqb}
 use lib.ListN.{length, getD, length-map, List·getD-map}
 use borrow.Author.Tests.{ne-eqb, lt-ltb, le-ltb}
-use Rattle.alert_info.specs.Walk.{halt, move}
-use Rattle.alert_info.specs.Parts.{entryAt}
+use Rattle.alert_cursor.specs.Walk.{halt, move}
+use Rattle.alert_cursor.specs.Parts.{entryAt}
+use Rattle.alert_cursor.specs.declared.cursor.Cursor.{Cursor}
+use Rattle.alert_cursor.specs.declared.alert_param.Span.{Span}
+use Rattle.alert_cursor.specs.declared.alert_param.Found.{Found}
+use Rattle.alert_cursor.specs.declared.alert_param.Found.the-variants.{Last, More, None}
+use Rattle.alert_cursor.proofs.WalkLaws.{walk-halt, walk-move, walk-ind}
+use Rattle.alert_cursor.proofs.Lands.{Inner, SpanIn, FoundLands, entry-lands}
 use Rattle.alert_info.specs.Value.{Reading, unfit, spans, add, entryMove, valueStep, readingFrom, readingOf}
 use Rattle.alert_info.specs.Value.{readingRefusal, refusalOf, spansIn, spansOf, partOf, urisOf, entriesOf}
 use Rattle.alert_info.specs.Value.{entryOf, nowhere, spanOf}
-use Rattle.alert_info.specs.declared.cursor.Cursor.{Cursor}
-use Rattle.alert_info.specs.declared.alert_param.Span.{Span}
-use Rattle.alert_info.specs.declared.alert_param.Found.{Found}
-use Rattle.alert_info.specs.declared.alert_param.Found.the-variants.{Last, More, None}
-use Rattle.alert_info.proofs.WalkLaws.{walk-halt, walk-move, walk-ind}
-use Rattle.alert_info.proofs.Lands.{Inner, SpanIn, FoundLands, entry-lands}
 
 -- a value's reading is the reading from its front
 pub reading-start : (s : List ℕ) → readingOf s ≡ readingFrom s 0

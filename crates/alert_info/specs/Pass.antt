@@ -6,8 +6,8 @@ use mathlib.Core.Bool.{true, false, cond}
 use mathlib.Core.List.{List, [], _∷_}
 use lib.ListN.{length}
 use lib.Dec.{eqb}
+use Rattle.alert_cursor.specs.declared.alert_param.Span.{Span}
 use Rattle.alert_info.specs.Value.{Reading, unfit, spans, readingOf, refusalOf, spansOf, spanOf, nowhere}
-use Rattle.alert_info.specs.declared.alert_param.Span.{Span}
 use Rattle.alert_info.specs.declared.value.Scan.{Scan}
 use Rattle.alert_info.specs.declared.value.Judged.{Judged}
 

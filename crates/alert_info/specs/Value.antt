@@ -5,11 +5,11 @@ use mathlib.Core.Bool.{cond}
 use mathlib.Core.List.{List, [], _∷_, map}
 use lib.ListN.{length, getD, drop, take}
 use lib.Dec.{ltb, eqb}
-use Rattle.alert_info.specs.Walk.{Move, halt, move, walkAt}
-use Rattle.alert_info.specs.Parts.{entryAt}
-use Rattle.alert_info.specs.declared.alert_param.Span.{Span}
-use Rattle.alert_info.specs.declared.alert_param.Found.{Found}
-use Rattle.alert_info.specs.declared.alert_param.Found.the-variants.{Last, More, None}
+use Rattle.alert_cursor.specs.Walk.{Move, halt, move, walkAt}
+use Rattle.alert_cursor.specs.Parts.{entryAt}
+use Rattle.alert_cursor.specs.declared.alert_param.Span.{Span}
+use Rattle.alert_cursor.specs.declared.alert_param.Found.{Found}
+use Rattle.alert_cursor.specs.declared.alert_param.Found.the-variants.{Last, More, None}
 
 -- the parts of the value that are its entries' URIs, in order; or: the value does not fit the grammar
 pub data Reading : Type 0 where

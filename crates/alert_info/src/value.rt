@@ -1,12 +1,10 @@
 // A pass over a whole value, and what is answered about it.
-use crate::alert_param::Found;
-use crate::alert_param::Span;
-use crate::classes::table;
-use crate::cursor::Cursor;
+use alert_cursor::Cursor;
+use alert_cursor::Found;
+use alert_cursor::Span;
 ghost use mathlib.Core.Path.{_≡_};
 ghost use Prim.Native.Nat.{_≤_};
 ghost use lib.ListN.{length};
-ghost use Rattle.alert_info.specs.Bytes.{Classes};
 ghost use Rattle.alert_info.specs.Pass.{noted, scanOf, judgedOf};
 
 // A pass over a value: whether it fits, its entries so far, and where the URI of entry k lies (0 and 0 before it is met).
@@ -46,8 +44,8 @@ fn note(t: Scan, k: usize, span: Span) -> Scan
 }
 
 // From entry to entry through the value.
-fn scan_value(classes: &[u8; 256], v: &[u8], k: usize) -> Scan
-    requires { ⌜ (length (now v) ≤ 4096) × Classes (now classes) ⌝ }
+fn scan_value(v: &[u8], k: usize) -> Scan
+    requires { ⌜ length (now v) ≤ 4096 ⌝ }
     ensures { λ r. ⌜ r ≡ scanOf (now (v .entry)) k ⌝ }
 {
     let mut at = 0;
@@ -58,7 +56,7 @@ fn scan_value(classes: &[u8; 256], v: &[u8], k: usize) -> Scan
     };
     loop {
         let c = Cursor { at };
-        let found = c.entry_with(classes, v);
+        let found = c.entry(v);
         match found {
             Found::More(span, next) => {
                 t = note(t, k, span);
@@ -91,8 +89,7 @@ pub(crate) fn judge(v: &[u8], k: usize) -> Judged
     if 4096 < v.len() {
         return refused(1);
     }
-    let classes = table();
-    let t = scan_value(&classes, v, k);
+    let t = scan_value(v, k);
     if !t.fits {
         return refused(2);
     }

@@ -1,0 +1,9 @@
+pub mod ByteLaws
+mod ClassTable
+pub mod Lands
+pub mod PartLaws
+pub mod QuoteLaws
+pub mod RunLaws
+mod Table
+pub mod WalkLaws
+pub mod WhiteLaws
