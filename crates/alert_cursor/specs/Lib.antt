@@ -5,3 +5,5 @@ pub mod Claims
 -- what the promises are equations with; the claims of the crate alert_info tie it to the grammar
 pub mod Walk
 pub mod Parts
+pub mod Reading
+pub mod Pass

@@ -118,13 +118,12 @@ impl Cursor {
         }
     }
 
-    // What stands at the cursor. From a cursor at 0 this goes through a value from entry to entry, up to the last one
-    // or to where the value does not fit.
-    pub fn entry(self, s: &[u8]) -> Found
+    // Past an entry and the comma after it.
+    pub(crate) fn entry_with(self, classes: &[u8; 256], s: &[u8]) -> Found
+        requires { ⌜ Classes (now classes) ⌝ }
         ensures { λ r. ⌜ r ≡ entryAt (now (s .entry)) (self .at) ⌝ }
     {
-        let classes = table();
-        let w = self.white(&classes, s);
+        let w = self.white(classes, s);
         let b = w.peek(s);
         if b != b'<' {
             return Found::None;
@@ -132,7 +131,7 @@ impl Cursor {
         let at = w.at;
         let start = at + 1;
         let f = Cursor { at: start };
-        let u = f.run(&classes, s, URI);
+        let u = f.run(classes, s, URI);
         let end = u.at;
         if start == end {
             return Found::None;
@@ -144,11 +143,20 @@ impl Cursor {
         let len = end - start;
         let after = end + 1;
         let h = Cursor { at: after };
-        let rest = h.ending(&classes, s);
+        let rest = h.ending(classes, s);
         match rest {
             Ending::ValueEnd => Found::Last(Span { start, len }),
             Ending::NextEntry(next) => Found::More(Span { start, len }, next),
             Ending::NoEnding => Found::None,
         }
+    }
+
+    // What stands at the cursor. From a cursor at 0 this goes through a value from entry to entry, up to the last one
+    // or to where the value does not fit.
+    pub fn entry(self, s: &[u8]) -> Found
+        ensures { λ r. ⌜ r ≡ entryAt (now (s .entry)) (self .at) ⌝ }
+    {
+        let classes = table();
+        self.entry_with(&classes, s)
     }
 }

@@ -16,6 +16,8 @@ use Rattle.alert_cursor.specs.Walk.{run, runAt}
 use Rattle.alert_cursor.specs.Parts.{blankAt, whiteAt, tokenAt, quoteAt, quotedFrom}
 use Rattle.alert_cursor.specs.Parts.{settingAt, paramAt, followingAt, endingAt, spanTo, found}
 use Rattle.alert_cursor.specs.Parts.{entryAt}
+use Rattle.alert_cursor.specs.Reading.{spans, add, readingFrom, readingOf}
+use Rattle.alert_cursor.specs.Pass.{nowhere}
 use Rattle.alert_cursor.specs.declared.cursor.Cursor.{Cursor}
 use Rattle.alert_cursor.specs.declared.cursor.Quote.the-variants.{Closed}
 use Rattle.alert_cursor.specs.declared.cursor.Passed.{Passed}
@@ -34,11 +36,11 @@ use Rattle.alert_cursor.proofs.PartLaws.{following-stop, following-entry, follo
 use Rattle.alert_cursor.proofs.PartLaws.{ending-more, entry-some}
 use Rattle.alert_cursor.proofs.WhiteLaws.{beginsWhite, begins-not, blank-end, blank-yes, blank-no, blank-fold, cr-not-blank}
 use Rattle.alert_cursor.proofs.WhiteLaws.{fold-from, white-stop, white-more}
-use Rattle.alert_info.specs.Value.{spans, add, readingFrom, readingOf, partOf, nowhere}
+use Rattle.alert_cursor.proofs.ReadingLaws.{reading-last, reading-more}
+use Rattle.alert_info.specs.Value.{partOf}
 use Rattle.alert_info.specs.Grammar.{Any, Some, White, Token, Text, Setting, Param, Params, Entry, Value}
 use Rattle.alert_info.specs.Grammar.{Before}
 use Rattle.alert_info.specs.Grammar as G
-use Rattle.alert_info.proofs.ReadingLaws.{reading-last, reading-more}
 
 to-true : (b : Bool) → T b → b ≡ true
 to-true true t = refl

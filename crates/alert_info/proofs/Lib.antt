@@ -2,8 +2,8 @@ pub mod Agree
 pub mod Complete
 pub mod EntryLaws
 pub mod Examples
-mod PassLaws
+mod JudgedLaws
 mod Place
-pub mod ReadingLaws
 pub mod Sound
 pub mod Unfolded
+pub mod ValueLaws

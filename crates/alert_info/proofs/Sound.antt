@@ -19,6 +19,7 @@ use Rattle.alert_cursor.specs.Parts.{quoteAt, quoteMove}
 use Rattle.alert_cursor.specs.Parts.{quotedStep, quotedFrom, quotedAt, settingAt, named, paramAt, paramNext}
 use Rattle.alert_cursor.specs.Parts.{followingAt}
 use Rattle.alert_cursor.specs.Parts.{followingMove, endingStep, endingAt, spanTo, found, closedUri, entryAt}
+use Rattle.alert_cursor.specs.Reading.{Reading, unfit, spans, add, entryMove, valueStep, readingFrom, readingOf}
 use Rattle.alert_cursor.specs.declared.cursor.Cursor.{Cursor}
 use Rattle.alert_cursor.specs.declared.cursor.Quote.{Quote}
 use Rattle.alert_cursor.specs.declared.cursor.Quote.the-variants.{Closed, Escaped, Unclosed}
@@ -35,11 +36,10 @@ use Rattle.alert_cursor.proofs.RunLaws.{peeked, by-test}
 use Rattle.alert_cursor.proofs.WhiteLaws.{white-ok, blank-in, fold-bytes}
 use Rattle.alert_cursor.proofs.WalkLaws.{walk-ind}
 use Rattle.alert_cursor.proofs.Lands.{quoted-ok, ending-ok}
-use Rattle.alert_info.specs.Value.{Reading, unfit, spans, add, entryMove, valueStep, readingFrom, readingOf}
+use Rattle.alert_cursor.proofs.ReadingLaws.{value-ok}
 use Rattle.alert_info.specs.Value.{partOf}
 use Rattle.alert_info.specs.Grammar.{Any, Some, White, Token, Uri, Text, Setting, Param, Params, Entry, Value}
 use Rattle.alert_info.specs.Grammar as G
-use Rattle.alert_info.proofs.ReadingLaws.{value-ok}
 
 is-true : (b : Bool) → b ≡ true → T b
 is-true b e = subst T (sym e) tt

@@ -10,10 +10,11 @@ use Prim.Native.Nat.{ℕ, zero, suc, _≤_, _<_}
 use Prim.Native.Char.{code}
 use lib.Dec.{eqb}
 use lib.ListN.{length}
+use Rattle.alert_cursor.specs.Reading.{unfit, spans, readingOf}
+use Rattle.alert_cursor.specs.Pass.{nowhere}
 use Rattle.alert_cursor.specs.declared.alert_param.Span.{Span}
 use Rattle.alert_info.specs.Grammar.{Any, White, Blanks, Value, Before}
-use Rattle.alert_info.specs.Value.{unfit, spans, readingOf, partOf, refusalOf, urisOf}
-use Rattle.alert_info.specs.Value.{entriesOf, entryOf, nowhere, spanOf, entryRefusalOf}
+use Rattle.alert_info.specs.Value.{partOf, refusalOf, urisOf, entriesOf, entryOf, spanOf, entryRefusalOf}
 
 -- s is a value with the URIs us exactly if it is read, and us are the parts that are read
 abbrev pub Agrees : Type 0

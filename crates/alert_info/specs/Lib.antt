@@ -5,4 +5,4 @@ pub mod Claims
 pub mod Examples
 -- what the promises are equations with; the claims tie it to the grammar
 pub mod Value
-pub mod Pass
+pub mod Judged

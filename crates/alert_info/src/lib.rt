@@ -4,7 +4,7 @@
 // One pass over the bytes; nothing is copied.
 //
 //   lib.rt    the four questions
-//   value.rt  a pass over the whole value, from entry to entry by the cursor of the crate alert_cursor, and its refusal number
+//   value.rt  what is answered about a value, from one pass of the crate alert_cursor over it
 //   c.rt      the four questions for C
 mod c;
 mod value;

@@ -1,5 +1,5 @@
 use borrow.Author.Tests.{not-true, not-false}
-use Rattle.alert_info.proofs.PassLaws.{judged-long, judged-misfit, judged-many, judged-fine}
+use Rattle.alert_info.proofs.JudgedLaws.{judged-long, judged-misfit, judged-many, judged-fine}
 use borrow.Author.Needs.{needs}
 use Rattle.alert_info.proofs.value.judge.Statement.{statement}
 use Rattle.alert_info.proofs.value.judge.Tie as tie

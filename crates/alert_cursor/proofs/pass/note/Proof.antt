@@ -1,7 +1,7 @@
 use borrow.Author.Tests.{eq-eqb, ne-eqb}
 use borrow.Author.Needs.{needs}
-use Rattle.alert_info.proofs.value.note.Statement.{statement}
-use Rattle.alert_info.proofs.value.note.Tie as tie
+use Rattle.alert_cursor.proofs.pass.note.Statement.{statement}
+use Rattle.alert_cursor.proofs.pass.note.Tie as tie
 
 add-entries : tie.Need-add-entries
 add-entries c = search needs

@@ -1,15 +1,15 @@
--- One pass over a value that counts its entries and keeps the place of one of them. Only private functions promise
--- this; the public answers are in `Value`.
+-- One pass over a value that counts its entries and keeps the place of one of them.
 -- Assumes nothing.
 use Prim.Native.Nat.{ℕ, _+_}
 use mathlib.Core.Bool.{true, false, cond}
 use mathlib.Core.List.{List, [], _∷_}
-use lib.ListN.{length}
 use lib.Dec.{eqb}
+use Rattle.alert_cursor.specs.Reading.{Reading, unfit, spans, readingOf}
 use Rattle.alert_cursor.specs.declared.alert_param.Span.{Span}
-use Rattle.alert_info.specs.Value.{Reading, unfit, spans, readingOf, refusalOf, spansOf, spanOf, nowhere}
-use Rattle.alert_info.specs.declared.value.Scan.{Scan}
-use Rattle.alert_info.specs.declared.value.Judged.{Judged}
+use Rattle.alert_cursor.specs.declared.pass.Scan.{Scan}
+
+abbrev pub nowhere : Span
+nowhere = record { start = 0; len = 0 }
 
 -- one entry more, kept if it is entry k
 abbrev pub noted : ℕ → Scan → Span → Scan
@@ -28,7 +28,3 @@ blank = record { fits = true; entries = 0; span = nowhere }
 
 unfoldable pub scanOf : List ℕ → ℕ → Scan
 scanOf s k = summary k blank (readingOf s)
-
--- the whole answer about a value and its entry k
-unfoldable pub judgedOf : List ℕ → ℕ → Judged
-judgedOf s k = record { refusal = refusalOf s; entries = length (spansOf s); span = spanOf s k }
