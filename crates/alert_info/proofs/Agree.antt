@@ -8,13 +8,14 @@ use native.Mathlib.Omega.{arith}
 use lib.Dec.{ltb}
 use lib.ListN.{length, length-map}
 use borrow.Author.Tests.{ltb-true, ltb-false}
-use Rattle.alert_info.specs.Value.{Reading, unfit, spans, readingOf, partOf, refusalOf}
-use Rattle.alert_info.specs.declared.alert_param.Span.{Span}
+use Rattle.alert_cursor.specs.Reading.{Reading, unfit, spans, readingOf}
+use Rattle.alert_cursor.specs.declared.alert_param.Span.{Span}
+use Rattle.alert_info.specs.Value.{partOf, refusalOf}
 use Rattle.alert_info.specs.Grammar.{White, Value}
 use Rattle.alert_info.specs.Claims.{Agrees, OneReading, UnfitIsNoValue, Given, RefusedExactly, AcceptedList}
 use Rattle.alert_info.specs.Claims.{RefusalNumbers, RefusedList}
-use Rattle.alert_info.proofs.ReadingLaws.{refusal-long, refusal-unfit, refusal-many, refusal-none, accepted-uris}
-use Rattle.alert_info.proofs.ReadingLaws.{refused-uris}
+use Rattle.alert_info.proofs.ValueLaws.{refusal-long, refusal-unfit, refusal-many, refusal-none, accepted-uris}
+use Rattle.alert_info.proofs.ValueLaws.{refused-uris}
 use Rattle.alert_info.proofs.Sound.{sound}
 use Rattle.alert_info.proofs.Complete.{complete}
 

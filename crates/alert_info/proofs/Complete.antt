@@ -11,34 +11,36 @@ use lib.Dec.{T, eqb}
 use lib.ListN.{length, getD, drop, take, length-drop, length-append}
 use lib.Seq.{drop-drop, drop-append-seam, take-append-seam, getD-drop}
 use borrow.Author.Tests.{eqb-true, ne-eqb}
-use Rattle.alert_info.specs.Bytes.{isBlank, isUri, isToken, isText, isEscapable}
-use Rattle.alert_info.specs.Walk.{run, runAt}
-use Rattle.alert_info.specs.Parts.{blankAt, whiteAt, tokenAt, quoteAt, quotedFrom}
-use Rattle.alert_info.specs.Parts.{settingAt, paramAt, followingAt, endingAt, spanTo, found}
-use Rattle.alert_info.specs.Parts.{entryAt}
-use Rattle.alert_info.specs.Value.{spans, add, readingFrom, readingOf, partOf, nowhere}
+use Rattle.alert_cursor.specs.Bytes.{isBlank, isUri, isToken, isText, isEscapable}
+use Rattle.alert_cursor.specs.Walk.{run, runAt}
+use Rattle.alert_cursor.specs.Parts.{blankAt, whiteAt, tokenAt, quoteAt, quotedFrom}
+use Rattle.alert_cursor.specs.Parts.{settingAt, paramAt, followingAt, endingAt, spanTo, found}
+use Rattle.alert_cursor.specs.Parts.{entryAt}
+use Rattle.alert_cursor.specs.Reading.{spans, add, readingFrom, readingOf}
+use Rattle.alert_cursor.specs.Pass.{nowhere}
+use Rattle.alert_cursor.specs.declared.cursor.Cursor.{Cursor}
+use Rattle.alert_cursor.specs.declared.cursor.Quote.the-variants.{Closed}
+use Rattle.alert_cursor.specs.declared.cursor.Passed.{Passed}
+use Rattle.alert_cursor.specs.declared.cursor.Passed.the-variants.{Next}
+use Rattle.alert_cursor.specs.declared.alert_param.Span.{Span}
+use Rattle.alert_cursor.specs.declared.alert_param.Following.the-variants as following
+use Rattle.alert_cursor.specs.declared.alert_param.Ending.{Ending}
+use Rattle.alert_cursor.specs.declared.alert_param.Ending.the-variants.{ValueEnd, NextEntry}
+use Rattle.alert_cursor.specs.declared.alert_param.Found.{Found}
+use Rattle.alert_cursor.specs.declared.alert_param.Found.the-variants.{Last, More}
+use Rattle.alert_cursor.proofs.QuoteLaws.{opened, quote-closed, quote-here, escape-passed, quoted-halt, quoted-more}
+use Rattle.alert_cursor.proofs.QuoteLaws.{quoted-text}
+use Rattle.alert_cursor.proofs.RunLaws.{run-stop}
+use Rattle.alert_cursor.proofs.PartLaws.{token-some, setting-quoted, setting-token, param-bare, param-set}
+use Rattle.alert_cursor.proofs.PartLaws.{following-stop, following-entry, following-param, ending-halt}
+use Rattle.alert_cursor.proofs.PartLaws.{ending-more, entry-some}
+use Rattle.alert_cursor.proofs.WhiteLaws.{beginsWhite, begins-not, blank-end, blank-yes, blank-no, blank-fold, cr-not-blank}
+use Rattle.alert_cursor.proofs.WhiteLaws.{fold-from, white-stop, white-more}
+use Rattle.alert_cursor.proofs.ReadingLaws.{reading-last, reading-more}
+use Rattle.alert_info.specs.Value.{partOf}
 use Rattle.alert_info.specs.Grammar.{Any, Some, White, Token, Text, Setting, Param, Params, Entry, Value}
 use Rattle.alert_info.specs.Grammar.{Before}
 use Rattle.alert_info.specs.Grammar as G
-use Rattle.alert_info.specs.declared.cursor.Cursor.{Cursor}
-use Rattle.alert_info.specs.declared.cursor.Quote.the-variants.{Closed}
-use Rattle.alert_info.specs.declared.cursor.Passed.{Passed}
-use Rattle.alert_info.specs.declared.cursor.Passed.the-variants.{Next}
-use Rattle.alert_info.specs.declared.alert_param.Span.{Span}
-use Rattle.alert_info.specs.declared.alert_param.Following.the-variants as following
-use Rattle.alert_info.specs.declared.alert_param.Ending.{Ending}
-use Rattle.alert_info.specs.declared.alert_param.Ending.the-variants.{ValueEnd, NextEntry}
-use Rattle.alert_info.specs.declared.alert_param.Found.{Found}
-use Rattle.alert_info.specs.declared.alert_param.Found.the-variants.{Last, More}
-use Rattle.alert_info.proofs.QuoteLaws.{opened, quote-closed, quote-here, escape-passed, quoted-halt, quoted-more}
-use Rattle.alert_info.proofs.QuoteLaws.{quoted-text}
-use Rattle.alert_info.proofs.RunLaws.{run-stop}
-use Rattle.alert_info.proofs.PartLaws.{token-some, setting-quoted, setting-token, param-bare, param-set}
-use Rattle.alert_info.proofs.PartLaws.{following-stop, following-entry, following-param, ending-halt}
-use Rattle.alert_info.proofs.PartLaws.{ending-more, entry-some}
-use Rattle.alert_info.proofs.ReadingLaws.{reading-last, reading-more}
-use Rattle.alert_info.proofs.WhiteLaws.{beginsWhite, begins-not, blank-end, blank-yes, blank-no, blank-fold, cr-not-blank}
-use Rattle.alert_info.proofs.WhiteLaws.{fold-from, white-stop, white-more}
 
 to-true : (b : Bool) → T b → b ≡ true
 to-true true t = refl

@@ -10,14 +10,16 @@ use native.Mathlib.Omega.{arith}
 use lib.Dec.{ltb, eqb}
 use lib.ListN.{length, getD, length-map, List·getD-eq-default}
 use borrow.Author.Tests.{ltb-true, ltb-false, eqb-true, eqb-false, eq-eqb, ne-eqb, lt-ltb, le-ltb}
-use Rattle.alert_info.specs.Value.{spans, readingOf, partOf, refusalOf, urisOf, spansOf}
-use Rattle.alert_info.specs.Value.{entriesOf, entryOf, nowhere, spanOf, entryRefusalOf}
-use Rattle.alert_info.specs.declared.alert_param.Span.{Span}
+use Rattle.alert_cursor.specs.Reading.{spans, readingOf}
+use Rattle.alert_cursor.specs.Pass.{nowhere}
+use Rattle.alert_cursor.specs.declared.alert_param.Span.{Span}
+use Rattle.alert_cursor.proofs.ReadingLaws.{reading-start}
+use Rattle.alert_info.specs.Value.{partOf, refusalOf, urisOf, spansOf, entriesOf, entryOf, spanOf, entryRefusalOf}
 use Rattle.alert_info.specs.Grammar.{White, Value}
 use Rattle.alert_info.specs.Grammar as G
 use Rattle.alert_info.specs.Claims.{Given, EntryGiven, there, refused, missing, EntryRefusedExactly}
 use Rattle.alert_info.specs.Claims.{EntryRefusalNumbers, RefusedEntry, RefusedPlace, Places, OnePlace}
-use Rattle.alert_info.proofs.ReadingLaws.{reading-start, refused-uris, accepted-spans, entries-spans}
+use Rattle.alert_info.proofs.ValueLaws.{refused-uris, accepted-spans, entries-spans}
 use Rattle.alert_info.proofs.Agree.{unique, refused-exactly, refusal-numbers, accepted-list}
 use Rattle.alert_info.proofs.Complete.{complete-places}
 use Rattle.alert_info.proofs.Place.{starts-after}

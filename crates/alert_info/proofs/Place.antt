@@ -6,19 +6,20 @@ use Prim.Native.Nat.{ℕ, zero, suc, _+_, _≤_, _<_}
 use native.Mathlib.Omega.{arith}
 use lib.Dec.{eqb}
 use lib.ListN.{length, getD, drop, length-append}
-use Rattle.alert_info.specs.Bytes.{isBlank, isUri}
-use Rattle.alert_info.specs.Walk.{runAt}
-use Rattle.alert_info.specs.Parts.{whiteAt, endingAt, spanTo, found, closedUri, entryAt}
-use Rattle.alert_info.specs.Value.{Reading, unfit, spans, add, readingFrom, nowhere}
+use Rattle.alert_cursor.specs.Bytes.{isBlank, isUri}
+use Rattle.alert_cursor.specs.Walk.{runAt}
+use Rattle.alert_cursor.specs.Parts.{whiteAt, endingAt, spanTo, found, closedUri, entryAt}
+use Rattle.alert_cursor.specs.Reading.{Reading, unfit, spans, add, readingFrom}
+use Rattle.alert_cursor.specs.Pass.{nowhere}
+use Rattle.alert_cursor.specs.declared.alert_param.Span.{Span}
+use Rattle.alert_cursor.specs.declared.alert_param.Ending.{Ending}
+use Rattle.alert_cursor.specs.declared.alert_param.Ending.the-variants.{ValueEnd, NextEntry, NoEnding}
+use Rattle.alert_cursor.specs.declared.alert_param.Found.{Found}
+use Rattle.alert_cursor.specs.declared.alert_param.Found.the-variants.{Last, More, None}
+use Rattle.alert_cursor.proofs.RunLaws.{by-test}
+use Rattle.alert_cursor.proofs.ReadingLaws.{reading-last, reading-more, reading-none}
 use Rattle.alert_info.specs.Grammar.{White, Before}
 use Rattle.alert_info.specs.Grammar as G
-use Rattle.alert_info.specs.declared.alert_param.Span.{Span}
-use Rattle.alert_info.specs.declared.alert_param.Ending.{Ending}
-use Rattle.alert_info.specs.declared.alert_param.Ending.the-variants.{ValueEnd, NextEntry, NoEnding}
-use Rattle.alert_info.specs.declared.alert_param.Found.{Found}
-use Rattle.alert_info.specs.declared.alert_param.Found.the-variants.{Last, More, None}
-use Rattle.alert_info.proofs.RunLaws.{by-test}
-use Rattle.alert_info.proofs.ReadingLaws.{reading-last, reading-more, reading-none}
 use Rattle.alert_info.proofs.Complete.{front-in, white-past, between, placed, entry-to}
 
 -- the URI that is found begins right after the white space and its bracket

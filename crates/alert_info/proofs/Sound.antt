@@ -11,35 +11,35 @@ use lib.Dec.{T, eqb, leb}
 use lib.ListN.{length, getD, drop, take, take-append-drop, drop-of-length-le}
 use lib.Seq.{drop-cons, drop-drop}
 use borrow.Author.Tests.{eqb-true, eqb-false, leb-true, leb-false}
-use Rattle.alert_info.specs.Bytes.{isBlank, isUri, isToken, isText, isEscapable}
-use Rattle.alert_info.specs.Walk.{run, runAt}
-use Rattle.alert_info.specs.Walk.{halt, move}
-use Rattle.alert_info.specs.Parts.{foldAt, blankAt, blankMove, whiteStep, whiteAt, tokenAt, escapeByte}
-use Rattle.alert_info.specs.Parts.{quoteAt, quoteMove}
-use Rattle.alert_info.specs.Parts.{quotedStep, quotedFrom, quotedAt, settingAt, named, paramAt, paramNext}
-use Rattle.alert_info.specs.Parts.{followingAt}
-use Rattle.alert_info.specs.Parts.{followingMove, endingStep, endingAt, spanTo, found, closedUri, entryAt}
-use Rattle.alert_info.specs.Value.{Reading, unfit, spans, add, entryMove, valueStep, readingFrom, readingOf}
+use Rattle.alert_cursor.specs.Bytes.{isBlank, isUri, isToken, isText, isEscapable}
+use Rattle.alert_cursor.specs.Walk.{run, runAt}
+use Rattle.alert_cursor.specs.Walk.{halt, move}
+use Rattle.alert_cursor.specs.Parts.{foldAt, blankAt, blankMove, whiteStep, whiteAt, tokenAt, escapeByte}
+use Rattle.alert_cursor.specs.Parts.{quoteAt, quoteMove}
+use Rattle.alert_cursor.specs.Parts.{quotedStep, quotedFrom, quotedAt, settingAt, named, paramAt, paramNext}
+use Rattle.alert_cursor.specs.Parts.{followingAt}
+use Rattle.alert_cursor.specs.Parts.{followingMove, endingStep, endingAt, spanTo, found, closedUri, entryAt}
+use Rattle.alert_cursor.specs.Reading.{Reading, unfit, spans, add, entryMove, valueStep, readingFrom, readingOf}
+use Rattle.alert_cursor.specs.declared.cursor.Cursor.{Cursor}
+use Rattle.alert_cursor.specs.declared.cursor.Quote.{Quote}
+use Rattle.alert_cursor.specs.declared.cursor.Quote.the-variants.{Closed, Escaped, Unclosed}
+use Rattle.alert_cursor.specs.declared.cursor.Passed.{Passed}
+use Rattle.alert_cursor.specs.declared.cursor.Passed.the-variants.{Next, Refused}
+use Rattle.alert_cursor.specs.declared.alert_param.Span.{Span}
+use Rattle.alert_cursor.specs.declared.alert_param.Following.{Following}
+use Rattle.alert_cursor.specs.declared.alert_param.Following.the-variants as following
+use Rattle.alert_cursor.specs.declared.alert_param.Ending.{Ending}
+use Rattle.alert_cursor.specs.declared.alert_param.Ending.the-variants.{ValueEnd, NextEntry, NoEnding}
+use Rattle.alert_cursor.specs.declared.alert_param.Found.{Found}
+use Rattle.alert_cursor.specs.declared.alert_param.Found.the-variants.{Last, More, None}
+use Rattle.alert_cursor.proofs.RunLaws.{peeked, by-test}
+use Rattle.alert_cursor.proofs.WhiteLaws.{white-ok, blank-in, fold-bytes}
+use Rattle.alert_cursor.proofs.WalkLaws.{walk-ind}
+use Rattle.alert_cursor.proofs.Lands.{quoted-ok, ending-ok}
+use Rattle.alert_cursor.proofs.ReadingLaws.{value-ok}
 use Rattle.alert_info.specs.Value.{partOf}
 use Rattle.alert_info.specs.Grammar.{Any, Some, White, Token, Uri, Text, Setting, Param, Params, Entry, Value}
 use Rattle.alert_info.specs.Grammar as G
-use Rattle.alert_info.specs.declared.cursor.Cursor.{Cursor}
-use Rattle.alert_info.specs.declared.cursor.Quote.{Quote}
-use Rattle.alert_info.specs.declared.cursor.Quote.the-variants.{Closed, Escaped, Unclosed}
-use Rattle.alert_info.specs.declared.cursor.Passed.{Passed}
-use Rattle.alert_info.specs.declared.cursor.Passed.the-variants.{Next, Refused}
-use Rattle.alert_info.specs.declared.alert_param.Span.{Span}
-use Rattle.alert_info.specs.declared.alert_param.Following.{Following}
-use Rattle.alert_info.specs.declared.alert_param.Following.the-variants as following
-use Rattle.alert_info.specs.declared.alert_param.Ending.{Ending}
-use Rattle.alert_info.specs.declared.alert_param.Ending.the-variants.{ValueEnd, NextEntry, NoEnding}
-use Rattle.alert_info.specs.declared.alert_param.Found.{Found}
-use Rattle.alert_info.specs.declared.alert_param.Found.the-variants.{Last, More, None}
-use Rattle.alert_info.proofs.RunLaws.{peeked, by-test}
-use Rattle.alert_info.proofs.WhiteLaws.{white-ok, blank-in, fold-bytes}
-use Rattle.alert_info.proofs.WalkLaws.{walk-ind}
-use Rattle.alert_info.proofs.Lands.{quoted-ok, ending-ok}
-use Rattle.alert_info.proofs.ReadingLaws.{value-ok}
 
 is-true : (b : Bool) → b ≡ true → T b
 is-true b e = subst T (sym e) tt

@@ -1,6 +1,6 @@
 -- What is claimed of the definitions: the reading agrees with the grammar, each refusal number is given exactly where it
 -- is due, entries lie where the grammar has them, and a value without CR reads as it did before lines were folded.
--- The proofs are in proofs/Agree.antt, proofs/EntryLaws.antt, proofs/Unfolded.antt and proofs/ByteLaws.antt.
+-- The proofs are in proofs/Agree.antt, proofs/EntryLaws.antt and proofs/Unfolded.antt.
 -- Assumes nothing.
 use mathlib.Core.Path.{_≡_}
 use mathlib.Core.Logic.{_↔_, _⊎_}
@@ -10,15 +10,11 @@ use Prim.Native.Nat.{ℕ, zero, suc, _≤_, _<_}
 use Prim.Native.Char.{code}
 use lib.Dec.{eqb}
 use lib.ListN.{length}
-use Rattle.alert_info.specs.Bytes.{inClass}
+use Rattle.alert_cursor.specs.Reading.{unfit, spans, readingOf}
+use Rattle.alert_cursor.specs.Pass.{nowhere}
+use Rattle.alert_cursor.specs.declared.alert_param.Span.{Span}
 use Rattle.alert_info.specs.Grammar.{Any, White, Blanks, Value, Before}
-use Rattle.alert_info.specs.Value.{unfit, spans, readingOf, partOf, refusalOf, urisOf}
-use Rattle.alert_info.specs.Value.{entriesOf, entryOf, nowhere, spanOf, entryRefusalOf}
-use Rattle.alert_info.specs.declared.alert_param.Span.{Span}
-
--- no byte rule takes a number that is no byte
-abbrev pub ClassesOfBytes : Type 0
-ClassesOfBytes = (k b : ℕ) → inClass k b ≡ true → b < 256
+use Rattle.alert_info.specs.Value.{partOf, refusalOf, urisOf, entriesOf, entryOf, spanOf, entryRefusalOf}
 
 -- s is a value with the URIs us exactly if it is read, and us are the parts that are read
 abbrev pub Agrees : Type 0

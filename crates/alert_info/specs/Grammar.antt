@@ -11,7 +11,7 @@ use Prim.Native.Char.{code}
 use mathlib.Core.Bool.{Bool}
 use mathlib.Core.List.{List, [], _∷_, _++_}
 use lib.Dec.{T}
-use Rattle.alert_info.specs.Bytes.{isBlank, isUri, isToken, isText, isEscapable}
+use Rattle.alert_cursor.specs.Bytes.{isBlank, isUri, isToken, isText, isEscapable}
 
 -- any number of bytes that pass a test
 pub data Any (p : ℕ → Bool) : List ℕ → Type 0 where

@@ -1,11 +1,8 @@
--- what a reader has to believe
-pub mod Bytes
+-- what a reader has to believe, beside the byte rules of the crate alert_cursor
 pub mod Grammar
 -- what is claimed of it
 pub mod Claims
 pub mod Examples
 -- what the promises are equations with; the claims tie it to the grammar
-pub mod Walk
-pub mod Parts
 pub mod Value
-pub mod Pass
+pub mod Judged

@@ -1,39 +1,13 @@
--- The whole value: where its entries' URIs lie, its refusal number, and the answers about its entries.
+-- The whole value: its refusal number, and the answers about its entries.
 -- Assumes nothing.
 use Prim.Native.Nat.{ℕ}
 use mathlib.Core.Bool.{cond}
-use mathlib.Core.List.{List, [], _∷_, map}
+use mathlib.Core.List.{List, [], map}
 use lib.ListN.{length, getD, drop, take}
 use lib.Dec.{ltb, eqb}
-use Rattle.alert_info.specs.Walk.{Move, halt, move, walkAt}
-use Rattle.alert_info.specs.Parts.{entryAt}
-use Rattle.alert_info.specs.declared.alert_param.Span.{Span}
-use Rattle.alert_info.specs.declared.alert_param.Found.{Found}
-use Rattle.alert_info.specs.declared.alert_param.Found.the-variants.{Last, More, None}
-
--- the parts of the value that are its entries' URIs, in order; or: the value does not fit the grammar
-pub data Reading : Type 0 where
-  unfit : Reading
-  spans : List Span → Reading
-
-abbrev pub add : Span → Reading → Reading
-add p unfit = unfit
-add p (spans ps) = spans (p ∷ ps)
-
-abbrev pub entryMove : Found → Move Reading
-entryMove (Last p) = halt (spans (p ∷ []))
-entryMove (More p c) = move (add p) (c .at)
-entryMove None = halt unfit
-
-unfoldable pub valueStep : List ℕ → ℕ → Move Reading
-valueStep s at = entryMove (entryAt s at)
-
--- the reading from a position on, from entry to entry
-unfoldable pub readingFrom : List ℕ → ℕ → Reading
-readingFrom s at = walkAt (valueStep s) unfit s at
-
-unfoldable pub readingOf : List ℕ → Reading
-readingOf s = readingFrom s 0
+use Rattle.alert_cursor.specs.Reading.{Reading, unfit, spans, readingOf}
+use Rattle.alert_cursor.specs.Pass.{nowhere}
+use Rattle.alert_cursor.specs.declared.alert_param.Span.{Span}
 
 -- 2: the value does not fit; 3: over 64 entries; 0: neither
 abbrev pub readingRefusal : Reading → ℕ
@@ -67,9 +41,6 @@ entriesOf s = length (urisOf s)
 -- the URI of entry k, counted from 0; empty if the value is refused or has no entry k
 unfoldable pub entryOf : List ℕ → ℕ → List ℕ
 entryOf s k = getD (urisOf s) k []
-
-abbrev pub nowhere : Span
-nowhere = record { start = 0; len = 0 }
 
 -- where the URI of entry k lies; 0 and 0 if the value is refused or has no entry k
 unfoldable pub spanOf : List ℕ → ℕ → Span

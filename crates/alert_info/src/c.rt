@@ -1,6 +1,6 @@
 // The reader's four questions for C: a value is a pointer and a length.
-use crate::alert_param::Span;
 use crate::value::judge;
+use alert_cursor::Span;
 ghost use mathlib.Core.Path.{_≡_};
 ghost use Rattle.alert_info.specs.Value.{refusalOf, entriesOf, spanOf, entryRefusalOf};
 

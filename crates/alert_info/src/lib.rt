@@ -3,21 +3,13 @@
 // In: any bytes. Out: a refusal number, the number of entries, and the URI of an entry as a part of the caller's bytes.
 // One pass over the bytes; nothing is copied.
 //
-//   classes.rt      what each of the 256 bytes may be part of
-//   cursor.rt       a position in the value, and passing white space, a token or a quoted string
-//   alert_param.rt  passing a parameter and an entry, which RFC 3261 calls alert-param
-//   value.rt        a pass over the whole value, and its refusal number
-//   c.rt            the four questions for C
-mod alert_param;
+//   lib.rt    the four questions
+//   value.rt  what is answered about a value, from one pass of the crate alert_cursor over it
+//   c.rt      the four questions for C
 mod c;
-mod classes;
-mod cursor;
 mod value;
 
 use crate::value::judge;
-pub use alert_param::Found;
-pub use alert_param::Span;
-pub use cursor::Cursor;
 ghost use mathlib.Core.Path.{_≡_};
 ghost use Prim.Native.Nat.{_+_};
 ghost use Rattle.alert_info.specs.Value.{refusalOf, entriesOf, entryOf, spanOf, entryRefusalOf};

@@ -1,20 +1,8 @@
-// A pass over a whole value, and what is answered about it.
-use crate::alert_param::Found;
-use crate::alert_param::Span;
-use crate::classes::table;
-use crate::cursor::Cursor;
+// What is answered about a value.
+use alert_cursor::Span;
+use alert_cursor::scan_value;
 ghost use mathlib.Core.Path.{_≡_};
-ghost use Prim.Native.Nat.{_≤_};
-ghost use lib.ListN.{length};
-ghost use Rattle.alert_info.specs.Bytes.{Classes};
-ghost use Rattle.alert_info.specs.Pass.{noted, scanOf, judgedOf};
-
-// A pass over a value: whether it fits, its entries so far, and where the URI of entry k lies (0 and 0 before it is met).
-pub struct Scan {
-    pub fits: bool,
-    pub entries: usize,
-    pub span: Span,
-}
+ghost use Rattle.alert_info.specs.Judged.{judgedOf};
 
 // What is answered: the value's refusal number, its entries (0 if refused), and where the URI of entry k lies (0 and 0
 // where there is none).
@@ -22,56 +10,6 @@ pub struct Judged {
     pub refusal: u8,
     pub entries: usize,
     pub span: Span,
-}
-
-// One entry more. Its URI's place is kept if it is entry k.
-fn note(t: Scan, k: usize, span: Span) -> Scan
-    requires { ⌜ t .entries ≤ 4096 ⌝ }
-    ensures { λ r. ⌜ r ≡ noted k t span ⌝ }
-{
-    let entries = t.entries + 1;
-    if t.entries == k {
-        return Scan {
-            fits: t.fits,
-            entries,
-            span,
-        };
-    }
-    let kept = t.span;
-    Scan {
-        fits: t.fits,
-        entries,
-        span: kept,
-    }
-}
-
-// From entry to entry through the value.
-fn scan_value(classes: &[u8; 256], v: &[u8], k: usize) -> Scan
-    requires { ⌜ (length (now v) ≤ 4096) × Classes (now classes) ⌝ }
-    ensures { λ r. ⌜ r ≡ scanOf (now (v .entry)) k ⌝ }
-{
-    let mut at = 0;
-    let mut t = Scan {
-        fits: true,
-        entries: 0,
-        span: Span { start: 0, len: 0 },
-    };
-    loop {
-        let c = Cursor { at };
-        let found = c.entry_with(classes, v);
-        match found {
-            Found::More(span, next) => {
-                t = note(t, k, span);
-                at = next.at;
-            }
-            Found::Last(span) => return note(t, k, span),
-            Found::None => return Scan {
-                fits: false,
-                entries: 0,
-                span: Span { start: 0, len: 0 },
-            },
-        }
-    }
 }
 
 fn refused(number: u8) -> Judged
@@ -91,8 +29,7 @@ pub(crate) fn judge(v: &[u8], k: usize) -> Judged
     if 4096 < v.len() {
         return refused(1);
     }
-    let classes = table();
-    let t = scan_value(&classes, v, k);
+    let t = scan_value(v, k);
     if !t.fits {
         return refused(2);
     }

@@ -8,7 +8,7 @@ use lib.Dec.{eqb}
 use borrow.Author.Tests.{eq-eqb}
 use native.Mathlib.Omega.{arith}
 use Rattle.alert_info.specs.Value.{refusalOf, urisOf}
-use Rattle.alert_info.proofs.ReadingLaws.{refusal-long}
+use Rattle.alert_info.proofs.ValueLaws.{refusal-long}
 use Rattle.text_bytes.proofs.Fields.{byTest}
 use Rattle.resolution.specs.Direct.{State}
 use Rattle.stored_table.specs.Tables.{tableRefusal, tableOf}

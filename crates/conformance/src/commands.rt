@@ -18,9 +18,9 @@
 //   match T URI      refusal number, category (-1 if the URI is skipped), node, whole, bytes compared
 use crate::numbers;
 use crate::print;
-use alert_info::Cursor;
-use alert_info::Found;
-use alert_info::Span;
+use alert_cursor::Cursor;
+use alert_cursor::Found;
+use alert_cursor::Span;
 use entry_run::Resolution;
 use sample_value::Made;
 use signal_table::Match;

@@ -1,9 +1,10 @@
 -- The examples of the early answer hold, by computation.
 use mathlib.Core.Path.{refl}
-use Rattle.alert_info.specs.Bytes.{isBlank, isEscapable, isText, isToken, isUri}
-use Rattle.alert_info.specs.Parts.{blankAt, endingAt, endingStep, entryAt, followingAt, paramAt, quoteAt, quotedAt, quotedFrom, quotedStep, settingAt, tokenAt, whiteAt, whiteStep}
-use Rattle.alert_info.specs.Value.{readingFrom, readingOf, refusalOf, spansOf, urisOf, valueStep}
-use Rattle.alert_info.specs.Walk.{run, runAt, walk, walkAt}
+use Rattle.alert_cursor.specs.Bytes.{isBlank, isEscapable, isText, isToken, isUri}
+use Rattle.alert_cursor.specs.Parts.{blankAt, endingAt, endingStep, entryAt, followingAt, paramAt, quoteAt, quotedAt, quotedFrom, quotedStep, settingAt, tokenAt, whiteAt, whiteStep}
+use Rattle.alert_cursor.specs.Walk.{run, runAt, walk, walkAt}
+use Rattle.alert_cursor.specs.Reading.{readingFrom, readingOf, valueStep}
+use Rattle.alert_info.specs.Value.{refusalOf, spansOf, urisOf}
 use Rattle.text_bytes.specs.Text.{all, fields, onFirst, past, upTo, lowered}
 use Rattle.alert_urn.specs.Names.{labelByte, labelOk, nameOk}
 use Rattle.alert_urn.specs.Urn.{alertUrn, begins, noCapital, storedName, restOk, urnOk}

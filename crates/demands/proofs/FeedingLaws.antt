@@ -11,7 +11,7 @@ use borrow.Author.Tests.{eq-eqb, eqb-true, eqb-false}
 use native.Mathlib.Omega.{arith}
 use Rattle.alert_info.specs.Value.{refusalOf, urisOf}
 use Rattle.alert_info.proofs.Agree.{refused-exactly}
-use Rattle.alert_info.proofs.ReadingLaws.{refused-uris}
+use Rattle.alert_info.proofs.ValueLaws.{refused-uris}
 use Rattle.text_bytes.proofs.Fields.{byTest}
 use Rattle.resolution.specs.Table.{Urn}
 use Rattle.resolution.specs.Direct.{State, start, envOf, step, usedOf, usedCount, skippedCount, StateOf}

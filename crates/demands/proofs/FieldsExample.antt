@@ -4,11 +4,12 @@ use mathlib.Core.Path.{_≡_, refl}
 use mathlib.Core.List.{List, []}
 use native.Mathlib.Omega.{arith}
 use lib.ListN.{replicate}
+use Rattle.alert_cursor.specs.Bytes.{isBlank, isEscapable, isText, isToken, isUri}
+use Rattle.alert_cursor.specs.Parts.{blankAt, endingAt, endingStep, entryAt, followingAt, paramAt, quoteAt, quotedAt, quotedFrom, quotedStep, settingAt, tokenAt, whiteAt, whiteStep}
+use Rattle.alert_cursor.specs.Walk.{run, runAt, walk, walkAt}
+use Rattle.alert_cursor.specs.Reading.{readingFrom, readingOf, valueStep}
 use Rattle.alert_info.specs.Examples.{entriesMore}
-use Rattle.alert_info.specs.Bytes.{isBlank, isEscapable, isText, isToken, isUri}
-use Rattle.alert_info.specs.Parts.{blankAt, endingAt, endingStep, entryAt, followingAt, paramAt, quoteAt, quotedAt, quotedFrom, quotedStep, settingAt, tokenAt, whiteAt, whiteStep}
-use Rattle.alert_info.specs.Value.{readingFrom, readingOf, refusalOf, spansOf, urisOf, valueStep}
-use Rattle.alert_info.specs.Walk.{run, runAt, walk, walkAt}
+use Rattle.alert_info.specs.Value.{refusalOf, spansOf, urisOf}
 use Rattle.text_bytes.specs.Text.{all, fields, onFirst, past, upTo, lowered}
 use Rattle.alert_urn.specs.Names.{labelByte, labelOk, nameOk}
 use Rattle.ascii.specs.Ascii.{bytes}

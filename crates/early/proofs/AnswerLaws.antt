@@ -8,7 +8,7 @@ use lib.Dec.{eqb, leb}
 use lib.ListN.{length}
 use borrow.Author.Tests.{eq-eqb, ne-eqb, le-leb, lt-leb}
 use Rattle.alert_info.specs.Value.{refusalOf}
-use Rattle.alert_info.proofs.ReadingLaws.{refusal-long}
+use Rattle.alert_info.proofs.ValueLaws.{refusal-long}
 use Rattle.resolution.specs.Table.{Urn}
 use Rattle.resolution.specs.Settled.{needed}
 use Rattle.stored_table.specs.Tables.{tableRefusal, tableOf}

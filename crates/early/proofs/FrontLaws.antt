@@ -6,17 +6,18 @@ use mathlib.Core.Bool.{Bool, true, false, cond, true≢false}
 use mathlib.Core.List.{List, [], _∷_, _++_, map, append-assoc}
 use native.Mathlib.Omega.{arith}
 use lib.ListN.{length, take, drop}
-use Rattle.alert_info.specs.Walk.{halt, move}
-use Rattle.alert_info.specs.Parts.{entryAt}
-use Rattle.alert_info.specs.Value.{Reading, unfit, spans, add, readingFrom, partOf}
+use Rattle.alert_cursor.specs.Walk.{halt, move}
+use Rattle.alert_cursor.specs.Parts.{entryAt}
+use Rattle.alert_cursor.specs.Reading.{Reading, unfit, spans, add, readingFrom}
+use Rattle.alert_cursor.specs.declared.cursor.Cursor.{Cursor}
+use Rattle.alert_cursor.specs.declared.alert_param.Span.{Span}
+use Rattle.alert_cursor.specs.declared.alert_param.Found.{Found}
+use Rattle.alert_cursor.specs.declared.alert_param.Found.the-variants.{Last, More, None}
+use Rattle.alert_cursor.proofs.WalkLaws.{walk-halt, walk-move, walk-ind}
+use Rattle.alert_cursor.proofs.Lands.{Inner, FoundLands, entry-lands}
+use Rattle.alert_cursor.proofs.ReadingLaws.{reading-start, reading-last, reading-more, reading-none}
+use Rattle.alert_info.specs.Value.{partOf}
 use Rattle.alert_info.specs.Grammar.{White, Value}
-use Rattle.alert_info.specs.declared.cursor.Cursor.{Cursor}
-use Rattle.alert_info.specs.declared.alert_param.Span.{Span}
-use Rattle.alert_info.specs.declared.alert_param.Found.{Found}
-use Rattle.alert_info.specs.declared.alert_param.Found.the-variants.{Last, More, None}
-use Rattle.alert_info.proofs.WalkLaws.{walk-halt, walk-move, walk-ind}
-use Rattle.alert_info.proofs.Lands.{Inner, FoundLands, entry-lands}
-use Rattle.alert_info.proofs.ReadingLaws.{reading-start, reading-last, reading-more, reading-none}
 use Rattle.alert_info.proofs.Sound.{FoundReads, entry-reads}
 use Rattle.alert_info.proofs.Complete.{placed, entry-to}
 use Rattle.alert_info.proofs.Agree.{agree}

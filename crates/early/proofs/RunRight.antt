@@ -7,8 +7,8 @@ use mathlib.Core.List.{List, [], _∷_, map, foldl}
 use lib.ListN.{take}
 use native.Mathlib.Omega.{arith}
 use native.Mathlib.Nat.{zero-add}
+use Rattle.alert_cursor.specs.declared.alert_param.Span.{Span}
 use Rattle.alert_info.specs.Value.{partOf}
-use Rattle.alert_info.specs.declared.alert_param.Span.{Span}
 use Rattle.resolution.specs.Names.{sameParts}
 use Rattle.resolution.specs.Table.{Urn, Table}
 use Rattle.resolution.specs.Nodes.{nodes, number, deepest}

@@ -8,13 +8,13 @@ use mathlib.Core.Bool.{Bool, true, false, _&&_}
 use mathlib.Core.List.{List, [], _∷_, _++_, map}
 use lib.Dec.{leb}
 use lib.ListN.{length, take}
-use Rattle.alert_info.specs.Walk.{Move, halt, move, walkAt}
-use Rattle.alert_info.specs.Parts.{entryAt}
+use Rattle.alert_cursor.specs.Walk.{Move, halt, move, walkAt}
+use Rattle.alert_cursor.specs.Parts.{entryAt}
+use Rattle.alert_cursor.specs.declared.alert_param.Span.{Span}
+use Rattle.alert_cursor.specs.declared.alert_param.Found.{Found}
+use Rattle.alert_cursor.specs.declared.alert_param.Found.the-variants.{Last, More, None}
 use Rattle.alert_info.specs.Value.{partOf}
 use Rattle.alert_info.specs.Grammar.{White, Entry, Value}
-use Rattle.alert_info.specs.declared.alert_param.Span.{Span}
-use Rattle.alert_info.specs.declared.alert_param.Found.{Found}
-use Rattle.alert_info.specs.declared.alert_param.Found.the-variants.{Last, More, None}
 
 -- the parts of the value that are the URIs of the entries read, in order, and whether the value ends with the last of them
 pub record Front : Type 0 where

@@ -2,10 +2,10 @@
 use Prim.Native.Nat.{ℕ, _+_, _-_}
 use mathlib.Core.Bool.{Bool, true, cond, _||_}
 use mathlib.Core.List.{List, [], _∷_}
+use Rattle.alert_cursor.specs.declared.alert_param.Span.{Span}
+use Rattle.alert_cursor.specs.declared.alert_param.Found.{Found}
+use Rattle.alert_cursor.specs.declared.alert_param.Found.the-variants.{Last, More, None}
 use Rattle.alert_info.specs.Value.{partOf}
-use Rattle.alert_info.specs.declared.alert_param.Span.{Span}
-use Rattle.alert_info.specs.declared.alert_param.Found.{Found}
-use Rattle.alert_info.specs.declared.alert_param.Found.the-variants.{Last, More, None}
 use Rattle.node_step.specs.StatusByte.{stepPacked}
 use Rattle.node_step.specs.declared.stored.Packed.{Packed}
 use Rattle.node_search.specs.declared.uses.Use.{Use}

@@ -1,8 +1,8 @@
 // Going through a value from entry to entry, until the state is settled.
 use crate::settled::settled;
-use alert_info::Cursor;
-use alert_info::Found;
-use alert_info::Span;
+use alert_cursor::Cursor;
+use alert_cursor::Found;
+use alert_cursor::Span;
 use node_search::uses::Use;
 use node_search::uses::uses;
 use node_step::stored::Packed;

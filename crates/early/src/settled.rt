@@ -1,8 +1,8 @@
 // Whether a state is settled: no URN leads from it to another signal. Only a signal that differs from the current one in one
 // category can be reached by a URN, and a step tells whether it is.
-use text_bytes::compare::at_most;
 use node_step::stored::Packed;
 use node_step::stored::step_packed;
+use text_bytes::compare::at_most;
 ghost use mathlib.Core.Path.{_≡_};
 ghost use Prim.Native.Nat.{_<_, min};
 ghost use Rattle.resolution.specs.Lists.{allBelow};

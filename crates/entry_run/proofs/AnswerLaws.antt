@@ -8,8 +8,10 @@ use lib.ListN.{length, length-map}
 use lib.Dec.{eqb, ltb}
 use borrow.Author.Tests.{lt-ltb, le-ltb, eq-eqb, ne-eqb, ltb-true, ltb-false, eqb-true, eqb-false}
 use native.Mathlib.Omega.{arith}
-use Rattle.alert_info.specs.Value.{Reading, unfit, spans, readingFrom, readingOf, partOf, refusalOf, urisOf}
-use Rattle.alert_info.proofs.ReadingLaws.{reading-start, refusal-long, refusal-unfit, refusal-many, refusal-none, accepted-uris}
+use Rattle.alert_cursor.specs.Reading.{Reading, unfit, spans, readingFrom, readingOf}
+use Rattle.alert_cursor.proofs.ReadingLaws.{reading-start}
+use Rattle.alert_info.specs.Value.{partOf, refusalOf, urisOf}
+use Rattle.alert_info.proofs.ValueLaws.{refusal-long, refusal-unfit, refusal-many, refusal-none, accepted-uris}
 use Rattle.text_bytes.proofs.Fields.{byTest}
 use Rattle.resolution.specs.Table.{Urn, Table}
 use Rattle.resolution.specs.Direct.{usedOf, usedCount, skippedCount}

@@ -5,13 +5,14 @@ use mathlib.Core.Bool.{Bool, true, false, cond, true≢false}
 use mathlib.Core.List.{List, [], _∷_}
 use lib.ListN.{take, drop}
 use native.Mathlib.Omega.{arith}
-use Rattle.alert_info.specs.Value.{Reading, unfit, spans, add, partOf, readingFrom}
-use Rattle.alert_info.specs.Parts.{entryAt}
-use Rattle.alert_info.specs.declared.cursor.Cursor.{Cursor}
-use Rattle.alert_info.specs.declared.alert_param.Span.{Span}
-use Rattle.alert_info.specs.declared.alert_param.Found.{Found}
-use Rattle.alert_info.specs.declared.alert_param.Found.the-variants.{Last, More, None}
-use Rattle.alert_info.proofs.ReadingLaws.{reading-last, reading-more, reading-none}
+use Rattle.alert_cursor.specs.Parts.{entryAt}
+use Rattle.alert_cursor.specs.Reading.{Reading, unfit, spans, add, readingFrom}
+use Rattle.alert_cursor.specs.declared.cursor.Cursor.{Cursor}
+use Rattle.alert_cursor.specs.declared.alert_param.Span.{Span}
+use Rattle.alert_cursor.specs.declared.alert_param.Found.{Found}
+use Rattle.alert_cursor.specs.declared.alert_param.Found.the-variants.{Last, More, None}
+use Rattle.alert_cursor.proofs.ReadingLaws.{reading-last, reading-more, reading-none}
+use Rattle.alert_info.specs.Value.{partOf}
 use Rattle.node_step.specs.Step.{stepNumbers}
 use Rattle.node_step.specs.Tries.{triesNumbers}
 use Rattle.node_step.proofs.TriesLaws.{tries-bound}

@@ -6,7 +6,8 @@ use mathlib.Core.Option.{Option, none, some}
 use mathlib.Core.List.{List, [], _∷_, map, foldl}
 use lib.ListN.{length, replicate}
 use lib.Dec.{ltb}
-use Rattle.alert_info.specs.Value.{Reading, unfit, spans, add, partOf, readingFrom}
+use Rattle.alert_cursor.specs.Reading.{Reading, unfit, spans, add, readingFrom}
+use Rattle.alert_info.specs.Value.{partOf}
 use Rattle.node_step.specs.Step.{stepNumbers}
 use Rattle.node_step.specs.Tries.{triesNumbers}
 use Rattle.node_search.specs.Search.{usesOf}

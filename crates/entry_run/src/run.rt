@@ -1,7 +1,7 @@
 // Going through a value from entry to entry, with the state after those passed.
-use alert_info::Cursor;
-use alert_info::Found;
-use alert_info::Span;
+use alert_cursor::Cursor;
+use alert_cursor::Found;
+use alert_cursor::Span;
 use node_search::uses::Use;
 use node_search::uses::uses;
 use node_step::Progress;

@@ -5,8 +5,8 @@
 //   search.rt  which of the names are taken
 mod search;
 
-use text_bytes::compare::at_most;
 use stored_table::Decoded;
+use text_bytes::compare::at_most;
 ghost use mathlib.Core.Path.{_≡_};
 ghost use Prim.Native.Nat.{_≤_};
 ghost use lib.ListN.{length, take};

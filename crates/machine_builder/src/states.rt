@@ -1,8 +1,8 @@
 // The states that are reached, by breadth-first discovery, each one's row in its own stretch of a lent part.
 use machine_symbols::steps::next;
 use machine_symbols::steps::same;
-use text_bytes::cut::wide;
 use node_step::stored::Packed;
+use text_bytes::cut::wide;
 ghost use mathlib.Core.Path.{_≡_};
 ghost use mathlib.Core.Bool.{_&&_};
 ghost use mathlib.Core.List.{List};

@@ -1,7 +1,7 @@
 // Reading an image, wherever its bytes come from: past its end every byte is 0.
+use node_step::stored::Packed;
 use text_bytes::cut::byte;
 use text_bytes::cut::wide;
-use node_step::stored::Packed;
 ghost use mathlib.Core.Path.{_≡_};
 ghost use Prim.Native.Nat.{_≤_, _<_, min};
 ghost use lib.ListN.{getD};

@@ -207,16 +207,7 @@ fn search_nodes<'a>(
     let mut i = 0;
     while i < n {
         if category[i] == c {
-            s = look(
-                t,
-                at,
-                len,
-                inner,
-                w,
-                i,
-                text_bytes::cut::wide(shared[i]),
-                s,
-            );
+            s = look(t, at, len, inner, w, i, text_bytes::cut::wide(shared[i]), s);
             if s.ends {
                 return s;
             }
@@ -250,7 +241,13 @@ pub fn uses<'a>(
         let s = text_bytes::cut::part(uri, 10, n);
         let colon = text_bytes::cut::find(s, 58);
         let name = text_bytes::cut::part(s, 0, colon);
-        let c = find_name(t, name_at, name_len, name, text_bytes::compare::at_most(categories, 8));
+        let c = find_name(
+            t,
+            name_at,
+            name_len,
+            name,
+            text_bytes::compare::at_most(categories, 8),
+        );
         if c < 8 {
             let found = c as u8;
             let path = colon + 1;

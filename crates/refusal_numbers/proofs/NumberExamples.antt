@@ -5,10 +5,11 @@ use mathlib.Core.Bool.{true, false}
 use mathlib.Core.List.{List, [], _∷_, map}
 use lib.ListN.{length, replicate}
 use native.Mathlib.Omega.{arith}
-use Rattle.alert_info.specs.Bytes.{isBlank, isEscapable, isText, isToken, isUri}
-use Rattle.alert_info.specs.Parts.{blankAt, endingAt, endingStep, entryAt, followingAt, paramAt, quoteAt, quotedAt, quotedFrom, quotedStep, settingAt, tokenAt, whiteAt, whiteStep}
-use Rattle.alert_info.specs.Value.{readingFrom, readingOf, refusalOf, spansOf, urisOf, valueStep}
-use Rattle.alert_info.specs.Walk.{run, runAt, walk, walkAt}
+use Rattle.alert_cursor.specs.Bytes.{isBlank, isEscapable, isText, isToken, isUri}
+use Rattle.alert_cursor.specs.Parts.{blankAt, endingAt, endingStep, entryAt, followingAt, paramAt, quoteAt, quotedAt, quotedFrom, quotedStep, settingAt, tokenAt, whiteAt, whiteStep}
+use Rattle.alert_cursor.specs.Walk.{run, runAt, walk, walkAt}
+use Rattle.alert_cursor.specs.Reading.{readingFrom, readingOf, valueStep}
+use Rattle.alert_info.specs.Value.{refusalOf, spansOf, urisOf}
 use Rattle.alert_info.specs.Examples.{entriesMore}
 use Rattle.resolution.specs.Build.{discovered, ReachableOver}
 use Rattle.resolution.specs.Direct.{start, sameState, step}

@@ -8,7 +8,7 @@ use mathlib.Core.Bool.{cond}
 use borrow.Author.Tests.{ne-eqb, eqb-false}
 use native.Mathlib.Omega.{arith}
 use Rattle.alert_info.specs.Value.{refusalOf, urisOf}
-use Rattle.alert_info.proofs.ReadingLaws.{refusal-long}
+use Rattle.alert_info.proofs.ValueLaws.{refusal-long}
 use Rattle.text_bytes.proofs.Fields.{byTest}
 use Rattle.resolution.specs.Direct.{usedOf}
 use Rattle.resolution.specs.Direct as direct

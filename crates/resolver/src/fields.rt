@@ -2,8 +2,8 @@
 use crate::Fed;
 use carried_record::Carried;
 use entry_run::Resolution;
-use entry_run::answer::refused;
 use entry_run::answer::direct;
+use entry_run::answer::refused;
 use entry_run::run::at_state;
 use stored_table::Decoded;
 ghost use mathlib.Core.Path.{_≡_};

@@ -13,8 +13,8 @@ use Rattle.text_bytes.specs.Text.{all, upTo, past, fields, onFirst, afterColons
 use Rattle.alert_urn.specs.Names.{labelByte, labelOk, nameOk}
 use Rattle.alert_urn.specs.Urn.{begins, restOk, alertUrn}
 use Rattle.text_bytes.proofs.Fields.{byTest, fields-first, fields-join, text-fields}
-use Rattle.alert_info.specs.Bytes.{isUri}
-use Rattle.alert_info.specs.Bytes as bytes-of
+use Rattle.alert_cursor.specs.Bytes.{isUri}
+use Rattle.alert_cursor.specs.Bytes as bytes-of
 use Rattle.sample_value.specs.Sample.{uriOf}
 
 pub colons-append : (p q : Parts) → afterColons (p ++ q) ≡ afterColons p ++ afterColons q

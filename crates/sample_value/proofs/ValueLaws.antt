@@ -8,7 +8,7 @@ use native.Mathlib.Omega.{arith}
 use native.Mathlib.Nat.{mod-lt}
 use lib.Dec.{T, eqb}
 use lib.ListN.{length, length-append}
-use Rattle.alert_info.specs.Bytes.{isUri}
+use Rattle.alert_cursor.specs.Bytes.{isUri}
 use Rattle.alert_info.specs.Grammar.{Any, none, more, Some, some, White, nothing, done, Entry, entry, Value, last, comma}
 use Rattle.resolution.specs.Names.{Name, Parts}
 use Rattle.resolution.specs.Table.{Urn}

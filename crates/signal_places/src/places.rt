@@ -1,6 +1,6 @@
+use table_sections::texts::urn_text;
 use text_bytes::cut::wide;
 use text_bytes::cut::wider;
-use table_sections::texts::urn_text;
 ghost use mathlib.Core.Path.{_≡_};
 ghost use mathlib.Core.Bool.{cond};
 ghost use Prim.Native.Nat.{ℕ, _≤_, _<_, _+_, _*_, _-_};

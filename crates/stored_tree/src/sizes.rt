@@ -1,5 +1,5 @@
-use text_bytes::cut::wide;
 use table_sections::texts::name_text;
+use text_bytes::cut::wide;
 use tree_nodes::texts::last_text;
 ghost use mathlib.Core.Path.{_≡_};
 ghost use mathlib.Core.Bool.{cond};

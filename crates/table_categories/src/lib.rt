@@ -3,10 +3,10 @@
 // In: the names and the URNs as places in the bytes. Out: 7 and 8 as two tests, and each URN's category.
 use table_sections::bytes::short;
 use table_sections::bytes::small;
-use text_bytes::cut::wide;
-use text_bytes::cut::wider;
 use table_sections::texts::name_text;
 use table_sections::texts::urn_text;
+use text_bytes::cut::wide;
+use text_bytes::cut::wider;
 ghost use mathlib.Core.Path.{_≡_};
 ghost use mathlib.Core.Bool.{true};
 ghost use Prim.Native.Nat.{_≤_, _<_, _+_};

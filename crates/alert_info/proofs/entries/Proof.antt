@@ -1,4 +1,4 @@
-use Rattle.alert_info.proofs.PassLaws.{entries-of}
+use Rattle.alert_info.proofs.JudgedLaws.{entries-of}
 use borrow.Author.Needs.{needs}
 use Rattle.alert_info.proofs.entries.Statement.{statement}
 use Rattle.alert_info.proofs.entries.Tie as tie

@@ -1,7 +1,7 @@
 use mathlib.Core.Path.{refl, ap}
 use native.Mathlib.Omega.{arith}
-use Rattle.alert_info.proofs.PassLaws.{span-fits, span-of, entry-of}
-use Rattle.alert_info.specs.declared.alert_param.Span.{Span}
+use Rattle.alert_cursor.specs.declared.alert_param.Span.{Span}
+use Rattle.alert_info.proofs.JudgedLaws.{span-fits, span-of, entry-of}
 use denote.Ref.{now}
 use borrow.Author.Needs.{needs}
 use Rattle.alert_info.proofs.entry.Statement.{statement}

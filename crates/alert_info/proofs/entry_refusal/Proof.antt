@@ -1,4 +1,4 @@
-use Rattle.alert_info.proofs.PassLaws.{entry-refused, entry-there, entry-missing}
+use Rattle.alert_info.proofs.JudgedLaws.{entry-refused, entry-there, entry-missing}
 use borrow.Author.Needs.{needs}
 use Rattle.alert_info.proofs.entry_refusal.Statement.{statement}
 use Rattle.alert_info.proofs.entry_refusal.Tie as tie

@@ -1,4 +1,4 @@
-use Rattle.alert_info.proofs.PassLaws.{refusal-of}
+use Rattle.alert_info.proofs.JudgedLaws.{refusal-of}
 use borrow.Author.Needs.{needs}
 use Rattle.alert_info.proofs.refusal.Statement.{statement}
 use Rattle.alert_info.proofs.refusal.Tie as tie

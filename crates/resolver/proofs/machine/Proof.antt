@@ -1,7 +1,7 @@
 use mathlib.Core.Path.{refl, sym, _∙_}
 use borrow.Author.Tests.{not-true, not-false}
 use native.Mathlib.Omega.{arith}
-use Rattle.alert_info.proofs.ReadingLaws.{refusal-long}
+use Rattle.alert_info.proofs.ValueLaws.{refusal-long}
 use Rattle.resolver.proofs.MachineLaws.{machine-right, machine-long, machine-table, machine-form, symbols-listed, form-listed}
 use borrow.Author.Needs.{needs}
 use Rattle.resolver.proofs.machine.Statement.{statement}

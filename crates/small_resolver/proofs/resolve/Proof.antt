@@ -1,7 +1,7 @@
 use mathlib.Core.Path.{refl, sym, _∙_}
 use borrow.Author.Tests.{not-true, not-false}
 use native.Mathlib.Omega.{arith}
-use Rattle.alert_info.proofs.ReadingLaws.{refusal-long}
+use Rattle.alert_info.proofs.ValueLaws.{refusal-long}
 use Rattle.small_resolver.proofs.WalkLaws.{small-walked, small-long, small-table, small-unformed, symbols-listed, form-listed}
 use borrow.Author.Needs.{needs}
 use Rattle.small_resolver.proofs.resolve.Statement.{statement}

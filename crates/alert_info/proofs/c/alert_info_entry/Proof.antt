@@ -1,4 +1,4 @@
-use Rattle.alert_info.proofs.PassLaws.{span-of}
+use Rattle.alert_info.proofs.JudgedLaws.{span-of}
 use borrow.Author.Needs.{needs}
 use Rattle.alert_info.proofs.c.alert_info_entry.Statement.{statement}
 use Rattle.alert_info.proofs.c.alert_info_entry.Tie as tie

@@ -1,5 +1,5 @@
 use borrow.Author.Tests.{not-true, not-false}
-use Rattle.alert_info.proofs.PassLaws.{judged-long, judged-misfit, judged-many, judged-fine}
+use Rattle.alert_info.proofs.JudgedLaws.{judged-long, judged-misfit, judged-many, judged-fine}
 use borrow.Author.Needs.{needs}
 use Rattle.alert_info.proofs.value.judge.Statement.{statement}
 use Rattle.alert_info.proofs.value.judge.Tie as tie
@@ -10,29 +10,26 @@ refused-requires c κs = search needs
 returns : tie.Need-returns
 returns c = judged-long _ _ _ (c .refused .ensures) (c .before .if1 .taken)
 
-table-requires : tie.Need-table-requires
-table-requires c κs = search needs
-
 scan-value-requires : tie.Need-scan-value-requires
-scan-value-requires c κs = (search needs, search needs)
+scan-value-requires c κs = search needs
 
 refused-requires-2 : tie.Need-refused-requires-2
 refused-requires-2 c κs = search needs
 
 returns-2 : tie.Need-returns-2
-returns-2 c = judged-misfit _ _ (c .before .before .before .before .before .before .if1 .left) _
+returns-2 c = judged-misfit _ _ (c .before .before .before .before .if1 .left) _
     (c .before .before .before .scan-value .ensures) _ (c .refused2 .ensures) (not-true _ (c .before .if2 .taken))
 
 refused-requires-3 : tie.Need-refused-requires-3
 refused-requires-3 c κs = search needs
 
 returns-3 : tie.Need-returns-3
-returns-3 c = judged-many _ _ (c .before .before .before .before .before .before .before .before .if1 .left) _
+returns-3 c = judged-many _ _ (c .before .before .before .before .before .before .if1 .left) _
     (c .before .before .before .before .before .scan-value .ensures) _ (c .refused3 .ensures)
     (not-false _ (c .before .before .before .if2 .left)) (c .before .if3 .taken)
 
 returns-4 : tie.Need-returns-4
-returns-4 c = judged-fine _ _ (c .before .before .before .before .before .before .before .before .if1 .left) _
+returns-4 c = judged-fine _ _ (c .before .before .before .before .before .before .if1 .left) _
     (c .before .before .before .before .before .scan-value .ensures)
     (not-false _ (c .before .before .before .if2 .left)) (c .before .if3 .left)
 
@@ -42,7 +39,6 @@ judge-spec =
     (tie.spec
     refused-requires
     returns
-    table-requires
     scan-value-requires
     refused-requires-2
     returns-2

@@ -15,7 +15,7 @@ use Rattle.early.proofs.run.run.Statement.{statement}
 use Rattle.early.proofs.run.run.Tie as tie
 use Rattle.early.proofs.run.run.Reads as reads
 use Rattle.early.proofs.run.run.Lts as lts
-use Rattle.alert_info.proofs.cursor.Cursor.entry.Reads as entry-reads
+use Rattle.alert_cursor.proofs.cursor.Cursor.entry.Reads as entry-reads
 use Rattle.early.proofs.run.begin.Reads as begin-reads
 use Rattle.early.proofs.run.ended.Reads as ended-reads
 use Rattle.early.proofs.run.same.Reads as same-reads

@@ -3,7 +3,7 @@ use Prim.Native.Nat.{_+_, _-_, _*_, _≤_}
 use lib.ListN.{length}
 use native.Mathlib.Omega.{arith}
 use borrow.Author.Tests.{not-true, not-false}
-use Rattle.alert_info.specs.Value.{readingFrom}
+use Rattle.alert_cursor.specs.Reading.{readingFrom}
 use Rattle.entry_run.specs.Run.{after, over, runOf, runFrom}
 use Rattle.entry_run.proofs.RunLaws.{after-uri, after-counted, after-few, ended-few, run-more, run-last, run-none}
 use borrow.Author.Needs.{needs}

@@ -1,0 +1,9 @@
+-- what a reader has to believe
+pub mod Bytes
+-- what is claimed of it
+pub mod Claims
+-- what the promises are equations with; the claims of the crate alert_info tie it to the grammar
+pub mod Walk
+pub mod Parts
+pub mod Reading
+pub mod Pass
