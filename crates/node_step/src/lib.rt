@@ -5,7 +5,9 @@
 //
 //   lib.rt     the step: which category takes what is said, the search for a signal, and the state after it
 //   tries.rt   the step with the candidates that it tries
+//   rows.rt    a signal's places in one number, read and set
 //   stored.rt  a state's statuses as bytes in one number, and the step on them
+pub mod rows;
 pub mod stored;
 pub mod tries;
 

@@ -8,6 +8,9 @@ use entry_run::answer::value_first;
 use entry_run::run::at_start;
 use stored_table::Decoded;
 ghost use mathlib.Core.Path.{_≡_};
+ghost use mathlib.Core.Bool.{cond};
+ghost use lib.Dec.{eqb};
+ghost use Rattle.alert_info.specs.Value.{refusalOf};
 ghost use Rattle.stored_table.specs.Decoded.{Means};
 ghost use Rattle.resolver.specs.Resolve.{refused as refusedWith, triedAs, plainOf, plainWith};
 
@@ -35,13 +38,17 @@ pub(crate) fn too_long() -> PlainResolution
     with_tries(refused(1), 0)
 }
 
-// The value v with the table t, decoded as d, and the tries.
-pub fn tried(t: &[u8], d: Decoded, v: &[u8]) -> PlainResolution
-    ensures { λ r. ⌜ (Means (now (t .entry)) d → r ≡ plainWith (now (t .entry)) (now (v .entry))) ⌝ }
+// The answer by a table that is refused with k: the value's number comes first.
+pub(crate) fn untried(v: &[u8], k: u8) -> PlainResolution
+    ensures { λ r. ⌜ r ≡ triedAs (refusedWith (cond (eqb (refusalOf (now (v .entry))) 0) k (refusalOf (now (v .entry))))) 0 ⌝ }
 {
-    if d.refusal != 0 {
-        return with_tries(value_first(v, d.refusal), 0);
-    }
+    with_tries(value_first(v, k), 0)
+}
+
+// The value v with the table t, decoded as d and not refused, and the tries.
+pub(crate) fn tried(t: &[u8], d: Decoded, v: &[u8]) -> PlainResolution
+    ensures { λ r. ⌜ (Means (now (t .entry)) d → d .refusal ≡ 0 → r ≡ plainWith (now (t .entry)) (now (v .entry))) ⌝ }
+{
     let e = direct(t, d, at_start(), v);
     let last = e.last;
     with_tries(e.answer, last.tries)
@@ -51,6 +58,9 @@ pub fn tried(t: &[u8], d: Decoded, v: &[u8]) -> PlainResolution
 pub fn plain(t: &[u8], d: Decoded, v: &[u8]) -> Resolution
     ensures { λ r. ⌜ (Means (now (t .entry)) d → r ≡ plainOf (now (t .entry)) (now (v .entry))) ⌝ }
 {
+    if d.refusal != 0 {
+        return value_first(v, d.refusal);
+    }
     let r = tried(t, d, v);
     Resolution {
         refusal: r.refusal,

@@ -44,6 +44,9 @@ pub fn plain(t: &[u8], v: &[u8]) -> PlainResolution
         return by::too_long();
     }
     let d = stored_table::decode(t);
+    if d.refusal != 0 {
+        return by::untried(v, d.refusal);
+    }
     by::tried(t, d, v)
 }
 

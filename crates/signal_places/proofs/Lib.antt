@@ -1,5 +1,5 @@
 pub mod TestLaws
 pub mod SlotLaws
-pub mod RowLaws
 pub mod Flat
+pub mod RowLaws
 pub mod Placing

@@ -18,7 +18,7 @@ use Rattle.resolution.specs.Nodes.{nodes, number, RootOrNode}
 use Rattle.resolution.proofs.Names.{row-exact}
 use Rattle.resolution.proofs.Table.{row-place, row-length}
 use Rattle.resolution.proofs.Nodes.{row-nodes}
-use Rattle.resolution.proofs.Numbers.{root-number}
+use Rattle.resolution.proofs.Numbers.{root-number, number-le}
 use Rattle.node_search.specs.Arrays.{stretch}
 use Rattle.node_step.specs.Rows.{pack, numbersFrom}
 use Rattle.node_step.proofs.NumberLaws.{numbers-length, numbers-at, numbers-bytes, numbers-same, Anchored}
@@ -26,18 +26,11 @@ use Rattle.node_step.proofs.PackedLaws.{pack-same}
 use Rattle.table_sections.specs.Held.{Tagged, tag, Padded}
 use Rattle.signal_places.specs.Tests.{noTwo}
 use Rattle.signal_places.specs.Verdict.{samePlaces, single, zeroSilent, distinct, fewNodes, verdict}
-use Rattle.signal_places.specs.Slots.{urnOf, Listing, Numbering, Placed, InRange, keyAt, sameKey, slotIn, placeNumber, packedFrom, sameSlots, samePlacesAt}
+use Rattle.signal_places.specs.Slots.{urnOf, Listing, Numbering, Placed, InRange, keyAt, sameKey, slotIn, nodeIn, rowIn, Fillable, sameSlots, samePlacesAt}
 use Rattle.signal_places.proofs.TestLaws.{same-test}
+use Rattle.signal_places.proofs.SlotLaws.{slot-key}
+use Rattle.signal_places.proofs.RowLaws.{node-none, node-some}
 use Rattle.signal_places.proofs.Flat.{all-alike, two-alike, tab-list, tab-shift, sameTag, single-tags, plain-tags, tagged-below, firstPlace, first-place, pathIn, slot-place}
-
--- a slot that is taken is its URN's
-pub slot-key : (f : ℕ → Tagged ℕ) (s c n i : ℕ) → slotIn f s c n ≡ suc i → (i < n) × (sameKey (tag s c) (f i) ≡ true)
-unfolding slotIn
-slot-key f s c zero i e = let z : _≡_ {A = ℕ} 0 (suc i) = e in absurd (omega arith)
-slot-key f s c (suc n) i e =
-    byTest (sameKey (tag s c) (f n))
-    (λ b. let z : n ≡ i = omega (arith, rw b at e) in (omega arith, subst (λ (k : ℕ). sameKey (tag s c) (f k) ≡ true) z b))
-    (λ b. let r = slot-key f s c n i (rw b at e) in (omega (arith, r .0), r .1))
 
 -- rows, place by place
 pub row-all : (a b : List Urn) (c n : ℕ) → sameRow (rowFrom a c n) (rowFrom b c n) ≡ all (λ i. sameParts (placeIn a (c + i)) (placeIn b (c + i))) (tabulate (λ i. i) n)
@@ -51,17 +44,17 @@ row-all a b c (suc n) =
     (λ i h. let y : suc c + i ≡ c + suc i = omega arith in ap (λ k. sameParts (placeIn a k) (placeIn b k)) y))
     ∙ sym (ap (all (λ i. sameParts (placeIn a (c + i)) (placeIn b (c + i)))) (tab-shift (λ i. i) n))
 
-pub packed-is : (l : List ℕ) (f : ℕ → ℕ) (k n : ℕ) → length l ≤ n → ((j : ℕ) → j < n → f (k + j) ≡ getD l j 0) → packedFrom f k n ≡ pack l
-packed-is [] f k zero h e = refl
-packed-is [] f k (suc n) h e =
-    let z : k + 0 ≡ k = omega arith in
-    let r = packed-is [] f (k + 1) n (omega arith) (λ j l. let y : k + 1 + j ≡ k + suc j = omega arith in ap f y ∙ e (suc j) (omega arith)) in
-    omega (arith, ap f z, e 0 (omega arith), r)
-packed-is (x ∷ l) f k zero h e = absurd (omega arith)
-packed-is (x ∷ l) f k (suc n) h e =
-    let z : k + 0 ≡ k = omega arith in
-    let r = packed-is l f (k + 1) n (omega arith) (λ j i. let y : k + 1 + j ≡ k + suc j = omega arith in ap f y ∙ e (suc j) (omega arith)) in
-    omega (arith, ap f z, e 0 (omega arith), r)
+-- a row of n digits is the list of those that it begins with, and 0 after them
+packed-is : (l : List ℕ) (f : ℕ → ℕ) (n : ℕ) → length l ≤ n → ((j : ℕ) → j < n → f j ≡ getD l j 0) → pack (tabulate f n) ≡ pack l
+unfolding tabulate
+packed-is [] f zero h e = refl
+packed-is [] f (suc n) h e =
+    let r = packed-is [] (λ i. f (suc i)) n (omega arith) (λ j k. e (suc j) (omega arith)) in
+    ap pack (tab-shift f n) ∙ omega (arith, e 0 (omega arith), r)
+packed-is (x ∷ l) f zero h e = absurd (omega arith)
+packed-is (x ∷ l) f (suc n) h e =
+    let r = packed-is l (λ i. f (suc i)) n (omega arith) (λ j k. e (suc j) (omega arith)) in
+    ap pack (tab-shift f n) ∙ omega (arith, e 0 (omega arith), r)
 
 -- 9 and 10
 module _ {T : Table} {signal category : List ℕ} {path : ℕ → Parts} {n m : ℕ} (L : Listing T signal category path n m) where
@@ -71,13 +64,21 @@ module _ {T : Table} {signal category : List ℕ} {path : ℕ → Parts} {n m : 
     λ i h. omega (arith, L .known i h, L .few-categories),
   )
 
-  single-as : {b : Bool} → (InRange signal category m → b ≡ noTwo sameKey (tabulate (keyAt signal category) m)) → single T ≡ b
+  -- rows without a place can be filled by the table's URNs
+  pub fillable : {node : List ℕ} (rows : List ℕ) → Numbering T category path node m → Padded 32 0 rows → Fillable signal category node rows m
+  fillable rows N p = (
+    in-range,
+    λ i h. (N .no-root i h, omega (arith, N .numbers i h, number-le (nodes T) (getD category i 0) (path i), N .few-nodes)),
+    p,
+  )
+
+  single-as : {b : Bool} → b ≡ noTwo sameKey (tabulate (keyAt signal category) m) → single T ≡ b
   unfolding single
   single-as e =
       single-tags 0 (T .signals) ∙ ap (noTwo sameTag) (sym (L .urns))
-      ∙ two-alike sameTag sameKey (urnOf signal category path) (keyAt signal category) m (λ i j h k. refl) ∙ sym (e in-range)
+      ∙ two-alike sameTag sameKey (urnOf signal category path) (keyAt signal category) m (λ i j h k. refl) ∙ sym e
 
-  pub is-nine : {b : Bool} → (InRange signal category m → b ≡ noTwo sameKey (tabulate (keyAt signal category) m)) → b ≡ false → 9 ≡ verdict T
+  pub is-nine : {b : Bool} → b ≡ noTwo sameKey (tabulate (keyAt signal category) m) → b ≡ false → 9 ≡ verdict T
   unfolding verdict
   is-nine e z = sym (rw (single-as e ∙ z))
 
@@ -85,24 +86,22 @@ module _ {T : Table} {signal category : List ℕ} {path : ℕ → Parts} {n m : 
   unfolding zeroSilent
   plain-as f g = sym (plain-tags (T .signals) (urnOf signal category path) m (L .urns) f g)
 
-  pub is-ten : {a b : Bool} → (InRange signal category m → a ≡ noTwo sameKey (tabulate (keyAt signal category) m)) → a ≡ true
+  pub is-ten : {a b : Bool} → a ≡ noTwo sameKey (tabulate (keyAt signal category) m) → a ≡ true
       → (m ≡ 0 → b ≡ true) → (0 < m → b ≡ ltb 0 (getD signal 0 0)) → b ≡ false → 10 ≡ verdict T
   unfolding verdict
   is-ten e x f g z = sym (rw (single-as e ∙ x, plain-as f g ∙ z))
 
--- a table that passed them, with each URN in its slot
-pub record Slotted (T : Table) (signal category : List ℕ) (path : ℕ → Parts) (n m : ℕ) (slots : List ℕ) : Type 0 where
+-- a table that passed them
+pub record Passed (T : Table) (signal category : List ℕ) (path : ℕ → Parts) (n m : ℕ) : Type 0 where
   pub listing : Listing T signal category path n m
   pub once : single T ≡ true
   pub silent : zeroSilent T ≡ true
-  pub slot : (s c : ℕ) → c < 8 → getD slots (8 * s + c) 0 ≡ slotIn (keyAt signal category) s c m
 
-pub slotted : {T : Table} {signal category : List ℕ} {path : ℕ → Parts} {n m : ℕ} (L : Listing T signal category path n m) {a b : Bool} {slots : List ℕ}
-    → (InRange signal category m → a ≡ noTwo sameKey (tabulate (keyAt signal category) m)) → a ≡ true → (m ≡ 0 → b ≡ true) → (0 < m → b ≡ ltb 0 (getD signal 0 0)) → b ≡ true
-    → (InRange signal category m → a ≡ true → (s c : ℕ) → c < 8 → getD slots (8 * s + c) 0 ≡ slotIn (keyAt signal category) s c m) → Slotted T signal category path n m slots
-slotted L e x f g y v = record { listing = L; once = single-as L e ∙ x; silent = plain-as L f g ∙ y; slot = v (in-range L) x }
+pub passed : {T : Table} {signal category : List ℕ} {path : ℕ → Parts} {n m : ℕ} (L : Listing T signal category path n m) {a b : Bool}
+    → a ≡ noTwo sameKey (tabulate (keyAt signal category) m) → a ≡ true → (m ≡ 0 → b ≡ true) → (0 < m → b ≡ ltb 0 (getD signal 0 0)) → b ≡ true → Passed T signal category path n m
+passed L e x f g y = record { listing = L; once = single-as L e ∙ x; silent = plain-as L f g ∙ y }
 
-module _ {T : Table} {signal category : List ℕ} {path : ℕ → Parts} {n m : ℕ} {slots : List ℕ} (S : Slotted T signal category path n m slots) where
+module _ {T : Table} {signal category : List ℕ} {path : ℕ → Parts} {n m : ℕ} (S : Passed T signal category path n m) where
   abbrev L : Listing T signal category path n m
   L = S .listing
 
@@ -110,17 +109,24 @@ module _ {T : Table} {signal category : List ℕ} {path : ℕ → Parts} {n m : 
   tu = urnOf signal category path
 
   abbrev slot : ℕ → ℕ → ℕ
-  slot s c = getD slots (8 * s + c) 0
+  slot s c = slotIn (keyAt signal category) s c m
 
   once : noTwo sameTag (tabulate tu m) ≡ true
   unfolding single
   once = ap (noTwo sameTag) (L .urns) ∙ sym (single-tags 0 (T .signals)) ∙ S .once
 
   -- the place of a signal is the path of its slot's URN
-  place-slot : (s c : ℕ) → c < 8 → place T s c ≡ pathIn tu (slot s c)
-  place-slot s c h =
+  place-slot : (s c : ℕ) → place T s c ≡ pathIn tu (slot s c)
+  place-slot s c =
       sym (first-place 0 s (T .signals) c) ∙ ap₂ (λ z (y : List (Tagged Urn)). firstPlace y z c) (zero-add s) (sym (L .urns))
-      ∙ slot-place tu s c m once ∙ ap (pathIn tu) (sym (S .slot s c h))
+      ∙ slot-place tu s c m once
+
+  -- the URN of a slot is of its signal and category
+  of-slot : (s c i : ℕ) → slot s c ≡ suc i → (i < m) × (s ≡ getD signal i 0) × (c ≡ getD category i 0)
+  of-slot s c i e =
+      let r = slot-key (keyAt signal category) s c m i e in
+      let a = and-eq-true-iff (eqb s (getD signal i 0)) (eqb c (getD category i 0)) .0 (r .1) in
+      (r .0, eqb-true s (getD signal i 0) (a .0), eqb-true c (getD category i 0) (a .1))
 
   distinct-by : (q : ℕ → ℕ → Bool) → ((i j : ℕ) → i < j → j < n → samePlaces (T .cats) (getD (T .signals) i []) (getD (T .signals) j []) ≡ q i j)
       → distinct T ≡ noTwo q (tabulate (λ i. i) n)
@@ -135,23 +141,25 @@ module _ {T : Table} {signal category : List ℕ} {path : ℕ → Parts} {n m : 
 
   -- by node numbers
   module _ {node : List ℕ} (N : Numbering T category path node m) where
-    place-is : (s c : ℕ) (x : ℕ) → slot s c ≡ x → c < 8 → placeNumber slots node (8 * s + c) ≡ number (nodes T) c (pathIn tu x)
-    unfolding placeNumber
-    place-is s c zero e k = rw (eq-eqb (slot s c) 0 e) (sym (root-number T c))
-    place-is s c (suc i) e k =
-        let r = slot-key (keyAt signal category) s c m i (sym (S .slot s c k) ∙ e) in
-        let q : c ≡ getD category i 0 = eqb-true c (getD category i 0) (and-eq-true-iff (eqb s (getD signal i 0)) (eqb c (getD category i 0)) .0 (r .1) .1) in
-        let z : slot s c ≢ 0 = λ y. omega (arith, e, y) in
-        let o : suc i - 1 ≡ i = omega arith in
-        rw (ne-eqb (slot s c) 0 z) (ap (λ y. getD node (y - 1) 0) e ∙ ap (λ y. getD node y 0) o ∙ N .numbers i (r .0) ∙ ap (λ y. number (nodes T) y (path i)) (sym q))
+    abbrev node-at : ℕ → ℕ → ℕ
+    node-at s c = nodeIn (keyAt signal category) node s c m
 
-    blank : (s c : ℕ) (x : ℕ) → slot s c ≡ x → T .cats ≤ c → c < 8 → placeNumber slots node (8 * s + c) ≡ 0
-    unfolding placeNumber
-    blank s c zero e j k = rw (eq-eqb (slot s c) 0 e)
-    blank s c (suc i) e j k =
-        let r = slot-key (keyAt signal category) s c m i (sym (S .slot s c k) ∙ e) in
-        let q : c ≡ getD category i 0 = eqb-true c (getD category i 0) (and-eq-true-iff (eqb s (getD signal i 0)) (eqb c (getD category i 0)) .0 (r .1) .1) in
-        absurd (omega (arith, q, L .known i (r .0)))
+    place-is : (s c : ℕ) (x : ℕ) → slot s c ≡ x → node-at s c ≡ number (nodes T) c (pathIn tu x)
+    place-is s c zero e = node-none (keyAt signal category) node s c m e ∙ sym (root-number T c)
+    place-is s c (suc i) e =
+        let r = of-slot s c i e in
+        node-some (keyAt signal category) node s c m i e ∙ N .numbers i (r .0) ∙ ap (λ y. number (nodes T) y (path i)) (sym (r .2))
+
+    -- no place past the categories, and none past the signals
+    blank : (s c : ℕ) (x : ℕ) → slot s c ≡ x → T .cats ≤ c → node-at s c ≡ 0
+    blank s c zero e j = node-none (keyAt signal category) node s c m e
+    blank s c (suc i) e j = let r = of-slot s c i e in absurd (omega (arith, r .2, L .known i (r .0)))
+
+    absent : (s c : ℕ) (x : ℕ) → slot s c ≡ x → n ≤ s → node-at s c ≡ 0
+    absent s c zero e j = node-none (keyAt signal category) node s c m e
+    absent s c (suc i) e j =
+        let r = of-slot s c i e in
+        absurd (omega (arith, r .1, tagged-below 0 (T .signals) tu m (L .urns) i (r .0), L .signals))
 
     abbrev numbers : ℕ → List ℕ
     numbers s = numbersFrom (nodes T) 0 (rowOf T s)
@@ -159,20 +167,28 @@ module _ {T : Table} {signal category : List ℕ} {path : ℕ → Parts} {n m : 
     wide : (s : ℕ) → length (numbers s) ≡ T .cats
     wide s = numbers-length (nodes T) 0 (rowOf T s) ∙ row-length (getD (T .signals) s []) 0 (T .cats)
 
-    digit : (s c : ℕ) → c < 8 → placeNumber slots node (8 * s + c) ≡ getD (numbers s) c 0
-    digit s c k = byTest (ltb c (T .cats))
+    digit : (s c : ℕ) → node-at s c ≡ getD (numbers s) c 0
+    digit s c = byTest (ltb c (T .cats))
         (λ b.
         let g = ltb-true c (T .cats) b in
         let g₂ : c < length (rowOf T s) = omega (arith, g, row-length (getD (T .signals) s []) 0 (T .cats)) in
-        place-is s c (slot s c) refl k ∙ ap (number (nodes T) c) (sym (place-slot s c k))
+        place-is s c (slot s c) refl ∙ ap (number (nodes T) c) (sym (place-slot s c))
         ∙ sym (numbers-at (nodes T) 0 (rowOf T s) c g₂ ∙ ap₂ (number (nodes T)) (zero-add c) (row-place T s c g)))
         (λ b.
         let g = ltb-false c (T .cats) b in
-        blank s c (slot s c) refl g k ∙ sym (List·getD-eq-default (numbers s) 0 (omega (arith, wide s, g))))
+        blank s c (slot s c) refl g ∙ sym (List·getD-eq-default (numbers s) 0 (omega (arith, wide s, g))))
 
-    module _ (rows : List ℕ) (v : (s : ℕ) → s < n → getD rows s 0 ≡ packedFrom (placeNumber slots node) (8 * s) 8) where
+    module _ (rows : List ℕ) (v : (s : ℕ) → s < 32 → getD rows s 0 ≡ rowIn (keyAt signal category) node s m) where
       packed : (s : ℕ) → s < n → getD rows s 0 ≡ pack (numbers s)
-      packed s k = v s k ∙ packed-is (numbers s) (placeNumber slots node) (8 * s) 8 (omega (arith, wide s, L .few-categories)) (λ j i. digit s j i)
+      packed s k = v s (omega (arith, L .few-signals)) ∙ packed-is (numbers s) (node-at s) 8 (omega (arith, wide s, L .few-categories)) (λ j i. digit s j)
+
+      past : length rows ≡ 32 → Padded 32 n rows
+      past w = (
+        w,
+        λ s h. byTest (ltb s 32)
+            (λ b. v s (ltb-true s 32 b) ∙ packed-is [] (node-at s) 8 (omega arith) (λ j i. absent s j (slot s j) refl h))
+            (λ b. List·getD-eq-default rows 0 (omega (arith, w, ltb-false s 32 b))),
+      )
 
       anchored : (s : ℕ) → s < n → Anchored T 0 (rowOf T s)
       anchored s k c = subst (λ (z : ℕ). RootOrNode (nodes T) z (getD (rowOf T s) c [])) (sym (zero-add c)) (row-nodes T s (omega (arith, k, L .signals)) c)
@@ -198,8 +214,8 @@ module _ {T : Table} {signal category : List ℕ} {path : ℕ → Parts} {n m : 
       unfolding verdict fewNodes
       accepted e z = sym (rw (S .once, S .silent, by-rows e ∙ z, le-leb (length (nodes T)) 64 (N .few-nodes)))
 
-      pub rows-good : {b : Bool} → b ≡ noTwo eqb (tabulate (λ s. getD rows s 0) n) → b ≡ true → Padded 32 n rows → Placed T rows n 0
-      rows-good e z p = record { refusal = accepted e z; packed = λ _. packed; past = λ _. p }
+      pub rows-good : {b : Bool} → b ≡ noTwo eqb (tabulate (λ s. getD rows s 0) n) → b ≡ true → length rows ≡ 32 → Placed T rows n 0
+      rows-good e z w = record { refusal = accepted e z; packed = λ _. packed; past = λ _. past w }
 
       pub rows-eleven : {b : Bool} → b ≡ noTwo eqb (tabulate (λ s. getD rows s 0) n) → b ≡ false → 11 ≡ verdict T
       rows-eleven e z = verdict-11 (by-rows e ∙ z)
@@ -209,7 +225,8 @@ pub not-placed : {T : Table} {rows : List ℕ} {n : ℕ} (r : ℕ) → r ≢ 0 �
 not-placed r z e = record { refusal = e; packed = λ y. absurd (z y); past = λ y. absurd (z y) }
 
 -- by texts
-module _ (t at len : List ℕ) {T : Table} {signal category : List ℕ} {n m : ℕ} {slots : List ℕ} (S : Slotted T signal category (λ i. fields 58 (stretch t at len i)) n m slots) where
+module _ (t at len : List ℕ) {T : Table} {signal category : List ℕ} {n m : ℕ} (S : Passed T signal category (λ i. fields 58 (stretch t at len i)) n m)
+    (slots : List ℕ) (w : (s c : ℕ) → c < 8 → getD slots (8 * s + c) 0 ≡ slotIn (keyAt signal category) s c m) where
   abbrev texts : ℕ → Tagged Urn
   texts = urnOf signal category (λ i. fields 58 (stretch t at len i))
 
@@ -228,10 +245,11 @@ module _ (t at len : List ℕ) {T : Table} {signal category : List ℕ} {n m : �
     rows-texts a b =
         ap (λ n. samePlaces n (getD (T .signals) a []) (getD (T .signals) b [])) g
         ∙ row-all (getD (T .signals) a []) (getD (T .signals) b []) 0 k
-        ∙ all-alike (λ i. sameParts (place T a (0 + i)) (place T b (0 + i))) (λ c. sameSlots t at len (slot S a c) (slot S b c)) (λ i. i) (λ c. c) k
+        ∙ all-alike (λ i. sameParts (place T a (0 + i)) (place T b (0 + i))) (λ c. sameSlots t at len (getD slots (8 * a + c) 0) (getD slots (8 * b + c) 0)) (λ i. i) (λ c. c) k
         (λ c h.
         let l : c < 8 = omega arith in
-        ap (λ i. sameParts (place T a i) (place T b i)) (zero-add c) ∙ ap₂ sameParts (place-slot S a c l) (place-slot S b c l) ∙ same-slot (slot S a c) (slot S b c))
+        ap (λ i. sameParts (place T a i) (place T b i)) (zero-add c) ∙ ap₂ sameParts (place-slot S a c) (place-slot S b c) ∙ same-slot (slot S a c) (slot S b c)
+        ∙ sym (ap₂ (sameSlots t at len) (w a c l) (w b c l)))
 
     abbrev test : Bool
     test = noTwo (samePlacesAt t slots at len k) (tabulate (λ a. a) n)

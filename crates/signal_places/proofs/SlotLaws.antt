@@ -1,6 +1,6 @@
 -- Laws of the slots, one URN further.
 use Prim.Native.Nat.{ℕ, suc, zero, _+_, _*_, _≤_, _<_}
-use mathlib.Core.Path.{_≡_, refl, ap, ap₂, sym, _∙_}
+use mathlib.Core.Path.{_≡_, refl, ap, ap₂, sym, _∙_, subst}
 use mathlib.Core.Bool.{Bool, true, false, cond, _&&_, and-eq-true-iff, true≢false}
 use mathlib.Core.List.{List, [], _∷_, _++_}
 use native.Mathlib.Numerals.{add-one}
@@ -45,6 +45,15 @@ module _ (f : ℕ → Tagged ℕ) (s c : ℕ) where
       both : (b : Bool) → cond b true true ≡ true
       both true = refl
       both false = refl
+
+-- a slot that is taken is its URN's
+pub slot-key : (f : ℕ → Tagged ℕ) (s c n i : ℕ) → slotIn f s c n ≡ suc i → (i < n) × (sameKey (tag s c) (f i) ≡ true)
+unfolding slotIn
+slot-key f s c zero i e = let z : _≡_ {A = ℕ} 0 (suc i) = e in absurd (omega arith)
+slot-key f s c (suc n) i e =
+    byTest (sameKey (tag s c) (f n))
+    (λ b. let z : n ≡ i = omega (arith, rw b at e) in (omega arith, subst (λ (k : ℕ). sameKey (tag s c) (f k) ≡ true) z b))
+    (λ b. let r = slot-key f s c n i (rw b at e) in (omega (arith, r .0), r .1))
 
 -- the i-th URN, of signal x and category y, is put into its slot
 module _ (signal category slots : List ℕ) (i m x y : ℕ) (e : x ≡ getD signal i 0) (g : y ≡ getD category i 0) (h : y < 8)

@@ -28,8 +28,9 @@ pub record Listing (T : Table) (signal category : List ℕ) (path : ℕ → Part
   pub few-signals : n ≤ 32
   pub few-urns : m ≤ 256
 
--- each URN's node has its number, and there are not too many
+-- each URN has a node, with its number, and there are not too many
 pub record Numbering (T : Table) (category : List ℕ) (path : ℕ → Parts) (node : List ℕ) (m : ℕ) : Type 0 where
+  pub no-root : (i : ℕ) → i < m → 0 < getD node i 0
   pub numbers : (i : ℕ) → i < m → getD node i 0 ≡ number (nodes T) (getD category i 0) (path i)
   pub few-nodes : length (nodes T) ≤ 64
 
@@ -55,14 +56,18 @@ unfoldable pub slotIn : (ℕ → Tagged ℕ) → ℕ → ℕ → ℕ → ℕ
 slotIn f s c zero = 0
 slotIn f s c (suc n) = cond (sameKey (tag s c) (f n)) (suc n) (slotIn f s c n)
 
--- the number of the node of a slot's URN, or 0
-unfoldable pub placeNumber : List ℕ → List ℕ → ℕ → ℕ
-placeNumber slots node k = cond (eqb (getD slots k 0) 0) 0 (getD node (getD slots k 0 - 1) 0)
+-- the number of the node of the last of n URNs that is of signal s and category c, or 0
+unfoldable pub nodeIn : (ℕ → Tagged ℕ) → List ℕ → ℕ → ℕ → ℕ → ℕ
+nodeIn f node s c zero = 0
+nodeIn f node s c (suc n) = cond (sameKey (tag s c) (f n)) (getD node n 0) (nodeIn f node s c n)
 
--- n digits from k on, to the base 256, the first lowest
-abbrev pub packedFrom : (ℕ → ℕ) → ℕ → ℕ → ℕ
-packedFrom f k zero = 0
-packedFrom f k (suc n) = f k + 256 * packedFrom f (k + 1) n
+-- the places of signal s by n URNs, in one number
+abbrev pub rowIn : (ℕ → Tagged ℕ) → List ℕ → ℕ → ℕ → ℕ
+rowIn f node s n = pack (tabulate (λ c. nodeIn f node s c n) 8)
+
+-- rows without a place, to be filled by m URNs that each have a node, as a table can have them
+abbrev pub Fillable : (signal category node rows : List ℕ) (m : ℕ) → Type 0
+Fillable signal category node rows m = InRange signal category m × ((i : ℕ) → i < m → (0 < getD node i 0) × (getD node i 0 ≤ 64)) × Padded 32 0 rows
 
 -- the paths of two slots are the same, or both are empty
 unfoldable pub sameSlots : List ℕ → List ℕ → List ℕ → ℕ → ℕ → Bool

@@ -37,10 +37,8 @@ pub fn by_nodes(
     if 256 < m {
         return 9;
     }
-    let mut slots = [0u16; 256];
-    if signals::fill_slots(m, signal, category, &mut slots) {
+    if places::fill_rows(m, signal, category, node, rows) {
         if signals::silent(m, signal) {
-            places::fill_rows(n, &slots, node, rows);
             if places::rows_distinct(n, rows) {
                 return 0;
             }

@@ -1,57 +1,47 @@
+use node_step::rows::place_in;
+use node_step::rows::with_place;
 use table_sections::texts::urn_text;
 use text_bytes::cut::wide;
 use text_bytes::cut::wider;
 ghost use mathlib.Core.Path.{_≡_};
-ghost use mathlib.Core.Bool.{cond};
+ghost use mathlib.Core.Bool.{true, cond};
 ghost use Prim.Native.Nat.{ℕ, _≤_, _<_, _+_, _*_, _-_};
-ghost use lib.ListN.{getD};
+ghost use lib.ListN.{length, getD};
 ghost use lib.Dec.{eqb};
 ghost use Rattle.resolution.specs.Lists.{tabulate};
 ghost use Rattle.text_bytes.specs.Text.{all};
-ghost use Rattle.table_sections.specs.Held.{Padded};
 ghost use Rattle.signal_places.specs.Tests.{any, noTwo};
-ghost use Rattle.signal_places.specs.Slots.{placeNumber, packedFrom, sameSlots, samePlacesAt};
+ghost use Rattle.signal_places.specs.Slots.{keyAt, sameKey, rowIn, Fillable, sameSlots, samePlacesAt};
 
-// The number of the node of a slot's URN, or 0.
-fn place_number(slots: &[u16; 256], node: &[u8; 256], k: usize) -> u64
-    requires { ⌜ (k < 256) × ((j : ℕ) → getD (now slots) j 0 ≤ 256) ⌝ }
-    ensures { λ r. ⌜ (r ≡ placeNumber (now (slots .entry)) (now (node .entry)) k) × (r < 256) ⌝ }
+// The places of the signals: each of m URNs gives its signal a node in its category; false if a signal has two of one.
+pub(crate) fn fill_rows(
+    m: usize,
+    signal: &[u8; 256],
+    category: &[u8; 256],
+    node: &[u8; 256],
+    rows: &mut [u64; 32],
+) -> bool
+    requires { ⌜ m ≤ 256 ⌝ }
+    ensures { λ r. ⌜ (Fillable (now (signal .entry)) (now (category .entry)) (now (node .entry)) (now (rows .entry)) m → r ≡ noTwo sameKey (tabulate (keyAt (now (signal .entry)) (now (category .entry))) m)) ⌝ }
+    ensures filled { λ r. ⌜ (Fillable (now (signal .entry)) (now (category .entry)) (now (node .entry)) (now (rows .entry)) m → r ≡ true
+        → (length (now (rows .exit)) ≡ 32) × ((s : ℕ) → s < 32 → getD (now (rows .exit)) s 0 ≡ rowIn (keyAt (now (signal .entry)) (now (category .entry))) (now (node .entry)) s m)) ⌝ }
 {
-    let x = wider(slots[k]);
-    if x == 0 {
-        return 0;
+    let mut i = 0;
+    while i < m {
+        let s = wide(signal[i]);
+        if 31 < s {
+            return false;
+        }
+        let c = wide(category[i]);
+        let row = rows[s];
+        if place_in(row, c) == 0 {
+            rows[s] = with_place(row, c, node[i]);
+            i += 1;
+        } else {
+            return false;
+        }
     }
-    let i = x - 1;
-    wide(node[i]) as u64
-}
-
-// The places of the signal whose slots begin at k, a byte for each category.
-fn row_at(slots: &[u16; 256], node: &[u8; 256], k: usize) -> u64
-    requires { ⌜ (k + 8 ≤ 256) × ((j : ℕ) → getD (now slots) j 0 ≤ 256) ⌝ }
-    ensures { λ r. ⌜ r ≡ packedFrom (placeNumber (now (slots .entry)) (now (node .entry))) k 8 ⌝ }
-{
-    let a = place_number(slots, node, k);
-    let b = place_number(slots, node, k + 1);
-    let c = place_number(slots, node, k + 2);
-    let d = place_number(slots, node, k + 3);
-    let e = place_number(slots, node, k + 4);
-    let f = place_number(slots, node, k + 5);
-    let g = place_number(slots, node, k + 6);
-    let h = place_number(slots, node, k + 7);
-    a + 256 * (b + 256 * (c + 256 * (d + 256 * (e + 256 * (f + 256 * (g + 256 * h))))))
-}
-
-// The places of n signals.
-pub(crate) fn fill_rows(n: usize, slots: &[u16; 256], node: &[u8; 256], rows: &mut [u64; 32])
-    requires { ⌜ (n ≤ 32) × ((j : ℕ) → getD (now slots) j 0 ≤ 256) ⌝ }
-    ensures { λ _. ⌜ (Padded 32 0 (now (rows .entry)) → Padded 32 n (now (rows .exit))
-        × ((s : ℕ) → s < n → getD (now (rows .exit)) s 0 ≡ packedFrom (placeNumber (now (slots .entry)) (now (node .entry))) (8 * s) 8)) ⌝ }
-{
-    let mut s: usize = 0;
-    while s < n {
-        rows[s] = row_at(slots, node, 8 * s);
-        s += 1;
-    }
+    true
 }
 
 // Some row before row i is the same.

@@ -8,6 +8,7 @@ use native.Mathlib.Omega.{arith}
 use borrow.Author.Tests.{lt-leb, ne-eqb}
 use lib.ListN.{length, getD, length-append}
 use Rattle.text_bytes.specs.Text.{fields}
+use Rattle.text_bytes.proofs.Fields.{fields-first}
 use Rattle.resolution.specs.Lists.{tabulate}
 use Rattle.resolution.specs.Names.{Name, Parts}
 use Rattle.resolution.specs.Table.{Urn, urn, Table}
@@ -71,9 +72,15 @@ module _ (t nameAt nameLen signal category pathAt pathLen : List ℕ) (l : Count
     number-as c p k (inl e) = e .0 ∙ sym (ap (number (nodes T) c) (e .1) ∙ root-number T c)
     number-as c p k (inr w) = w .1 ∙ sym (number-at T (w .0) (w .2)) ∙ ap (λ (u : Urn). number (nodes T) (u .cat) (u .path)) (w .3)
 
+    -- a path has a part, so it is not the root
+    above : (ns : List Urn) (c i k : ℕ) → Numbered ns c (path i) k → 0 < k
+    above ns c i k (inl e) = let f = fields-first 58 (stretch t pathAt pathLen i) in absurd (omega (arith, ap length (sym (f .1) ∙ e .1)))
+    above ns c i k (inr w) = omega (arith, w .1)
+
     pub numbering : Numbering T category path node (l .urns)
     numbering =
         record {
+          no-root = λ i k. above (foldl addUrn [] (tabulate (nodeUrn t category pathAt pathLen) (l .urns))) (getD category i 0) i (getD node i 0) (A .numbered h i k);
           numbers = λ i k. number-as (getD category i 0) (path i) (getD node i 0)
               (subst (λ (y : List Urn). Numbered y (getD category i 0) (path i) (getD node i 0)) (sym nodes-are) (A .numbered h i k));
           few-nodes = omega (arith, count);

@@ -185,6 +185,7 @@ module _ (x : Tree) (g : Grown x) where
     pub tree-numbering : Numbering T category path numbers m
     tree-numbering =
         record {
+          no-root = λ i k. omega (arith, is-node i k .1);
           numbers = λ i k.
               let w = is-node i k in
               w .1 ∙ sym (number-nth us (no-twice x g) (w .0) (omega (arith, w .2, size)))

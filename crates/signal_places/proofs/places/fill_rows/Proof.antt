@@ -1,29 +1,61 @@
 use native.Mathlib.Omega.{arith}
-use Prim.Native.Nat.{ℕ, _≤_, _<_, _-_, _*_}
-use mathlib.Core.Path.{_≡_, subst}
-use lib.ListN.{getD}
-use Rattle.table_sections.specs.Held.{Padded}
-use Rattle.table_sections.proofs.Padding.{pad-set}
-use Rattle.signal_places.specs.Slots.{placeNumber, packedFrom}
-use Rattle.signal_places.proofs.RowLaws.{row-put}
+use Prim.Native.Nat.{ℕ, _≤_, _<_, _-_}
+use mathlib.Core.Path.{_≡_, refl, _∙_, ap, sym}
+use mathlib.Core.Bool.{true, false≢true}
+use lib.ListN.{length, getD, length-set}
+use Rattle.resolution.specs.Lists.{tabulate}
+use Rattle.signal_places.specs.Tests.{noTwo}
+use Rattle.signal_places.specs.Slots.{keyAt, sameKey, nodeIn, rowIn, Fillable}
+use Rattle.signal_places.proofs.TestLaws.{two-start, two-ends}
+use Rattle.signal_places.proofs.RowLaws.{row-start, bytes-start, row-twice, row-once, bytes-next, row-put}
 use borrow.Author.Needs.{needs}
 use Rattle.signal_places.proofs.places.fill_rows.Statement.{statement}
 use Rattle.signal_places.proofs.places.fill_rows.Tie as tie
 
 abbrev Inv-loop : tie.InvT-loop
-Inv-loop n slots node rows₀ s₀ rows s = (s ≤ n) × (Padded 32 0 rows₀ → Padded 32 s rows × ((j : ℕ) → j < s → getD rows j 0 ≡ packedFrom (placeNumber slots node) (8 * j) 8))
+Inv-loop m signal category node rows₀ i₀ rows i =
+    (i ≤ m) × (Fillable signal category node rows₀ m → (length rows ≡ 32) × (noTwo sameKey (tabulate (keyAt signal category) i) ≡ true)
+    × ((s c : ℕ) → nodeIn (keyAt signal category) node s c i < 256) × ((s : ℕ) → s < 32 → getD rows s 0 ≡ rowIn (keyAt signal category) node s i))
 
 abbrev μ-loop : tie.MeasureT-loop
-μ-loop n slots node rows₀ s₀ rows s = n - s
+μ-loop m signal category node rows₀ i₀ rows i = m - i
 
 loop-holds : tie.Need-loop-holds Inv-loop μ-loop
-loop-holds c = (omega arith, λ p. (p, λ j h. absurd (omega arith)))
+loop-holds c = (omega arith, λ r. (r .2 .0, two-start _ _, (λ s k. bytes-start _ _ s k), λ s h. r .2 .1 s (omega arith) ∙ sym (row-start _ _ s)))
 
-mul-row-at : tie.Need-mul-row-at Inv-loop μ-loop
-mul-row-at c = search needs
+element-copy-out-wide : tie.Need-element-copy-out-wide Inv-loop μ-loop
+element-copy-out-wide c = search needs
 
-row-at-requires : tie.Need-row-at-requires Inv-loop μ-loop
-row-at-requires c κs = search needs
+wide-requires : tie.Need-wide-requires Inv-loop μ-loop
+wide-requires c κs = search needs
+
+returns : tie.Need-returns Inv-loop μ-loop
+returns c =
+    let a = c .before .before .before .before .before .args in
+    let far : Fillable (a .signal .now) (a .category .now) (a .node .now) (a .rows .now) (a .m) → ⊥ =
+    λ r. omega (arith, c .if1 .taken, c .before .wide .ensures .0, r .0 .0 _ (c .before .before .before .loop-test .taken)) in
+    (λ r. absurd (far r), λ r. absurd (far r))
+
+element-copy-out-wide-2 : tie.Need-element-copy-out-wide-2 Inv-loop μ-loop
+element-copy-out-wide-2 c = search needs
+
+wide-requires-2 : tie.Need-wide-requires-2 Inv-loop μ-loop
+wide-requires-2 c κs = search needs
+
+mul-row : tie.Need-mul-row Inv-loop μ-loop
+mul-row c = search needs
+
+element-copy-out-row : tie.Need-element-copy-out-row Inv-loop μ-loop
+element-copy-out-row c = search needs
+
+place-in-requires : tie.Need-place-in-requires Inv-loop μ-loop
+place-in-requires c κs = search needs
+
+element-copy-out-with-place : tie.Need-element-copy-out-with-place Inv-loop μ-loop
+element-copy-out-with-place c = search needs
+
+with-place-requires : tie.Need-with-place-requires Inv-loop μ-loop
+with-place-requires c κs = search needs
 
 mul-rows : tie.Need-mul-rows Inv-loop μ-loop
 mul-rows c = search needs
@@ -31,25 +63,56 @@ mul-rows c = search needs
 element-write-rows : tie.Need-element-write-rows Inv-loop μ-loop
 element-write-rows c = search needs
 
-add-s : tie.Need-add-s Inv-loop μ-loop
-add-s c = search needs
+add-i : tie.Need-add-i Inv-loop μ-loop
+add-i c = search needs
 
 loop-less : tie.Need-loop-less Inv-loop μ-loop
 loop-less c = omega arith
 
 loop-again : tie.Need-loop-again Inv-loop μ-loop
-loop-again c = let l = c .before .before .loop in (
-  omega arith,
-  λ p.
-      let v = l .inv .1 p in (
-        pad-set 32 (l .s) (l .rows) (c .row-at .result) (v .0),
-        row-put (λ j. packedFrom (placeNumber (c .before .before .before .args .slots .now) (c .before .before .before .args .node .now)) (8 * j) 8) (l .rows) (l .s) (v .1) (omega (arith, v .0 .0)) (c .row-at .ensures),
-      ),
-)
+loop-again c =
+    let a = c .before .before .before .before .before .before .before .before .before .before .before .before .args in
+    let l = c .before .before .before .before .before .before .before .before .before .before .before .loop in
+    let x = c .before .before .before .before .before .before .before .before .wide in
+    let y = c .before .before .before .before .before .wide2 in
+    let i = c .before .before .before .before .before .before .before .before .before .before .loop-test .taken in (
+      omega arith,
+      λ r.
+          let v = l .inv .1 r in
+          let h : y .result < 8 = omega (arith, y .ensures .0, r .0 .1 _ i) in
+          let k : x .result < 32 = omega (arith, c .before .before .before .before .before .before .before .if1 .left) in
+          let e = x .ensures .0 in
+          let g = y .ensures .0 in (
+            length-set (l .rows) (x .result) (c .with-place .result) ∙ v .0,
+            row-once (a .signal .now) (a .category .now) (a .node .now) (l .rows) (l .i) (x .result) (y .result) e g h (v .2) (v .3) k (λ j w. r .1 j (omega arith) .0) (v .1) (sym (c .before .before .before .place-in .ensures h) ∙ c .before .before .if2 .taken),
+            bytes-next (a .signal .now) (a .category .now) (a .node .now) (l .rows) (l .i) (x .result) (y .result) e g h (v .2) (v .3) k (omega (arith, r .1 _ i .1)),
+            row-put (a .signal .now) (a .category .now) (a .node .now) (l .rows) (l .i) (x .result) (y .result) e g h (v .2) (v .3) k (c .with-place .result) _ (c .with-place .ensures h) refl (v .0),
+          ),
+    )
 
-returns : tie.Need-returns Inv-loop μ-loop
-returns c = λ p. let v = c .before .loop .inv .1 p in let e : c .before .loop .s ≡ c .before .before .args .n = omega arith in
-    (subst (λ (z : ℕ). Padded 32 z (c .before .loop .rows)) e (v .0), λ s h. v .1 s (omega (arith, c .loop-test .left)))
+returns-2 : tie.Need-returns-2 Inv-loop μ-loop
+returns-2 c =
+    let a = c .before .before .before .before .before .before .before .before .before .before .args in
+    let l = c .before .before .before .before .before .before .before .before .before .loop in
+    let x = c .before .before .before .before .before .before .wide in
+    let y = c .before .before .before .wide2 in
+    let i = c .before .before .before .before .before .before .before .before .loop-test .taken in (
+      λ r.
+          let v = l .inv .1 r in
+          let h : y .result < 8 = omega (arith, y .ensures .0, r .0 .1 _ i) in
+          let k : x .result < 32 = omega (arith, c .before .before .before .before .before .if1 .left) in
+          row-twice (a .signal .now) (a .category .now) (a .node .now) (l .rows) (l .i) (x .result) (y .result) (x .ensures .0) (y .ensures .0) h (v .2) (v .3) k (a .m) i (λ z. c .if2 .left (c .before .place-in .ensures h ∙ z)),
+      λ r e. absurd (false≢true e),
+    )
+
+returns-3 : tie.Need-returns-3 Inv-loop μ-loop
+returns-3 c =
+    let a = c .before .before .args in
+    let l = c .before .loop in
+    let e : l .i ≡ a .m = omega arith in (
+      λ r. two-ends _ _ _ _ (l .inv .1 r .1) (l .inv .0) (c .loop-test .left),
+      λ r _. let v = l .inv .1 r in (v .0, λ s h. v .3 s h ∙ ap (rowIn (keyAt (a .signal .now) (a .category .now)) (a .node .now) s) e),
+    )
 
 pub fill-rows-spec : {M : Type 1} → statement M
 fill-rows-spec =
@@ -58,11 +121,20 @@ fill-rows-spec =
     Inv-loop
     μ-loop
     loop-holds
-    mul-row-at
-    row-at-requires
+    element-copy-out-wide
+    wide-requires
+    returns
+    element-copy-out-wide-2
+    wide-requires-2
+    mul-row
+    element-copy-out-row
+    place-in-requires
+    element-copy-out-with-place
+    with-place-requires
     mul-rows
     element-write-rows
-    add-s
+    add-i
     loop-less
     loop-again
-    returns)
+    returns-2
+    returns-3)

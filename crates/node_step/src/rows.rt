@@ -1,0 +1,24 @@
+// The places of a signal, each in its byte of one number: read and set.
+ghost use mathlib.Core.Path.{_≡_};
+ghost use Prim.Native.Nat.{_<_};
+ghost use Rattle.node_step.specs.Step.{digit, put};
+
+// The place in category c, or 0 if there is no byte for it.
+pub fn place_in(row: u64, c: usize) -> u8
+    ensures { λ r. ⌜ (c < 8 → r ≡ digit row c) ⌝ }
+{
+    if c < 8 {
+        return crate::digit_at(row, c);
+    }
+    0
+}
+
+// The row with p for its place in category c, or as it is if there is no byte for it.
+pub fn with_place(row: u64, c: usize, p: u8) -> u64
+    ensures { λ r. ⌜ (c < 8 → r ≡ put row c p) ⌝ }
+{
+    if c < 8 {
+        return crate::put_at(row, c, crate::digit_at(row, c), p);
+    }
+    row
+}
