@@ -140,16 +140,14 @@ fn listed(
     l: Counts,
     name_at: &[u16; 8],
     name_len: &[u8; 8],
-    at: &[u16; 256],
-    len: &[u8; 256],
+    at: &mut [u16; 256],
+    len: &mut [u8; 256],
     signal: &[u8; 256],
 ) -> Decoded
     requires { ⌜ FormedAs (now t) (now «name_at») (now «name_len») (now at) (now len) (now signal) l ⌝ }
     ensures { λ r. ⌜ Means (now (t .entry)) r ⌝ }
 {
     let mut category = [0u8; 256];
-    let mut path_at = [0u16; 256];
-    let mut path_len = [0u8; 256];
     if table_categories::names_distinct(t, l.categories, name_at, name_len) {
         if table_categories::index_urns(
             t,
@@ -160,20 +158,9 @@ fn listed(
             at,
             len,
             &mut category,
-            &mut path_at,
-            &mut path_len,
         ) {
             if table_categories::all_used(&category, l.urns, l.categories) {
-                return placed(
-                    t,
-                    l,
-                    name_at,
-                    name_len,
-                    signal,
-                    &category,
-                    &path_at,
-                    &path_len,
-                );
+                return placed(t, l, name_at, name_len, signal, &category, at, len);
             }
             return refused(8);
         }
@@ -188,8 +175,8 @@ fn formed(
     l: Counts,
     name_at: &[u16; 8],
     name_len: &[u8; 8],
-    at: &[u16; 256],
-    len: &[u8; 256],
+    at: &mut [u16; 256],
+    len: &mut [u8; 256],
     signal: &[u8; 256],
 ) -> Decoded
     requires { ⌜ ReadAs (now t) (now «name_at») (now «name_len») (now at) (now len) (now signal) l ⌝ }
@@ -223,7 +210,7 @@ pub fn decode(t: &[u8]) -> Decoded
         &mut signal,
     );
     if l.ok {
-        return formed(t, l, &name_at, &name_len, &at, &len, &signal);
+        return formed(t, l, &name_at, &name_len, &mut at, &mut len, &signal);
     }
     refused(l.fault)
 }

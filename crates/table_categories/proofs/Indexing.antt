@@ -122,3 +122,14 @@ module _ (t : List ℕ) (names : List (List ℕ)) (at len : List ℕ) (i : ℕ) 
   urn-put =
       indexed-more t names at len i category pathAt pathLen x l₁ l₂ l₃ c a n (y ∙ urn-category names f g d) (omega arith)
       (ap₂ (λ a n. take n (drop a t)) z o ∙ path-part t w (getD len i 0) e k (d ∙ at-stretch t at len i q) f (p .0) (p .1) (p .2) ∙ ap pathOf d)
+
+-- from the i-th on, a list is as it was
+pub record Rest (i : ℕ) (a a₀ : List ℕ) : Type 0 where
+  pub same : (k : ℕ) → i ≤ k → getD a k 0 ≡ getD a₀ k 0
+
+pub rest-set : {i : ℕ} {a a₀ : List ℕ} (x : ℕ) → Rest i a a₀ → Rest (i + 1) (set a i x) a₀
+rest-set {i} {a} x r = record { same = λ k h. getD-set-other a i k x 0 (λ q. omega arith) ∙ r .same k (omega arith) }
+
+-- a URN whose place is still as it was
+pub stretch-rest : (t : List ℕ) {i : ℕ} {at len at₀ len₀ : List ℕ} → Rest i at at₀ → Rest i len len₀ → stretch t at len i ≡ stretch t at₀ len₀ i
+stretch-rest t {i} r s = ap₂ (λ a n. take n (drop a t)) (r .same i (omega arith)) (s .same i (omega arith))

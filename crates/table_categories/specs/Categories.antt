@@ -13,10 +13,9 @@ use Rattle.node_search.specs.Arrays.{stretch}
 unfoldable pub isListed : List Name → List ℕ → Bool
 isListed names u = memberBy sameName (categoryOf u) names
 
--- n categories and m URNs such as a table can have, with arrays for them
-abbrev pub Fits : (t : List ℕ) (n m : ℕ) (category pathAt pathLen : List ℕ) → Type 0
-Fits t n m category pathAt pathLen =
-    (length t ≤ 8192) × (n ≤ 8) × (m ≤ 256) × (length category ≡ 256) × (length pathAt ≡ 256) × (length pathLen ≡ 256)
+-- n categories and m URNs such as a table can have, with an array for their categories
+abbrev pub Fits : (t : List ℕ) (n m : ℕ) (category : List ℕ) → Type 0
+Fits t n m category = (length t ≤ 8192) × (n ≤ 8) × (m ≤ 256) × (length category ≡ 256)
 
 -- the arrays have the category's number and the path of every URN
 pub record Indexed (t : List ℕ) (names : List (List ℕ)) (at len : List ℕ) (m : ℕ) (category pathAt pathLen : List ℕ) : Type 0 where

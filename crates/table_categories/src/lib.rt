@@ -74,27 +74,34 @@ fn path_start(n: usize, k: usize) -> usize
     n
 }
 
-// The category and the path of every URN, as far as its category is listed.
+// For how many URNs both arrays have room. Their lengths are known only where they are lent as slices.
+fn room(at: &[u16; 256], len: &[u8; 256]) -> usize
+    ensures { λ r. ⌜ (r ≡ 256) × (length (now (at .entry)) ≡ 256) × (length (now (len .entry)) ≡ 256) ⌝ }
+{
+    let a: &[u16] = at;
+    let n: &[u8] = len;
+    text_bytes::compare::at_most(a.len(), n.len())
+}
+
+// The category of every URN, as far as it is listed, and its text cut down to its path.
 pub fn index_urns(
     t: &[u8],
     n: usize,
     name_at: &[u16; 8],
     name_len: &[u8; 8],
     m: usize,
-    at: &[u16; 256],
-    len: &[u8; 256],
+    at: &mut [u16; 256],
+    len: &mut [u8; 256],
     category: &mut [u8; 256],
-    path_at: &mut [u16; 256],
-    path_len: &mut [u8; 256],
 ) -> bool
-    ensures { λ r. ⌜ (Fits (now (t .entry)) n m (now (category .entry)) (now («path_at» .entry)) (now («path_len» .entry))
+    ensures { λ r. ⌜ (Fits (now (t .entry)) n m (now (category .entry))
         → r ≡ all (isListed (tabulate (stretch (now (t .entry)) (now («name_at» .entry)) (now («name_len» .entry))) n))
         (tabulate (stretch (now (t .entry)) (now (at .entry)) (now (len .entry))) m)) ⌝ }
-    ensures indexed { λ r. ⌜ (Fits (now (t .entry)) n m (now (category .entry)) (now («path_at» .entry)) (now («path_len» .entry)) → r ≡ true
+    ensures indexed { λ r. ⌜ (Fits (now (t .entry)) n m (now (category .entry)) → r ≡ true
         → Indexed (now (t .entry)) (tabulate (stretch (now (t .entry)) (now («name_at» .entry)) (now («name_len» .entry))) n) (now (at .entry)) (now (len .entry)) m
-        (now (category .exit)) (now («path_at» .exit)) (now («path_len» .exit))) ⌝ }
+        (now (category .exit)) (now (at .exit)) (now (len .exit))) ⌝ }
 {
-    if 256 < m {
+    if room(at, len) < m {
         return false;
     }
     let mut i = 0;
@@ -106,8 +113,8 @@ pub fn index_urns(
         if c < n {
             let e = path_start(u.len(), k);
             category[i] = small(c);
-            path_at[i] = short(wider(at[i]) + e);
-            path_len[i] = small(u.len() - e);
+            at[i] = short(wider(at[i]) + e);
+            len[i] = small(u.len() - e);
             i += 1;
         } else {
             return false;

@@ -41,19 +41,15 @@ fn stored_numbers(t: &[u8], number: &mut [u8; 256], signal: &mut [u8; 256]) -> u
         signal,
     );
     let mut category = [0u8; 256];
-    let mut path_at = [0u16; 256];
-    let mut path_len = [0u8; 256];
     table_categories::index_urns(
         t,
         l.categories,
         &name_at,
         &name_len,
         l.urns,
-        &urn_at,
-        &urn_len,
+        &mut urn_at,
+        &mut urn_len,
         &mut category,
-        &mut path_at,
-        &mut path_len,
     );
     let mut cats = [0u8; 64];
     let mut parents = [0u8; 64];
@@ -63,8 +59,8 @@ fn stored_numbers(t: &[u8], number: &mut [u8; 256], signal: &mut [u8; 256]) -> u
         t,
         l.urns,
         &category,
-        &path_at,
-        &path_len,
+        &urn_at,
+        &urn_len,
         number,
         &mut cats,
         &mut parents,

@@ -11,7 +11,7 @@ urns-formed-requires : tie.Need-urns-formed-requires
 urns-formed-requires c κs = search needs
 
 listed-requires : tie.Need-listed-requires
-listed-requires c κs = let a = c .before .before .before .before .before .args in all-formed (a .t .now) (a .name-at .now) (a .name-len .now) (a .at .now) (a .len .now) (a .signal .now) (a .l) (c .before .before .before .before .before .pre) (c .before .before .before .names-formed .ensures (c .before .before .before .before .before .pre .few-categories)) (c .before .before .if1 .taken) (c .before .urns-formed .ensures) (c .if2 .taken)
+listed-requires c κs = let a = c .before .before .before .before .before .before .before .before .before .args in all-formed (a .t .now) (a .name-at .now) (a .name-len .now) (a .at .now) (a .len .now) (a .signal .now) (a .l) (c .before .before .before .before .before .before .before .before .before .pre) (c .before .before .before .before .before .before .before .names-formed .ensures (c .before .before .before .before .before .before .before .before .before .pre .few-categories)) (c .before .before .before .before .before .before .if1 .taken) (c .before .before .before .urns-formed .ensures) (c .before .before .if2 .taken)
 
 returns : tie.Need-returns
 returns c = search needs
@@ -20,7 +20,7 @@ refused-requires : tie.Need-refused-requires
 refused-requires c κs = search needs
 
 returns-2 : tie.Need-returns-2
-returns-2 c = let a = c .before .before .before .before .before .before .args in means-refused (a .t .now) 7 (c .refused .ensures) (urns-unformed (a .t .now) (a .name-at .now) (a .name-len .now) (a .at .now) (a .len .now) (a .signal .now) (a .l) (c .before .before .before .before .before .before .pre) (c .before .before .before .before .names-formed .ensures (c .before .before .before .before .before .before .pre .few-categories)) (c .before .before .urns-formed .ensures) (c .before .if2 .left)) (λ z. omega arith)
+returns-2 c = let a = c .before .before .before .before .before .before .before .before .args in means-refused (a .t .now) 7 (c .refused .ensures) (urns-unformed (a .t .now) (a .name-at .now) (a .name-len .now) (a .at .now) (a .len .now) (a .signal .now) (a .l) (c .before .before .before .before .before .before .before .before .pre) (c .before .before .before .before .before .before .names-formed .ensures (c .before .before .before .before .before .before .before .before .pre .few-categories)) (c .before .before .urns-formed .ensures) (c .before .if2 .left)) (λ z. omega arith)
 
 refused-requires-2 : tie.Need-refused-requires-2
 refused-requires-2 c κs = search needs

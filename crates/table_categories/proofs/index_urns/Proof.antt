@@ -13,25 +13,29 @@ use Rattle.node_search.specs.Arrays.{stretch}
 use Rattle.table_categories.specs.Categories.{isListed}
 use Rattle.table_categories.specs.Categories.{Fits, Indexed}
 use Rattle.signal_places.proofs.TestLaws.{all-start, all-next, all-fails, all-ends}
-use Rattle.table_categories.proofs.Indexing.{part-inside, indexed-start, urn-listed, urn-strange, urn-put, indexed-end}
+use Rattle.table_categories.proofs.Indexing.{Rest, rest-set, stretch-rest, part-inside, indexed-start, urn-listed, urn-strange, urn-put, indexed-end}
 use borrow.Author.Needs.{needs}
 use Rattle.table_categories.proofs.index_urns.Statement.{statement}
 use Rattle.table_categories.proofs.index_urns.Tie as tie
 
 abbrev Inv-loop : tie.InvT-loop
-Inv-loop t n name-at name-len m at len category₀ path-at₀ path-len₀ i₀ category path-at path-len i =
-    (i ≤ m) × (Fits t n m category₀ path-at₀ path-len₀ → (length category ≡ 256) × (length path-at ≡ 256) × (length path-len ≡ 256)
-    × (all (isListed (tabulate (stretch t name-at name-len) n)) (tabulate (stretch t at len) i) ≡ true) × Indexed t (tabulate (stretch t name-at name-len) n) at len i category path-at path-len)
+Inv-loop t n name-at name-len m at₀ len₀ category₀ i₀ at len category i =
+    (i ≤ m) × (Fits t n m category₀ → (length category ≡ 256) × (length at ≡ 256) × (length len ≡ 256)
+    × (all (isListed (tabulate (stretch t name-at name-len) n)) (tabulate (stretch t at₀ len₀) i) ≡ true)
+    × Indexed t (tabulate (stretch t name-at name-len) n) at₀ len₀ i category at len × Rest i at at₀ × Rest i len len₀)
 
 abbrev μ-loop : tie.MeasureT-loop
-μ-loop t n name-at name-len m at len category₀ path-at₀ path-len₀ i₀ category path-at path-len i =
+μ-loop t n name-at name-len m at₀ len₀ category₀ i₀ at len category i =
     m - i
+
+room-requires : tie.Need-room-requires Inv-loop μ-loop
+room-requires c κs = search needs
 
 returns : tie.Need-returns Inv-loop μ-loop
 returns c = (λ f. absurd (omega (arith, f .2)), λ f. absurd (omega (arith, f .2)))
 
 loop-holds : tie.Need-loop-holds Inv-loop μ-loop
-loop-holds c = (omega arith, λ h. (h .3, h .4, h .5, all-start _ _, indexed-start _ _ _ _ _ _ _))
+loop-holds c = (omega arith, λ h. (h .3, c .before .room .ensures .1, c .before .room .ensures .2, all-start _ _, indexed-start _ _ _ _ _ _ _, record { same = λ _ _. refl }, record { same = λ _ _. refl }))
 
 urn-text-requires : tie.Need-urn-text-requires Inv-loop μ-loop
 urn-text-requires c κs = search needs
@@ -75,11 +79,11 @@ add-short c = omega (arith, c .wider .ensures .1, c .before .before .before .bef
 short-requires : tie.Need-short-requires Inv-loop μ-loop
 short-requires c κs = search needs
 
-mul-path-at : tie.Need-mul-path-at Inv-loop μ-loop
-mul-path-at c = search needs
+mul-at : tie.Need-mul-at Inv-loop μ-loop
+mul-at c = search needs
 
-element-write-path-at : tie.Need-element-write-path-at Inv-loop μ-loop
-element-write-path-at c = search needs
+element-write-at : tie.Need-element-write-at Inv-loop μ-loop
+element-write-at c = search needs
 
 sub-small : tie.Need-sub-small Inv-loop μ-loop
 sub-small c = search needs
@@ -87,8 +91,8 @@ sub-small c = search needs
 small-requires-2 : tie.Need-small-requires-2 Inv-loop μ-loop
 small-requires-2 c κs = search needs
 
-element-write-path-len : tie.Need-element-write-path-len Inv-loop μ-loop
-element-write-path-len c = search needs
+element-write-len : tie.Need-element-write-len Inv-loop μ-loop
+element-write-len c = search needs
 
 add-i : tie.Need-add-i Inv-loop μ-loop
 add-i c = search needs
@@ -97,32 +101,35 @@ loop-less : tie.Need-loop-less Inv-loop μ-loop
 loop-less c = omega arith
 
 loop-again : tie.Need-loop-again Inv-loop μ-loop
-loop-again c = let l = c .before .before .before .before .before .before .before .before .before .before .before .before .loop in
-    let a = c .before .before .before .before .before .before .before .before .before .before .before .before .before .before .before .args in
+loop-again c = let l = c .before .before .before .before .before .before .before .before .before .before .before .before .before .before .loop in
+    let a = c .before .before .before .before .before .before .before .before .before .before .before .before .before .before .before .before .before .before .before .before .args in
     let names = tabulate (stretch (a .t .now) (a .name-at .now) (a .name-len .now)) (a .n) in (
       omega arith,
       λ f.
           let v = l .inv .1 f in
-          let u = c .before .before .before .before .before .before .before .before .before .before .urn-text .ensures .0 (omega arith) in
+          let u = c .before .before .before .before .before .before .before .before .before .before .urn-text .ensures .0 (omega arith) ∙ stretch-rest (a .t .now) (v .5) (v .6) in
           let d = c .before .before .before .before .before .before .before .before .before .find .ensures in
           let g = c .before .before .before .before .before .before .before .name-index .ensures .0 (f .1) in
           let o = c .before .before .before .before .before .path-start .ensures in
-          let w = part-inside (a .t .now) (c .before .before .wider .result) (getD (a .len .now) (l .i) 0) (c .before .before .before .before .before .path-start .result) (u ∙ at-stretch (a .t .now) (a .at .now) (a .len .now) (l .i) (c .before .before .wider .ensures .0)) (o .0) (f .0) (c .before .before .wider .ensures .1) in
+          let q = c .before .before .wider .ensures .0 ∙ v .5 .same (l .i) (omega arith) in
+          let w = part-inside (a .t .now) (c .before .before .wider .result) (getD (a .len .now) (l .i) 0) (c .before .before .before .before .before .path-start .result) (u ∙ at-stretch (a .t .now) (a .at .now) (a .len .now) (l .i) q) (o .0) (f .0) (c .before .before .wider .ensures .1) in
           let h : c .before .before .before .before .before .before .before .name-index .result < length names = omega (arith, c .before .before .before .before .before .before .if2 .taken, tabulate-length (stretch (a .t .now) (a .name-at .now) (a .name-len .now)) (a .n)) in (
             length-set (l .category) (l .i) (c .before .before .before .before .small .result) ∙ v .0,
-            length-set (l .path-at) (l .i) (c .before .short .result) ∙ v .1,
-            length-set (l .path-len) (l .i) (c .small2 .result) ∙ v .2,
+            length-set (l .at) (l .i) (c .before .short .result) ∙ v .1,
+            length-set (l .len) (l .i) (c .small2 .result) ∙ v .2,
             all-next _ _ _ (v .3) (sym (urn-listed names d g u h)) refl,
-            urn-put (a .t .now) names (a .at .now) (a .len .now) (l .i) (l .category) (l .path-at) (l .path-len) (v .4) (omega (arith, v .0)) (omega (arith, v .1)) (omega (arith, v .2))
-                d g u h o (one-byte (c .before .before .before .before .small .ensures) (omega (arith, c .before .before .before .before .before .before .if2 .taken, f .1))) (c .before .before .wider .ensures .0) (two-bytes (c .before .short .ensures) w) (one-byte (c .small2 .ensures) (omega (arith, c .before .before .before .before .before .before .before .before .before .before .urn-text .ensures .1))),
+            urn-put (a .t .now) names (a .at .now) (a .len .now) (l .i) (l .category) (l .at) (l .len) (v .4) (omega (arith, v .0)) (omega (arith, v .1)) (omega (arith, v .2))
+                d g u h o (one-byte (c .before .before .before .before .small .ensures) (omega (arith, c .before .before .before .before .before .before .if2 .taken, f .1))) q (two-bytes (c .before .short .ensures) w) (one-byte (c .small2 .ensures) (omega (arith, c .before .before .before .before .before .before .before .before .before .before .urn-text .ensures .1))),
+            rest-set (c .before .short .result) (v .5),
+            rest-set (c .small2 .result) (v .6),
           ),
     )
 
 returns-2 : tie.Need-returns-2 Inv-loop μ-loop
-returns-2 c = let a = c .before .before .before .before .before .before .before .before .before .args in
+returns-2 c = let a = c .before .before .before .before .before .before .before .before .before .before .before .before .before .before .args in
     let names = tabulate (stretch (a .t .now) (a .name-at .now) (a .name-len .now)) (a .n) in
     let h : length names ≤ c .before .name-index .result = omega (arith, c .if2 .left, tabulate-length (stretch (a .t .now) (a .name-at .now) (a .name-len .now)) (a .n)) in
-    (λ f. all-fails _ _ _ _ (c .before .before .before .before .before .loop-test .taken) (sym (urn-strange names (c .before .before .before .find .ensures) (c .before .name-index .ensures .0 (f .1)) (c .before .before .before .before .urn-text .ensures .0 (omega arith)) h)) refl, λ f e. absurd (false≢true e))
+    (λ f. let v = c .before .before .before .before .before .before .before .before .loop .inv .1 f in all-fails _ _ _ _ (c .before .before .before .before .before .before .before .loop-test .taken) (sym (urn-strange names (c .before .before .before .find .ensures) (c .before .name-index .ensures .0 (f .1)) (c .before .before .before .before .urn-text .ensures .0 (omega arith) ∙ stretch-rest (a .t .now) (v .5) (v .6)) h)) refl, λ f e. absurd (false≢true e))
 
 returns-3 : tie.Need-returns-3 Inv-loop μ-loop
 returns-3 c = (λ f. all-ends _ _ _ _ (c .before .loop .inv .1 f .3) (c .before .loop .inv .0) (c .loop-test .left), λ f _. indexed-end (c .before .loop .i) _ (c .before .loop .inv .1 f .4) (c .before .loop .inv .0) (c .loop-test .left))
@@ -133,6 +140,7 @@ index-urns-spec =
     (tie.spec
     Inv-loop
     μ-loop
+    room-requires
     returns
     loop-holds
     urn-text-requires
@@ -149,11 +157,11 @@ index-urns-spec =
     wider-requires
     add-short
     short-requires
-    mul-path-at
-    element-write-path-at
+    mul-at
+    element-write-at
     sub-small
     small-requires-2
-    element-write-path-len
+    element-write-len
     add-i
     loop-less
     loop-again
