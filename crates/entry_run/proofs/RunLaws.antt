@@ -24,14 +24,14 @@ use Rattle.entry_run.specs.declared.run.Current.{Current}
 use Rattle.entry_run.specs.declared.run.Point.{Point}
 use Rattle.machine_image.specs.Image.{signalIn, targetIn}
 use Rattle.machine_symbols.specs.Listed.{symbolNumber}
-use Rattle.entry_run.specs.Run.{Direct, Walk, Machine, useIn, targetNow, moved, signalNow, afterUse, after, Met, over, runOf}
+use Rattle.entry_run.specs.Run.{Direct, walkedTo, Machine, useIn, targetNow, moved, signalNow, afterUse, after, Met, over, runOf}
 use Rattle.entry_run.specs.declared.run.Outcome.{Outcome}
 
 module _ (rows parent : List ℕ) (inner : List Bool) (signals nodes : ℕ) (m : Machine) (x : Current) (c k : ℕ) (w : Bool) {y : Current} where
   pub moved-walk : {r n : ℕ} → x .walks ≡ true → n ≡ symbolNumber (m .index) (m .symbols) (m .count) parent nodes c k w
-      → r ≡ targetIn (min (m .categories) 8) (m .image) (x .number) n → y ≡ Walk r → y ≡ moved rows parent inner signals nodes m x c k w
+      → r ≡ targetIn (min (m .categories) 8) (m .image) (x .number) n → y ≡ walkedTo x r → y ≡ moved rows parent inner signals nodes m x c k w
   unfolding moved
-  moved-walk e f g h = simp e (h ∙ ap Walk (g ∙ ap (targetIn (min (m .categories) 8) (m .image) (x .number)) f))
+  moved-walk e f g h = simp e (h ∙ ap (walkedTo x) (g ∙ ap (targetIn (min (m .categories) 8) (m .image) (x .number)) f))
 
   pub moved-direct : {r : State} {n : ℕ} → x .walks ≡ false → r ≡ stepNumbers rows parent inner signals (x .state) c k w
       → n ≡ triesNumbers rows parent signals (x .state) c k w → y ≡ Direct r (x .tries + n) → y ≡ moved rows parent inner signals nodes m x c k w
@@ -81,8 +81,8 @@ moved-few : (rows parent : List ℕ) (inner : List Bool) (signals nodes : ℕ) (
 unfolding moved
 moved-few rows parent inner signals nodes m x c k w {n} h = go (x .walks)
   where
-    go : (b : Bool) → cond b (Walk (targetNow parent nodes m (x .number) c k w)) (Direct (stepNumbers rows parent inner signals (x .state) c k w) (x .tries + triesNumbers rows parent signals (x .state) c k w)) .tries ≤ n + 10
-    go true = omega arith
+    go : (b : Bool) → cond b (walkedTo x (targetNow parent nodes m (x .number) c k w)) (Direct (stepNumbers rows parent inner signals (x .state) c k w) (x .tries + triesNumbers rows parent signals (x .state) c k w)) .tries ≤ n + 10
+    go true = omega (arith, h)
     go false = omega (arith, tries-bound rows parent signals (x .state) c k w)
 
 pub after-few : (t : List ℕ) (d : Decoded) (m : Machine) (p : Point) (uri : List ℕ) {r : Point} → r ≡ after t d m p uri

@@ -58,10 +58,14 @@ unwalked t = record { index = t; symbols = t; count = 0; categories = 0; image =
 abbrev pub targetNow : List ℕ → ℕ → Machine → ℕ → ℕ → ℕ → Bool → ℕ
 targetNow parent nodes m j c k w = targetIn (min (m .categories) 8) (m .image) j (symbolNumber (m .index) (m .symbols) (m .count) parent nodes c k w)
 
+-- a walk at another state
+abbrev pub walkedTo : Current → ℕ → Current
+walkedTo x j = record { walks = true; number = j; state = x .state; tries = x .tries }
+
 -- a used URN takes direct resolution one step on, with its tries added, or the walk to the target for its symbol
 unfoldable pub moved : List ℕ → List ℕ → List Bool → ℕ → ℕ → Machine → Current → ℕ → ℕ → Bool → Current
 moved rows parent inner signals nodes m x c k w =
-    cond (x .walks) (Walk (targetNow parent nodes m (x .number) c k w))
+    cond (x .walks) (walkedTo x (targetNow parent nodes m (x .number) c k w))
     (Direct (stepNumbers rows parent inner signals (x .state) c k w) (x .tries + triesNumbers rows parent signals (x .state) c k w))
 
 -- one URI more

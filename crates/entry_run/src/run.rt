@@ -11,7 +11,7 @@ use stored_table::Decoded;
 ghost use mathlib.Core.Path.{_≡_};
 ghost use Prim.Native.Nat.{_+_, _*_, _≤_};
 ghost use lib.ListN.{length};
-ghost use Rattle.entry_run.specs.Run.{startNow, Direct, Walk, begin, moved, afterUse, Met, runFrom};
+ghost use Rattle.entry_run.specs.Run.{startNow, Direct, Walk, walkedTo, begin, moved, afterUse, Met, runFrom};
 
 // Where a resolver is: a state of direct resolution, with the candidates tried so far, or, if it walks, a state's number in an
 // image.
@@ -79,6 +79,19 @@ pub fn at_number(number: u8) -> Current
     }
 }
 
+// A walk at another state of its image.
+fn walked_to(x: Current, number: u8) -> Current
+    ensures { λ r. ⌜ r ≡ walkedTo x number ⌝ }
+{
+    let state = x.state;
+    Current {
+        walks: true,
+        number,
+        state,
+        tries: x.tries,
+    }
+}
+
 // No entry read yet, and no candidate tried.
 pub(crate) fn begin_at(x: Current) -> Point
     ensures { λ r. ⌜ r ≡ begin x ⌝ }
@@ -129,7 +142,7 @@ fn moved_by<'a>(
     if current.walks {
         let n = machine_symbols::number(index, symbols, count, parent, nodes, c, k, w);
         let number = machine_checker::image::target(image, categories, current.number, n);
-        return at_number(number);
+        return walked_to(current, number);
     }
     let category = c as usize;
     let st = current.state;

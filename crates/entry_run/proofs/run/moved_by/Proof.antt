@@ -10,11 +10,11 @@ number-requires c κs = search needs
 target-requires : tie.Need-target-requires
 target-requires c κs = search needs
 
-at-number-requires : tie.Need-at-number-requires
-at-number-requires c κs = search needs
+walked-to-requires : tie.Need-walked-to-requires
+walked-to-requires c κs = search needs
 
 returns : tie.Need-returns
-returns c = moved-walk _ _ _ _ _ _ (c .before .before .before .before .before .before .before .args .current) _ _ _ (c .before .before .before .if1 .taken) (c .before .before .number .ensures) (c .before .target .ensures) (c .at-number .ensures)
+returns c = moved-walk _ _ _ _ _ _ (c .before .before .before .before .before .before .before .args .current) _ _ _ (c .before .before .before .if1 .taken) (c .before .before .number .ensures) (c .before .target .ensures) (c .walked-to .ensures)
 
 step-requires : tie.Need-step-requires
 step-requires c κs = search needs
@@ -37,7 +37,7 @@ moved-by-spec =
     (tie.spec
     number-requires
     target-requires
-    at-number-requires
+    walked-to-requires
     returns
     step-requires
     cast-tries
