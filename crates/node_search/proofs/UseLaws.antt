@@ -12,7 +12,8 @@ use lib.ListN.{length-drop, length-take}
 use lib.Dec.{eqb, leb}
 use borrow.Author.Tests.{lt-leb, le-leb, lt-ltb, le-ltb, eq-eqb, ne-eqb, eqb-true}
 use Rattle.resolution.specs.Names.{sameName}
-use Rattle.text_bytes.specs.Text.{upTo, past, commonNext, differAt, endsAt, lowered}
+use Rattle.text_bytes.specs.Text.{upTo, past, lowered}
+use Rattle.text_bytes.specs.Words.{commonNext, differAt, endsAt}
 use Rattle.alert_urn.specs.Urn.{alertUrn}
 use Rattle.text_bytes.proofs.Cases.{lowered-length, lowered-ends, lowered-upTo, lowered-past}
 use Rattle.text_bytes.proofs.Turns.{differ-next}

@@ -24,7 +24,8 @@ use Rattle.resolution.proofs.Nodes.{urn-exact}
 use Rattle.resolution.specs.Nodes.{number, nodeAt}
 use Rattle.resolution.proofs.Numbers.{number-node, number-at, root-number, ancestor-le}
 use Rattle.resolution.proofs.Deepest.{deep-above, deep-most, leaf-ends, deepest-node}
-use Rattle.text_bytes.specs.Text.{upTo, past, fields, textOf, someBelow, covers, common, commonNext, comparedBytes, lowered}
+use Rattle.text_bytes.specs.Text.{upTo, past, fields, textOf, someBelow, covers, common, comparedBytes, lowered}
+use Rattle.text_bytes.specs.Words.{commonNext}
 use Rattle.alert_urn.specs.Urn.{alertUrn}
 use Rattle.text_bytes.proofs.Fields.{byTest, fields-first, same-fields, text-fields}
 use Rattle.text_bytes.proofs.Cases.{lowered-drop, lowered-twice}

@@ -5,7 +5,8 @@ use mathlib.Core.List.{List}
 use lib.ListN.{length, getD, drop}
 use lib.Dec.{eqb, ltb, leb}
 use Rattle.resolution.specs.Names.{sameName}
-use Rattle.text_bytes.specs.Text.{commonNext, endsAt, lowered}
+use Rattle.text_bytes.specs.Text.{lowered}
+use Rattle.text_bytes.specs.Words.{commonNext, endsAt}
 use Rattle.alert_urn.specs.Urn.{alertUrn, categoryOf, pathOf}
 use Rattle.node_search.specs.Arrays.{stretch}
 use Rattle.node_search.specs.declared.uses.Search.{Search}

@@ -1,9 +1,10 @@
 ghost use mathlib.Core.Path.{_≡_};
-ghost use mathlib.Core.Bool.{cond, _&&_};
+ghost use mathlib.Core.Bool.{true, cond, _&&_};
 ghost use Prim.Native.Nat.{_+_, _*_, _≤_, _<_, min};
 ghost use lib.Dec.{eqb, leb};
 ghost use lib.ListN.{length};
-ghost use Rattle.text_bytes.specs.Text.{differAt, endsAt, lowered};
+ghost use Rattle.text_bytes.specs.Text.{lowered};
+ghost use Rattle.text_bytes.specs.Words.{differAt, endsAt};
 ghost use Rattle.node_search.specs.Arrays.{stretch};
 ghost use Rattle.node_search.specs.Search.{findName, nothing, metWith, countedIn, lookBy, searchFrom, usesOf};
 
@@ -152,18 +153,20 @@ fn departs(p: &[u8], w: &[u8], same: usize, l: usize) -> bool
     false
 }
 
-// The search for w, whatever its letter case, at the node at i, whose path shares l bytes with the one before it.
+// The search for w, whatever its letter case or known to be in small letters, at the node at i, whose path shares l bytes with
+// the one before it.
 fn look<'a>(
     t: &[u8],
     at: &'a [u16; 64],
     len: &'a [u8; 64],
     inner: &'a [bool; 64],
     w: &[u8],
+    small: bool,
     i: usize,
     l: usize,
     s: Search,
 ) -> Search
-    requires { ⌜ (i < 64) × (l ≤ 255) × (s .compared ≤ 255 * i) ⌝ }
+    requires { ⌜ (i < 64) × (l ≤ 255) × (s .compared ≤ 255 * i) × (small ≡ true → lowered (now w) ≡ now w) ⌝ }
     ensures { λ r. ⌜ r ≡ lookBy (now (t .entry)) (now (at .entry)) (now (len .entry)) (now (inner .entry)) (lowered (now (w .entry))) i l s ⌝ }
     ensures { λ r. ⌜ r .compared ≤ 255 * (i + 1) ⌝ }
 {
@@ -174,7 +177,7 @@ fn look<'a>(
     if departs(p, w, s.same, l) {
         return counted(s);
     }
-    let n = text_bytes::letter_case::common_lowered_next(p, w, s.same, l);
+    let n = text_bytes::letter_case::common_lowered_next(p, w, small, s.same, l);
     let k = i as u8 + 1;
     met(p, w, inner[i], k, n, s)
 }
@@ -204,10 +207,12 @@ fn search_nodes<'a>(
         same: 0,
         compared: 0,
     };
+    let small = text_bytes::letter_case::is_lowered(w);
     let mut i = 0;
     while i < n {
         if category[i] == c {
-            s = look(t, at, len, inner, w, i, text_bytes::cut::wide(shared[i]), s);
+            let l = text_bytes::cut::wide(shared[i]);
+            s = look(t, at, len, inner, w, small, i, l, s);
             if s.ends {
                 return s;
             }

@@ -8,10 +8,11 @@ use native.Mathlib.Omega.{arith}
 use lib.ListN.{length, getD, drop, drop-of-length-le}
 use lib.Seq.{drop-cons}
 use lib.Dec.{eqb, ltb, leb}
-use borrow.Author.Tests.{ne-eqb, leb-true, lt-ltb, le-ltb, ltb-true}
+use borrow.Author.Tests.{ne-eqb, eqb-true, eqb-false, leb-true, lt-ltb, le-ltb, ltb-true}
 use Rattle.resolution.specs.Names.{sameName}
 use Rattle.ascii.specs.Ascii.{within}
-use Rattle.text_bytes.specs.Text.{upTo, past, onFirst, fields, differAt, endsAt, lower, lowered}
+use Rattle.text_bytes.specs.Text.{upTo, past, onFirst, fields, lower, lowered}
+use Rattle.text_bytes.specs.Words.{differAt, endsAt}
 use Rattle.resolution.proofs.Names.{name-exact}
 use Rattle.text_bytes.proofs.Fields.{byTest}
 use Rattle.text_bytes.proofs.Turns.{same-lengths}
@@ -160,3 +161,16 @@ fields-case (x ∷ s) =
     byTest (eqb x 58)
     (λ e. rw (lower-other 58 x (omega arith) (inl (omega arith)), e) (ap (λ l. [] ∷ l) (fields-case s)))
     (λ e. rw (lower-other 58 x (omega arith) (inl (omega arith)), e) (ap (onFirst (lower x)) (fields-case s) ∙ first-case x (fields 58 s)))
+
+-- a text of which no byte changes
+pub lowered-as-is : (s : List ℕ) → ((k : ℕ) → k < length s → lower (getD s k 0) ≡ getD s k 0) → lowered s ≡ s
+unfolding lowered
+lowered-as-is [] h = refl
+lowered-as-is (x ∷ s) h = ap₂ _∷_ (h 0 (omega arith)) (lowered-as-is s (λ k l. h (suc k) (omega arith)))
+
+-- one byte more that does not change
+pub as-is-next : (s : List ℕ) (i : ℕ) {b : Bool} → ((k : ℕ) → k < i → lower (getD s k 0) ≡ getD s k 0) → b ≡ within 65 90 (getD s i 0) → b ≡ false
+    → (k : ℕ) → k < i + 1 → lower (getD s k 0) ≡ getD s k 0
+as-is-next s i v e t k h = byTest (eqb k i)
+    (λ b. let z = eqb-true k i b in ap (λ j. lower (getD s j 0)) z ∙ sym (lower-out (getD s i 0) e t) ∙ ap (λ j. getD s j 0) (sym z))
+    (λ b. let z = eqb-false k i b in v k (omega arith))

@@ -13,7 +13,8 @@ use lib.Dec.{eqb, ltb}
 use borrow.Author.Tests.{eq-eqb, ne-eqb, eqb-true, eqb-false, lt-ltb, le-ltb, ltb-true, ltb-false, not-true}
 use Rattle.resolution.specs.Names.{sameName}
 use Rattle.resolution.proofs.Names.{name-exact}
-use Rattle.text_bytes.specs.Text.{all, upTo, covers, wordOf, common, commonNext, differAt, endsDiffer, comparedBytes, endsAt}
+use Rattle.text_bytes.specs.Text.{all, upTo, covers, common, comparedBytes}
+use Rattle.text_bytes.specs.Words.{wordOf, commonNext, differAt, endsDiffer, endsAt}
 use Rattle.ascii.specs.Ascii.{bytes}
 use Rattle.text_bytes.proofs.Fields.{byTest, coversBytes, covers-fields}
 

@@ -1,2 +1,4 @@
 -- what a reader has to believe
 pub mod Text
+-- what only the code's inner promises use: how texts are compared
+pub mod Words

@@ -1,10 +1,10 @@
 -- Texts as bytes: the parts between colons, what two of them have in common, and letter case.
-use Prim.Native.Nat.{ℕ, zero, suc, _+_, _-_, _*_, min}
-use mathlib.Core.Bool.{Bool, true, false, cond, not, _&&_}
+use Prim.Native.Nat.{ℕ, suc, _+_, min}
+use mathlib.Core.Bool.{Bool, true, false, cond, _&&_}
 use mathlib.Core.Option.{Option, none, some}
 use mathlib.Core.List.{List, [], _∷_, _++_}
-use lib.ListN.{length, getD, drop}
-use lib.Dec.{ltb, eqb}
+use lib.ListN.{length}
+use lib.Dec.{eqb}
 use Rattle.resolution.specs.Names.{Parts, below}
 use Rattle.ascii.specs.Ascii.{within}
 
@@ -59,38 +59,9 @@ common [] w = 0
 common (x ∷ p) [] = 0
 common (x ∷ p) (y ∷ w) = cond (eqb x y) (suc (common p w)) 0
 
--- how many bytes p and w have in common, where another text has k in common with w and l with p
-unfoldable pub commonNext : List ℕ → List ℕ → ℕ → ℕ → ℕ
-commonNext p w k l = cond (eqb k l) (k + common (drop k p) (drop k w)) (min k l)
-
--- both texts have a byte at n, and not the same one
-unfoldable pub differAt : List ℕ → List ℕ → ℕ → Bool
-differAt p w n = ltb n (length p) && (ltb n (length w) && not (eqb (getD p n 0) (getD w n 0)))
-
 -- how many bytes of p are compared with w, from the first: those that w has at the same places, and the first that it lacks there
 unfoldable pub comparedBytes : List ℕ → List ℕ → ℕ
 comparedBytes p w = min (length p) (common p w + 1)
-
--- a part of the text ends before the byte at n: with the text, or at a colon
-unfoldable pub endsAt : List ℕ → ℕ → Bool
-endsAt w n = cond (ltb n (length w)) (eqb (getD w n 0) 58) true
-
--- n bytes from i on as one number, the first lowest
-abbrev pub wordOf : List ℕ → ℕ → ℕ → ℕ
-wordOf s i zero = 0
-wordOf s i (suc n) = getD s i 0 + 256 * wordOf s (i + 1) n
-
--- the texts differ in n bytes from i on, taken as one number
-abbrev pub wordsDiffer : List ℕ → List ℕ → ℕ → ℕ → Bool
-wordsDiffer a b i n = not (eqb (wordOf a i n) (wordOf b i n))
-
--- the texts differ in their length or at their end: in their last eight bytes, or in the last one where they have fewer
-unfoldable pub endsDiffer : List ℕ → List ℕ → Bool
-endsDiffer a b =
-    cond (eqb (length a) (length b))
-    (cond (eqb (length a) 0) false
-    (cond (ltb (length a) 8) (not (eqb (getD a (length a - 1) 0) (getD b (length a - 1) 0))) (wordsDiffer a b (length a - 8) 8)))
-    true
 
 -- a letter as a small one
 abbrev pub lower : ℕ → ℕ

@@ -4,7 +4,8 @@ ghost use Prim.Native.Nat.{_≤_, _<_, _+_, min};
 ghost use lib.ListN.{length, drop, getD};
 ghost use Rattle.resolution.specs.Names.{sameName};
 ghost use Rattle.ascii.specs.Ascii.{within};
-ghost use Rattle.text_bytes.specs.Text.{endsDiffer, common, wordOf};
+ghost use Rattle.text_bytes.specs.Text.{common};
+ghost use Rattle.text_bytes.specs.Words.{endsDiffer, wordOf};
 
 // lo ≤ x ≤ hi
 pub fn in_range(x: u8, lo: u8, hi: u8) -> bool

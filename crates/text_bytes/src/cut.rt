@@ -2,7 +2,8 @@
 ghost use mathlib.Core.Path.{_≡_};
 ghost use Prim.Native.Nat.{_≤_, _<_};
 ghost use lib.ListN.{length, getD, take, drop};
-ghost use Rattle.text_bytes.specs.Text.{upTo, endsAt};
+ghost use Rattle.text_bytes.specs.Text.{upTo};
+ghost use Rattle.text_bytes.specs.Words.{endsAt};
 
 // A number as an index.
 pub fn wide(x: u8) -> usize

@@ -1,9 +1,11 @@
 // Texts compared without regard to letter case: the letters of one of them are taken as small ones.
 ghost use mathlib.Core.Path.{_≡_};
+ghost use mathlib.Core.Bool.{true};
 ghost use Prim.Native.Nat.{_+_, _≤_, _<_};
 ghost use lib.ListN.{length, drop, getD};
 ghost use Rattle.resolution.specs.Names.{sameName};
-ghost use Rattle.text_bytes.specs.Text.{wordOf, common, commonNext, differAt, lower, lowered};
+ghost use Rattle.text_bytes.specs.Text.{common, lower, lowered};
+ghost use Rattle.text_bytes.specs.Words.{wordOf, commonNext, differAt};
 
 // A letter as a small one.
 pub fn lower_of(x: u8) -> u8
@@ -74,12 +76,29 @@ fn common_lowered_from(p: &[u8], w: &[u8], from: usize) -> usize
     i
 }
 
+// The text has no capital letter, so with its letters taken as small ones it is as it is.
+pub fn is_lowered(s: &[u8]) -> bool
+    ensures { λ r. ⌜ (r ≡ true → lowered (now (s .entry)) ≡ now (s .entry)) ⌝ }
+{
+    let mut i = 0;
+    while i < s.len() {
+        if crate::compare::in_range(s[i], 65, 90) {
+            return false;
+        }
+        i += 1;
+    }
+    true
+}
+
 // How many bytes p has in common with w, whose letters are taken as small ones, where another text has k in common with w and
-// l with p.
-pub fn common_lowered_next(p: &[u8], w: &[u8], k: usize, l: usize) -> usize
-    ensures { λ r. ⌜ r ≡ commonNext (now (p .entry)) (lowered (now (w .entry))) k l ⌝ }
+// l with p. Where w is known to have small letters only, it is compared as it is.
+pub fn common_lowered_next(p: &[u8], w: &[u8], small: bool, k: usize, l: usize) -> usize
+    ensures { λ r. ⌜ ((small ≡ true → lowered (now (w .entry)) ≡ now (w .entry)) → r ≡ commonNext (now (p .entry)) (lowered (now (w .entry))) k l) ⌝ }
 {
     if k == l {
+        if small {
+            return crate::compare::common_from(p, w, k);
+        }
         return common_lowered_from(p, w, k);
     }
     crate::compare::at_most(k, l)

@@ -46,7 +46,7 @@ met-requires c κs = search needs
 
 returns-3 : tie.Need-returns-3
 returns-3 c = let a = c .before .before .before .before .before .before .before .before .before .before .args in
-    (look-met (a .t .now) (a .at .now) (a .len .now) (a .inner .now) (lowered (a .w .now)) (a .i) (a .l) (a .s) (c .before .before .before .before .before .before .if1 .left) (c .before .before .before .before .before .path-at .ensures .0) (c .before .before .common-lowered-next .ensures) (c .met .ensures .0), omega (arith, c .met .ensures .1, c .before .before .before .before .before .before .before .before .before .before .pre))
+    (look-met (a .t .now) (a .at .now) (a .len .now) (a .inner .now) (lowered (a .w .now)) (a .i) (a .l) (a .s) (c .before .before .before .before .before .before .if1 .left) (c .before .before .before .before .before .path-at .ensures .0) (c .before .before .common-lowered-next .ensures (c .before .before .before .before .before .before .before .before .before .before .pre .3)) (c .met .ensures .0), omega (arith, c .met .ensures .1, c .before .before .before .before .before .before .before .before .before .before .pre))
 
 pub look-spec : {M : Type 1} → statement M
 look-spec =
