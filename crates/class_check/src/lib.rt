@@ -28,7 +28,7 @@ fn fits(rows: &[u8], p: &[u8], x: &mut [u8], y: &mut [u8], n: usize, head: usize
         return false;
     }
     numbers::first_states(p, y, n);
-    if !numbers::same(y, x) {
+    if !text_bytes::compare::same(y, x) {
         return false;
     }
     let count = states::discover(rows, x, y, n, head, k);

@@ -5,24 +5,9 @@ ghost use Prim.Native.Nat.{suc, _≤_, _<_};
 ghost use mathlib.Core.Bool.{cond};
 ghost use lib.Dec.{eqb};
 ghost use lib.ListN.{length, getD};
-ghost use Rattle.resolution.specs.Lists.{sameList, tabulate};
+ghost use Rattle.resolution.specs.Lists.{tabulate};
 ghost use Rattle.machine_classes.specs.Refine.{leader, leaders, sameClass, blockNumber};
 ghost use Rattle.class_check.specs.Found.{Firsts};
-
-// Two lists of bytes of one length are the same.
-pub(crate) fn same(a: &[u8], b: &[u8]) -> bool
-    requires { ⌜ length (now a) ≡ length (now b) ⌝ }
-    ensures { λ r. ⌜ r ≡ sameList eqb (now (a .entry)) (now (b .entry)) ⌝ }
-{
-    let mut i = 0;
-    while i < a.len() {
-        if a[i] != b[i] {
-            return false;
-        }
-        i += 1;
-    }
-    true
-}
 
 // The first state of the class of state i.
 fn first_same(p: &[u8], i: usize) -> usize

@@ -3,15 +3,13 @@ use Prim.Native.Nat.{ℕ, suc, _+_, _-_, _*_, _≤_, _<_}
 use mathlib.Core.Path.{_≡_, sym, ap, _∙_}
 use mathlib.Core.Bool.{Bool, true, false}
 use mathlib.Core.List.{List}
-use lib.Dec.{eqb}
-use lib.ListN.{length, getD, set, drop}
-use lib.Seq.{getD-set-same, getD-set-other, ext-getD, drop-cons, drop-length}
-use borrow.Author.Tests.{eq-eqb, ne-eqb}
+use lib.ListN.{length, getD, set}
+use lib.Seq.{getD-set-same, getD-set-other, ext-getD}
 use native.Mathlib.Decide.{ℕ-discrete}
 use native.Mathlib.Numerals.{add-one}
 use native.Mathlib.Nat.{suc-mul, mul-le-mul-right}
 use native.Mathlib.Omega.{arith}
-use Rattle.resolution.specs.Lists.{sameList, tabulate, allBelow}
+use Rattle.resolution.specs.Lists.{tabulate, allBelow}
 use Rattle.resolution.proofs.Lists.{tabulate-at, tabulate-length}
 use Rattle.machine_classes.specs.Proposal.{seek}
 
@@ -71,19 +69,3 @@ filled-all f q n i l h a =
 
 pub filled-copy : (a q : List ℕ) (i : ℕ) → length q ≡ length a → length a ≤ i → Filled (λ j. getD a j 0) q i → q ≡ a
 filled-copy a q i l h f = ext-getD 0 q a l (λ j b. f j (omega arith))
-
--- two lists of one length that were found the same up to i
-module _ (a b : List ℕ) (l : length a ≡ length b) where
-  pub same-more : (i : ℕ) → i < length a → getD a i 0 ≡ getD b i 0 → sameList eqb a b ≡ sameList eqb (drop i a) (drop i b)
-      → sameList eqb a b ≡ sameList eqb (drop (i + 1) a) (drop (i + 1) b)
-  same-more i h e s = s ∙ rw (drop-cons a i 0 h, drop-cons b i 0 (omega arith), eq-eqb (getD a i 0) (getD b i 0) e, add-one)
-
-  pub same-less : (i : ℕ) → i < length a → (getD a i 0 ≡ getD b i 0 → ⊥) → sameList eqb a b ≡ sameList eqb (drop i a) (drop i b)
-      → false ≡ sameList eqb a b
-  same-less i h e s = sym (s ∙ rw (drop-cons a i 0 h, drop-cons b i 0 (omega arith), ne-eqb (getD a i 0) (getD b i 0) e))
-
-  pub same-end : (i : ℕ) → i ≤ length a → length a ≤ i → sameList eqb a b ≡ sameList eqb (drop i a) (drop i b) → true ≡ sameList eqb a b
-  same-end i h k s =
-      let e : i ≡ length a = omega arith in
-      let d : i ≡ length b = omega arith in
-      sym (s ∙ ap (λ z. sameList eqb (drop z a) (drop i b)) e ∙ ap (λ z. sameList eqb (drop (length a) a) (drop z b)) d ∙ rw (drop-length a, drop-length b))

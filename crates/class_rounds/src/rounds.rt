@@ -1,9 +1,8 @@
 use text_bytes::cut::wide;
 ghost use mathlib.Core.Path.{_≡_};
 ghost use Prim.Native.Nat.{_≤_, _<_};
-ghost use lib.Dec.{eqb};
 ghost use lib.ListN.{length};
-ghost use Rattle.resolution.specs.Lists.{sameList, tabulate};
+ghost use Rattle.resolution.specs.Lists.{tabulate};
 ghost use Rattle.machine_classes.specs.Refine.{leader, sameRow, refine, blocks};
 ghost use Rattle.class_rounds.specs.Stored.{storedMachine, Stored};
 
@@ -69,21 +68,6 @@ fn signals(rows: &[u8], p: &mut [u8], n: usize, head: usize, k: usize)
     }
 }
 
-// Two lists of bytes of one length are the same.
-fn same(a: &[u8], b: &[u8]) -> bool
-    requires { ⌜ length (now a) ≡ length (now b) ⌝ }
-    ensures { λ r. ⌜ r ≡ sameList eqb (now (a .entry)) (now (b .entry)) ⌝ }
-{
-    let mut i = 0;
-    while i < a.len() {
-        if a[i] != b[i] {
-            return false;
-        }
-        i += 1;
-    }
-    true
-}
-
 fn copy(a: &[u8], b: &mut [u8])
     requires { ⌜ length (now a) ≡ length (now b) ⌝ }
     ensures { λ r. ⌜ now (b .exit) ≡ now (a .entry) ⌝ }
@@ -104,7 +88,7 @@ pub(crate) fn blocks(rows: &[u8], p: &mut [u8], q: &mut [u8], n: usize, head: us
     let mut r = 0;
     while r < n {
         refine(rows, p, q, n, head, k);
-        if same(p, q) {
+        if text_bytes::compare::same(p, q) {
             return;
         }
         copy(q, p);

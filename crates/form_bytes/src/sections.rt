@@ -1,25 +1,15 @@
 use crate::put;
+use node_search::texts::name_text;
 use table_sections::bytes::small;
 use text_bytes::cut::wide;
-use text_bytes::cut::wider;
 ghost use mathlib.Core.Path.{_≡_};
 ghost use Prim.Native.Nat.{_≤_};
-ghost use lib.ListN.{length, take, drop};
+ghost use lib.ListN.{length};
 ghost use Rattle.resolution.specs.Lists.{tabulate};
 ghost use Rattle.node_search.specs.Arrays.{stretch};
 ghost use Rattle.table_forms.specs.Bytes.{textBytes, section};
 ghost use Rattle.tree_sections.specs.Held.{numberAt};
 ghost use Rattle.form_bytes.specs.Laid.{Puts, ofSignal};
-
-// The n bytes from a on.
-pub fn text_in(t: &[u8], a: u16, n: u8) -> &[u8]
-    ensures { λ r. ⌜ now r ≡ take n (drop a (now (t .entry))) ⌝ }
-    ensures short { λ r. ⌜ length (now r) ≤ 255 ⌝ }
-{
-    let x = wider(a);
-    let k = wide(n);
-    text_bytes::cut::part(t, x, k)
-}
 
 // The section of the categories, at the front.
 pub fn names(t: &[u8], n: usize, name_at: &[u16; 8], name_len: &[u8; 8], buf: &mut [u8]) -> usize
@@ -32,7 +22,7 @@ pub fn names(t: &[u8], n: usize, name_at: &[u16; 8], name_len: &[u8; 8], buf: &m
     let mut p = put::byte(buf, 0, small(n));
     let mut i = 0;
     while i < n {
-        p = put::text(buf, p, text_in(t, name_at[i], name_len[i]));
+        p = put::text(buf, p, name_text(t, name_at, name_len, i));
         i += 1;
     }
     p

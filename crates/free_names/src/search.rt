@@ -1,9 +1,10 @@
 use crate::z_name;
-use table_sections::texts::name_text;
+use node_search::texts::name_text;
+use node_search::texts::node_text;
 ghost use mathlib.Core.Path.{_≡_};
 ghost use mathlib.Core.List.{List, _∷_, _++_};
 ghost use Prim.Native.Nat.{_≤_, _<_};
-ghost use lib.ListN.{length, take, drop, getD};
+ghost use lib.ListN.{length, getD};
 ghost use Rattle.resolution.specs.Lists.{memberBy};
 ghost use Rattle.resolution.specs.Names.{Name, sameName};
 ghost use Rattle.resolution.specs.Table.{Urn, urn, Table};
@@ -75,15 +76,6 @@ fn made_of(p: &[u8], z: &[u8], w: &[u8]) -> bool
     false
 }
 
-// The bytes from `at` on, as many as `len` says.
-fn text(t: &[u8], at: u16, len: u8) -> &[u8]
-    ensures { λ r. ⌜ now r ≡ take len (drop at (now (t .entry))) ⌝ }
-{
-    let from = at as usize;
-    let size = len as usize;
-    text_bytes::cut::part(t, from, size)
-}
-
 // The node at j is of category c, with the path p, a colon and z.
 fn node_is(
     t: &[u8],
@@ -102,7 +94,7 @@ fn node_is(
         ⌝ }
 {
     if c == category[j] {
-        let w = text(t, at[j], len[j]);
+        let w = node_text(t, at, len, j);
         return made_of(p, z, w);
     }
     false

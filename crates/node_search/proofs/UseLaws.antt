@@ -6,9 +6,8 @@ use mathlib.Core.List.{List}
 use mathlib.Core.Logic.{inl}
 use native.Mathlib.Omega.{arith}
 use native.Mathlib.Numerals.{add-one}
-use lib.ListN.{length, getD, take, drop}
+use lib.ListN.{length, getD, take, drop, length-drop}
 use lib.Seq.{take-all}
-use lib.ListN.{length-drop, length-take}
 use lib.Dec.{eqb, leb}
 use borrow.Author.Tests.{lt-leb, le-leb, lt-ltb, le-ltb, eq-eqb, ne-eqb, eqb-true}
 use Rattle.resolution.specs.Names.{sameName}
@@ -166,7 +165,3 @@ pub path-part : (uri s : List ℕ) {k : ℕ} {p : List ℕ} → s ≡ drop 10 ur
 path-part uri s {k} e d f =
     f ∙ take-all (length uri) (drop (k + 1) s) (simp length-drop (omega (arith, ap length e, length-drop 10 uri)))
     ∙ ap (λ m. drop m s) (add-one k ∙ ap suc d) ∙ past-drop 58 s
-
--- a part of n bytes has at most n
-pub part-short : (t : List ℕ) (at n : ℕ) {p : List ℕ} → p ≡ take n (drop at t) → n ≤ 255 → length p ≤ 255
-part-short t at n e h = omega (arith, ap length e, length-take n (drop at t))

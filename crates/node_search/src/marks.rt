@@ -1,5 +1,6 @@
 // What the search keeps of each node beside its category and path: how many bytes the path shares with the one before it in its
 // category, and whether the node has nodes under it. Found once, when a table is decoded.
+use crate::texts::node_text;
 ghost use mathlib.Core.Path.{_≡_};
 ghost use mathlib.Core.Bool.{false, not, _||_};
 ghost use Prim.Native.Nat.{ℕ, _+_, _≤_, _<_, min};
@@ -55,7 +56,7 @@ fn path_before<'a, 'b>(
     while 0 < j {
         let k = j - 1;
         if category[k] == c {
-            return crate::uses::path_at(t, at, len, k);
+            return node_text(t, at, len, k);
         }
         j = k;
     }
@@ -85,7 +86,7 @@ fn share_paths<'a>(
     let mut i = 0;
     while i < n {
         let before = path_before(t, category[i], i, category, at, len);
-        let path = crate::uses::path_at(t, at, len, i);
+        let path = node_text(t, at, len, i);
         let k = text_bytes::compare::common_from(before, path, 0);
         shared[i] = small(k);
         i += 1;

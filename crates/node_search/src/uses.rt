@@ -1,3 +1,5 @@
+use crate::texts::name_text;
+use crate::texts::node_text;
 ghost use mathlib.Core.Path.{_≡_};
 ghost use mathlib.Core.Bool.{true, cond, _&&_};
 ghost use Prim.Native.Nat.{_+_, _*_, _≤_, _<_, min};
@@ -5,7 +7,6 @@ ghost use lib.Dec.{eqb, leb};
 ghost use lib.ListN.{length};
 ghost use Rattle.text_bytes.specs.Text.{lowered};
 ghost use Rattle.text_bytes.specs.Words.{differAt, endsAt};
-ghost use Rattle.node_search.specs.Arrays.{stretch};
 ghost use Rattle.node_search.specs.Search.{findName, nothing, metWith, countedIn, lookBy, searchFrom, usesOf};
 
 // What a URI is to the table: skipped, or used, with its deepest node, or the root, whether it is that node, and the
@@ -43,30 +44,12 @@ fn find_name<'a>(
 {
     let mut i = 0;
     while i < n {
-        let from = text_bytes::cut::wider(name_at[i]);
-        let size = text_bytes::cut::wide(name_len[i]);
-        if text_bytes::letter_case::same_lowered(s, text_bytes::cut::part(t, from, size)) {
+        if text_bytes::letter_case::same_lowered(s, name_text(t, name_at, name_len, i)) {
             return i;
         }
         i += 1;
     }
     8
-}
-
-// The path of the node at i, in the table's bytes.
-pub(crate) fn path_at<'a, 'b>(
-    t: &'a [u8],
-    at: &'b [u16; 64],
-    len: &'b [u8; 64],
-    i: usize,
-) -> &'a [u8]
-    requires { ⌜ i < 64 ⌝ }
-    ensures { λ r. ⌜ now r ≡ stretch (now (t .entry)) (now (at .entry)) (now (len .entry)) i ⌝ }
-    ensures short { λ r. ⌜ length (now r) ≤ 255 ⌝ }
-{
-    let from = text_bytes::cut::wider(at[i]);
-    let size = text_bytes::cut::wide(len[i]);
-    text_bytes::cut::part(t, from, size)
 }
 
 // A path of so many bytes, n of them in common with w, is w or above it.
@@ -173,7 +156,7 @@ fn look<'a>(
     if s.same < l {
         return counted(s);
     }
-    let p = path_at(t, at, len, i);
+    let p = node_text(t, at, len, i);
     if departs(p, w, s.same, l) {
         return counted(s);
     }

@@ -1,8 +1,9 @@
 use stored_table::Decoded;
+use text_bytes::cut::text_in;
 ghost use mathlib.Core.Path.{_≡_};
 ghost use mathlib.Core.List.{_∷_, _++_};
 ghost use Prim.Native.Nat.{_+_, _≤_, _<_};
-ghost use lib.ListN.{length, take, drop};
+ghost use lib.ListN.{length};
 ghost use lib.Seq.{sets};
 ghost use Rattle.resolution.specs.Table.{urn};
 ghost use Rattle.resolution.specs.Nodes.{nodes, nodeAt};
@@ -88,15 +89,6 @@ fn strange_part(t: &[u8], d: Decoded, c: u8, p: &[u8], buf: &mut [u8], at: usize
     put(buf, a, &bytes[from..to])
 }
 
-// The bytes from `at` on, as many as `len` says.
-fn text(t: &[u8], at: u16, len: u8) -> &[u8]
-    ensures { λ r. ⌜ now r ≡ take len (drop at (now (t .entry))) ⌝ }
-{
-    let from = at as usize;
-    let size = len as usize;
-    text_bytes::cut::part(t, from, size)
-}
-
 // An entry with the node at i, or with a strange part under it.
 fn node_entry(t: &[u8], d: Decoded, kind: u32, i: usize, buf: &mut [u8], at: usize) -> usize
     requires { ⌜ Ready (now t) d × (i < d .nodes) × (at + 271 ≤ length (now buf)) ⌝ }
@@ -106,8 +98,8 @@ fn node_entry(t: &[u8], d: Decoded, kind: u32, i: usize, buf: &mut [u8], at: usi
         ⌝ }
 {
     let c = d.category[i] as usize;
-    let name = text(t, d.name_at[c], d.name_len[c]);
-    let path = text(t, d.at[i], d.len[i]);
+    let name = text_in(t, d.name_at[c], d.name_len[c]);
+    let path = text_in(t, d.at[i], d.len[i]);
     let e = open(buf, at, name, path);
     if kind == 1 {
         let f = strange_part(t, d, d.category[i], path, buf, e);

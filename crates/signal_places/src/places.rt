@@ -1,6 +1,6 @@
+use node_search::texts::urn_text;
 use node_step::rows::place_in;
 use node_step::rows::with_place;
-use table_sections::texts::urn_text;
 use text_bytes::cut::wide;
 use text_bytes::cut::wider;
 ghost use mathlib.Core.Path.{_≡_};

@@ -1,6 +1,7 @@
 use form_bytes::put::all;
 use form_bytes::put::byte;
-use form_bytes::sections::text_in;
+use node_search::texts::node_text;
+use text_bytes::cut::text_in;
 use text_bytes::cut::wide;
 ghost use mathlib.Core.Path.{_≡_};
 ghost use Prim.Native.Nat.{_+_, _≤_, _<_};
@@ -47,8 +48,7 @@ fn last_of<'a>(t: &'a [u8], at: &[u16; 64], len: &[u8; 64], k: usize) -> &'a [u8
     if 64 < k {
         return text_in(t, 0, 0);
     }
-    let i = k - 1;
-    text_in(t, at[i], len[i])
+    node_text(t, at, len, k - 1)
 }
 
 // The n parts of node k, each after a colon.

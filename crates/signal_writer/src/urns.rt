@@ -2,7 +2,7 @@ use crate::paths::put_path;
 use form_bytes::put::all;
 use form_bytes::put::byte;
 use form_bytes::sections::count_of;
-use form_bytes::sections::text_in;
+use node_search::texts::name_text;
 use table_sections::bytes::small;
 use text_bytes::cut::wide;
 ghost use Prim.Native.Nat.{_+_, _-_, _≤_, _<_};
@@ -38,7 +38,7 @@ fn put_urn(
     let n = depth[i];
     let c = wide(category[i]);
     let p = byte(buf, from, small(z));
-    let q = all(buf, p, text_in(t, name_at[c], name_len[c]));
+    let q = all(buf, p, name_text(t, name_at, name_len, c));
     put_path(t, k, n, parent, at, len, buf, q)
 }
 

@@ -1,4 +1,4 @@
-use table_sections::texts::urn_text;
+use node_search::texts::urn_text;
 ghost use mathlib.Core.Path.{_≡_};
 ghost use Prim.Native.Nat.{_≤_};
 ghost use Rattle.resolution.specs.Lists.{tabulate};

@@ -1,6 +1,6 @@
-use table_sections::texts::name_text;
+use node_search::texts::name_text;
+use node_search::texts::node_text;
 use text_bytes::cut::wide;
-use tree_nodes::texts::last_text;
 ghost use mathlib.Core.Path.{_≡_};
 ghost use mathlib.Core.Bool.{cond};
 ghost use Prim.Native.Nat.{_≤_, _-_};
@@ -41,7 +41,7 @@ pub(crate) fn sizes(
         let p = wide(parent[i]);
         let c = wide(category[i]);
         let first = name_text(t, name_at, name_len, c).len();
-        let last = last_text(t, at, len, i).len();
+        let last = node_text(t, at, len, i).len();
         let base = above(p, first, out);
         let size = base + 1 + last;
         out[i] = size;

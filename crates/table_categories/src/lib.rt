@@ -1,10 +1,10 @@
 // The names of a table's categories: their form, that none is listed twice, and the category of each URN.
 //
 // In: the names and the URNs as places in the bytes. Out: 7 and 8 as two tests, and each URN's category.
+use node_search::texts::name_text;
+use node_search::texts::urn_text;
 use table_sections::bytes::short;
 use table_sections::bytes::small;
-use table_sections::texts::name_text;
-use table_sections::texts::urn_text;
 use text_bytes::cut::wide;
 use text_bytes::cut::wider;
 ghost use mathlib.Core.Path.{_≡_};

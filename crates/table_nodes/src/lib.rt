@@ -1,6 +1,7 @@
 // The nodes of a table, from the categories and paths of its URNs: each one's category, parent and path, and the node of every URN.
 //
 // In: the URNs' categories and paths as places in the bytes. Out: the nodes in their order, in arrays, or that there are over 64.
+use node_search::texts::node_text;
 use table_sections::bytes::short;
 use table_sections::bytes::small;
 use text_bytes::cut::wide;
@@ -13,18 +14,7 @@ ghost use Rattle.resolution.specs.Lists.{tabulate};
 ghost use Rattle.resolution.specs.Table.{urn};
 ghost use Rattle.resolution.specs.Nodes.{sameUrn, isNode, number};
 ghost use Rattle.text_bytes.specs.Text.{fields};
-ghost use Rattle.node_search.specs.Arrays.{stretch};
 ghost use Rattle.table_nodes.specs.Nodes.{nodeUrn, Clear, AddsNode, AddsPath, AddsUrn, AllAdded};
-
-// The path of node i + 1.
-fn node_text<'a>(t: &'a [u8], at: &[u16; 64], len: &[u8; 64], i: usize) -> &'a [u8]
-    requires { ⌜ i < 64 ⌝ }
-    ensures { λ r. ⌜ now r ≡ stretch (now (t .entry)) (now (at .entry)) (now (len .entry)) i ⌝ }
-{
-    let a = wider(at[i]);
-    let n = wide(len[i]);
-    text_bytes::cut::part(t, a, n)
-}
 
 // Node i + 1 has the category c and the path s.
 fn node_is(

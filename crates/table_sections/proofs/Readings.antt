@@ -6,7 +6,7 @@ use mathlib.Core.List.{List, [], _∷_, _++_, map, append-assoc, append-nil}
 use native.Mathlib.Nat.{sub-zero}
 use native.Mathlib.Numerals.{add-one}
 use native.Mathlib.Omega.{arith}
-use lib.ListN.{length, getD, take, drop, set, length-take}
+use lib.ListN.{length, getD, take, drop, set}
 use lib.Seq.{getD-set-same, getD-set-other}
 use Rattle.node_search.specs.Arrays.{stretch}
 use lib.Dec.{leb, ltb}
@@ -137,9 +137,6 @@ stretch-set t at len i a n h k = rw (getD-set-same at i a 0 h, getD-set-same len
 
 pub stretch-keep : (t at len : List ℕ) (i a n j : ℕ) → j < i → stretch t (set at i a) (set len i n) j ≡ stretch t at len j
 stretch-keep t at len i a n j h = let q : j ≡ i → ⊥ = λ e. omega arith in rw (getD-set-other at i j a 0 q, getD-set-other len i j n 0 q)
-
-pub short-part : (t : List ℕ) (a n : ℕ) {r : List ℕ} → r ≡ take n (drop a t) → n < 256 → length r ≤ 255
-short-part t a n e h = omega (arith, ap length e, length-take n (drop a t))
 
 pub text-inside : {r : Reading} (t : List ℕ) (hi : ℕ) {n p : ℕ} → textInside t hi r → r ≡ Got n p → (n ≤ hi) × (n ≤ p) × (p ≤ length t)
 text-inside t hi b e = subst (λ (z : Reading). textInside t hi z) e b

@@ -3,13 +3,11 @@
 // In: any bytes. Out: 4 to 6, or where everything stands.
 //
 //   bytes.rt       bytes, and positions in them
-//   texts.rt       a name's and a URN's text
 //   categories.rt  the section of the categories
 //   signals.rt     the section of the signals
 pub mod bytes;
 pub mod categories;
 mod signals;
-pub mod texts;
 
 use crate::bytes::Reading;
 use crate::bytes::byte_in;

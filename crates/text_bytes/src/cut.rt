@@ -58,6 +58,16 @@ pub fn part(t: &[u8], at: usize, len: usize) -> &[u8]
     &t[at..end]
 }
 
+// A text that is held as a place and a length.
+pub fn text_in(t: &[u8], at: u16, len: u8) -> &[u8]
+    ensures { λ r. ⌜ now r ≡ take len (drop at (now (t .entry))) ⌝ }
+    ensures short { λ r. ⌜ length (now r) ≤ 255 ⌝ }
+{
+    let from = at as usize;
+    let size = len as usize;
+    part(t, from, size)
+}
+
 // A part of the text ends before the byte at n: with the text, or at a colon.
 pub fn ends_at(w: &[u8], n: usize) -> bool
     ensures { λ r. ⌜ r ≡ endsAt (now (w .entry)) n ⌝ }

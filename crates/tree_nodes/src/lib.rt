@@ -2,7 +2,7 @@
 //
 // In: a tree's sections as places in the bytes. Out: 7 for names, and 21, each as a test.
 //
-//   texts.rt    last names, and their form
+//   texts.rt    the form of last names
 //   parents.rt  categories and parents
 //   repeats.rt  no node stands twice
 //   order.rt    every node is used, in its order

@@ -1,4 +1,4 @@
-use crate::texts::last_text;
+use node_search::texts::node_text;
 ghost use mathlib.Core.Path.{_≡_};
 ghost use Prim.Native.Nat.{_≤_, _<_};
 ghost use Rattle.resolution.specs.Lists.{tabulate};
@@ -26,7 +26,7 @@ fn alike(
         let p = parent[i];
         let q = parent[j];
         if p == q {
-            return text_bytes::compare::same(last_text(t, at, len, i), last_text(t, at, len, j));
+            return text_bytes::compare::same(node_text(t, at, len, i), node_text(t, at, len, j));
         }
         return false;
     }

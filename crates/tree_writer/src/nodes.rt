@@ -1,7 +1,7 @@
 use form_bytes::put::byte;
 use form_bytes::put::text;
-use form_bytes::sections::text_in;
 use table_sections::bytes::small;
+use text_bytes::cut::text_in;
 ghost use mathlib.Core.Path.{_≡_};
 ghost use Prim.Native.Nat.{_+_, _≤_, _<_};
 ghost use lib.ListN.{length, take, drop};

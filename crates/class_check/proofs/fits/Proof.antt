@@ -21,9 +21,7 @@ first-states-requires : tie.Need-first-states-requires
 first-states-requires c κs = search needs
 
 same-requires : tie.Need-same-requires
-same-requires c κs = let a = c .before .before .before .before .before .before .before .before .before .before .before .before .args in
-    ap length (c .before .before .before .before .first-states .ensures) ∙ tabulate-length (leader (sameClass (a .p .now))) (a .n)
-    ∙ sym (ap length (c .before .before .before .before .before .before .before .before .before .before .before .before .pre .2) ∙ refined-length (storedMachine (a .rows .now) (a .n) (a .head) (a .k)) (a .n))
+same-requires c κs = search needs
 
 same-length : tie.Need-same-length
 same-length c = search needs

@@ -26,7 +26,7 @@ same-requires : tie.Need-same-requires Inv-loop μ-loop
 same-requires c κs = search needs
 
 returns : tie.Need-returns Inv-loop μ-loop
-returns c = (λ h. index-hit _ _ _ _ _ (c .before .before .before .before .loop .inv .1 h) (c .before .before .before .loop-test .taken) (c .before .same .ensures ∙ ap (sameName (c .before .before .before .before .before .before .before .args .s .now)) (c .before .before .name-text .ensures (omega arith))) (c .if1 .taken), omega arith)
+returns c = (λ h. index-hit _ _ _ _ _ (c .before .before .before .before .loop .inv .1 h) (c .before .before .before .loop-test .taken) (c .before .same .ensures ∙ ap (sameName (c .before .before .before .before .before .before .before .args .s .now)) (c .before .before .name-text .ensures .0 (omega arith))) (c .if1 .taken), omega arith)
 
 add-i : tie.Need-add-i Inv-loop μ-loop
 add-i c = search needs
@@ -35,7 +35,7 @@ loop-less : tie.Need-loop-less Inv-loop μ-loop
 loop-less c = omega arith
 
 loop-again : tie.Need-loop-again Inv-loop μ-loop
-loop-again c = (omega arith, λ h. index-next _ _ _ _ (c .before .before .before .before .before .before .before .args .n) (c .before .before .before .before .loop .inv .1 h) (c .before .same .ensures ∙ ap (sameName (c .before .before .before .before .before .before .before .args .s .now)) (c .before .before .name-text .ensures (omega arith))) (c .if1 .left))
+loop-again c = (omega arith, λ h. index-next _ _ _ _ (c .before .before .before .before .before .before .before .args .n) (c .before .before .before .before .loop .inv .1 h) (c .before .same .ensures ∙ ap (sameName (c .before .before .before .before .before .before .before .args .s .now)) (c .before .before .name-text .ensures .0 (omega arith))) (c .if1 .left))
 
 returns-2 : tie.Need-returns-2 Inv-loop μ-loop
 returns-2 c = (λ h. index-none _ _ _ _ _ (c .before .loop .inv .1 h) (c .before .loop .inv .0) (c .loop-test .left), omega arith)

@@ -28,7 +28,7 @@ name-index-requires : tie.Need-name-index-requires Inv-loop μ-loop
 name-index-requires c κs = search needs
 
 returns : tie.Need-returns Inv-loop μ-loop
-returns c = λ h. name-twice _ _ _ (c .before .before .name-text .ensures (omega arith)) (c .before .name-index .ensures .0 (omega arith)) (c .before .before .before .loop-test .taken) (c .if1 .taken)
+returns c = λ h. name-twice _ _ _ (c .before .before .name-text .ensures .0 (omega arith)) (c .before .name-index .ensures .0 (omega arith)) (c .before .before .before .loop-test .taken) (c .if1 .taken)
 
 add-i : tie.Need-add-i Inv-loop μ-loop
 add-i c = search needs
@@ -37,7 +37,7 @@ loop-less : tie.Need-loop-less Inv-loop μ-loop
 loop-less c = omega arith
 
 loop-again : tie.Need-loop-again Inv-loop μ-loop
-loop-again c = (omega arith, λ h. name-once _ _ (c .before .before .before .before .before .before .args .n) (c .before .before .name-text .ensures (omega arith)) (c .before .name-index .ensures .0 (omega arith)) (c .before .before .before .before .loop .inv .1 h) (c .if1 .left))
+loop-again c = (omega arith, λ h. name-once _ _ (c .before .before .before .before .before .before .args .n) (c .before .before .name-text .ensures .0 (omega arith)) (c .before .name-index .ensures .0 (omega arith)) (c .before .before .before .before .loop .inv .1 h) (c .if1 .left))
 
 returns-2 : tie.Need-returns-2 Inv-loop μ-loop
 returns-2 c = λ h. two-ends _ _ _ _ (c .before .loop .inv .1 h) (c .before .loop .inv .0) (c .loop-test .left)

@@ -33,10 +33,10 @@ loop-less : tie.Need-loop-less Inv-loop μ-loop
 loop-less c = omega arith
 
 loop-again : tie.Need-loop-again Inv-loop μ-loop
-loop-again c = (omega arith, λ h. all-next _ _ _ (c .before .before .before .before .loop .inv .1 h) (c .before .stored-name .ensures ∙ ap storedName (c .before .before .name-text .ensures (omega arith))) (c .if1 .taken))
+loop-again c = (omega arith, λ h. all-next _ _ _ (c .before .before .before .before .loop .inv .1 h) (c .before .stored-name .ensures ∙ ap storedName (c .before .before .name-text .ensures .0 (omega arith))) (c .if1 .taken))
 
 returns : tie.Need-returns Inv-loop μ-loop
-returns c = λ h. all-fails _ _ _ _ (c .before .before .before .loop-test .taken) (c .before .stored-name .ensures ∙ ap storedName (c .before .before .name-text .ensures (omega arith))) (c .if1 .left)
+returns c = λ h. all-fails _ _ _ _ (c .before .before .before .loop-test .taken) (c .before .stored-name .ensures ∙ ap storedName (c .before .before .name-text .ensures .0 (omega arith))) (c .if1 .left)
 
 returns-2 : tie.Need-returns-2 Inv-loop μ-loop
 returns-2 c = λ h. all-ends _ _ _ _ (c .before .loop .inv .1 h) (c .before .loop .inv .0) (c .loop-test .left)

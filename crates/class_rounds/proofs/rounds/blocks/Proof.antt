@@ -27,8 +27,7 @@ refine-requires c κs = let a = c .before .before .before .before .before .befor
     (c .before .before .before .before .before .before .before .before .before .before .before .pre .0, ap length (c .before .before .before .loop .inv .2) ∙ refined-length (storedMachine (a .rows .now) (a .n) (a .head) (a .k)) (c .before .before .before .loop .r), c .before .before .before .loop .inv .1)
 
 same-requires : tie.Need-same-requires Inv-loop μ-loop
-same-requires c κs = let a = c .before .before .before .before .before .before .before .before .before .before .before .before .before .before .before .before .args in
-    ap length (c .before .before .before .before .before .before .before .before .loop .inv .2) ∙ refined-length (storedMachine (a .rows .now) (a .n) (a .head) (a .k)) (c .before .before .before .before .before .before .before .before .loop .r) ∙ sym (ap length (c .before .before .before .before .refine .ensures) ∙ refine-length (storedMachine (a .rows .now) (a .n) (a .head) (a .k)) (c .before .before .before .before .before .before .before .before .loop .p))
+same-requires c κs = search needs
 
 same-length : tie.Need-same-length Inv-loop μ-loop
 same-length c = let a = c .before .before .before .before .before .before .before .before .before .before .before .before .before .before .before .before .before .before .args in

@@ -29,17 +29,8 @@ byte-requires c κs = search needs
 loop-holds : tie.Need-loop-holds Inv-loop μ-loop
 loop-holds c = (omega arith, omega (arith, c .before .before .byte .ensures (omega arith) .end), each-start textBytes (stretch (c .before .before .before .before .before .before .before .before .args .t .now) (c .before .before .before .before .before .before .before .before .args .name-at .now) (c .before .before .before .before .before .before .before .before .args .name-len .now)) _ _)
 
-mul-text-in : tie.Need-mul-text-in Inv-loop μ-loop
-mul-text-in c = search needs
-
-element-copy-out-text-in : tie.Need-element-copy-out-text-in Inv-loop μ-loop
-element-copy-out-text-in c = search needs
-
-element-copy-out-text-in-2 : tie.Need-element-copy-out-text-in-2 Inv-loop μ-loop
-element-copy-out-text-in-2 c = search needs
-
-text-in-requires : tie.Need-text-in-requires Inv-loop μ-loop
-text-in-requires c κs = search needs
+name-text-requires : tie.Need-name-text-requires Inv-loop μ-loop
+name-text-requires c κs = search needs
 
 text-requires : tie.Need-text-requires Inv-loop μ-loop
 text-requires c κs = search needs
@@ -51,10 +42,10 @@ loop-less : tie.Need-loop-less Inv-loop μ-loop
 loop-less c = omega arith
 
 loop-again : tie.Need-loop-again Inv-loop μ-loop
-loop-again c = let l = c .before .before .before .before .before .before .before .before .loop .inv in
-    let w = c .before .before .before .text-in .ensures in
+loop-again c = let l = c .before .before .before .before .before .before .loop .inv in
+    let w = c .before .before .before .name-text .ensures in
     let G = c .before .before .text .ensures (omega (arith, l .1)) (w .1) in
-    (omega arith, omega (arith, l .1, G .end, w .1), each-next textBytes (stretch (c .before .before .before .before .before .before .before .before .before .before .before .before .before .before .before .before .before .args .t .now) (c .before .before .before .before .before .before .before .before .before .before .before .before .before .before .before .before .before .args .name-at .now) (c .before .before .before .before .before .before .before .before .before .before .before .before .before .before .before .before .before .args .name-len .now)) (c .before .before .before .before .before .before .before .before .loop .i) (l .2) G (ap textBytes (w .0)))
+    (omega arith, omega (arith, l .1, G .end, w .1), each-next textBytes (stretch (c .before .before .before .before .before .before .before .before .before .before .before .before .before .before .before .args .t .now) (c .before .before .before .before .before .before .before .before .before .before .before .before .before .before .before .args .name-at .now) (c .before .before .before .before .before .before .before .before .before .before .before .before .before .before .before .args .name-len .now)) (c .before .before .before .before .before .before .loop .i) (l .2) G (ap textBytes (w .0 (omega arith))))
 
 same-length : tie.Need-same-length Inv-loop μ-loop
 same-length c = c .before .loop .inv .2 .long ∙ c .before .before .before .before .byte .ensures (omega arith) .long
@@ -73,10 +64,7 @@ names-spec =
     small-requires
     byte-requires
     loop-holds
-    mul-text-in
-    element-copy-out-text-in
-    element-copy-out-text-in-2
-    text-in-requires
+    name-text-requires
     text-requires
     add-i
     loop-less

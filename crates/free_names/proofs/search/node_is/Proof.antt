@@ -8,23 +8,14 @@ use Rattle.free_names.proofs.search.node_is.Tie as tie
 element-copy-out-if1 : tie.Need-element-copy-out-if1
 element-copy-out-if1 c = search needs
 
-mul-text : tie.Need-mul-text
-mul-text c = search needs
-
-element-copy-out-text : tie.Need-element-copy-out-text
-element-copy-out-text c = search needs
-
-element-copy-out-text-2 : tie.Need-element-copy-out-text-2
-element-copy-out-text-2 c = search needs
-
-text-requires : tie.Need-text-requires
-text-requires c κs = search needs
+node-text-requires : tie.Need-node-text-requires
+node-text-requires c κs = search needs
 
 made-of-requires : tie.Need-made-of-requires
 made-of-requires c κs = search needs
 
 returns : tie.Need-returns
-returns c = λ u e f. node-same _ _ _ u e (c .before .before .before .before .if1 .taken) (ap (fields 58) (c .before .text .ensures) ∙ f) (c .made-of .ensures)
+returns c = λ u e f. node-same _ _ _ u e (c .before .before .if1 .taken) (ap (fields 58) (c .before .node-text .ensures .0 (c .before .before .before .before .before .before .before .pre)) ∙ f) (c .made-of .ensures)
 
 returns-2 : tie.Need-returns-2
 returns-2 c = λ u e f. node-other _ _ u e (c .if1 .left)
@@ -34,10 +25,7 @@ node-is-spec =
     tie.close
     (tie.spec
     element-copy-out-if1
-    mul-text
-    element-copy-out-text
-    element-copy-out-text-2
-    text-requires
+    node-text-requires
     made-of-requires
     returns
     returns-2)

@@ -22,11 +22,11 @@ sub-k c = search needs
 element-copy-out-if1 : tie.Need-element-copy-out-if1 Inv-loop μ-loop
 element-copy-out-if1 c = omega (arith, c .before .before .before .pre)
 
-path-at-requires : tie.Need-path-at-requires Inv-loop μ-loop
-path-at-requires c κs = omega (arith, c .before .before .before .before .before .pre)
+node-text-requires : tie.Need-node-text-requires Inv-loop μ-loop
+node-text-requires c κs = search needs
 
 returns : tie.Need-returns Inv-loop μ-loop
-returns c = let a = c .before .before .before .before .before .before .args in before-found (a .t .now) (a .category .now) (a .at .now) (a .len .now) (a .c) (a .i) (c .before .before .before .before .loop .j) (c .before .before .before .before .loop .inv .1) (c .before .before .before .loop-test .taken) (c .before .if1 .taken) (c .path-at .ensures .0)
+returns c = let a = c .before .before .before .before .before .before .args in before-found (a .t .now) (a .category .now) (a .at .now) (a .len .now) (a .c) (a .i) (c .before .before .before .before .loop .j) (c .before .before .before .before .loop .inv .1) (c .before .before .before .loop-test .taken) (c .before .if1 .taken) (c .node-text .ensures .0 (omega (arith, c .before .before .before .before .before .before .pre)))
 
 loop-less : tie.Need-loop-less Inv-loop μ-loop
 loop-less c = omega arith
@@ -49,7 +49,7 @@ path-before-spec =
     loop-holds
     sub-k
     element-copy-out-if1
-    path-at-requires
+    node-text-requires
     returns
     loop-less
     loop-again

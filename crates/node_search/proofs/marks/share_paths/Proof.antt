@@ -24,14 +24,14 @@ element-copy-out-path-before c = search needs
 path-before-requires : tie.Need-path-before-requires Inv-loop μ-loop
 path-before-requires c κs = search needs
 
-path-at-requires : tie.Need-path-at-requires Inv-loop μ-loop
-path-at-requires c κs = search needs
+node-text-requires : tie.Need-node-text-requires Inv-loop μ-loop
+node-text-requires c κs = search needs
 
 common-from-requires : tie.Need-common-from-requires Inv-loop μ-loop
 common-from-requires c κs = search needs
 
 small-requires : tie.Need-small-requires Inv-loop μ-loop
-small-requires c κs = omega (arith, c .common-from .ensures, common-le (c .before .before .path-before .result .now) (c .before .path-at .result .now), c .before .path-at .ensures .1)
+small-requires c κs = omega (arith, c .common-from .ensures, common-le (c .before .before .path-before .result .now) (c .before .node-text .result .now), c .before .node-text .ensures .1)
 
 element-write-shared : tie.Need-element-write-shared Inv-loop μ-loop
 element-write-shared c = search needs
@@ -45,7 +45,7 @@ loop-less c = omega arith
 loop-again : tie.Need-loop-again Inv-loop μ-loop
 loop-again c = let a = c .before .before .before .before .before .before .before .before .args in
     let l = c .before .before .before .before .before .before .loop in
-    (omega arith, length-set (l .shared) (l .i) (c .small .result) ∙ l .inv .1, shared-more (a .t .now) (a .category .now) (a .at .now) (a .len .now) (l .shared) (l .i) (l .inv .2) (omega (arith, l .inv .1, c .before .before .before .before .before .before .before .before .pre .0)) (c .before .before .before .path-before .ensures) (c .before .before .path-at .ensures .0) (c .before .common-from .ensures) (c .small .ensures))
+    (omega arith, length-set (l .shared) (l .i) (c .small .result) ∙ l .inv .1, shared-more (a .t .now) (a .category .now) (a .at .now) (a .len .now) (l .shared) (l .i) (l .inv .2) (omega (arith, l .inv .1, c .before .before .before .before .before .before .before .before .pre .0)) (c .before .before .before .path-before .ensures) (c .before .before .node-text .ensures .0 (omega (arith, c .before .before .before .before .before .before .before .before .pre .0))) (c .before .common-from .ensures) (c .small .ensures))
 
 returns : tie.Need-returns Inv-loop μ-loop
 returns c = λ j h. c .before .loop .inv .2 j (omega (arith, c .loop-test .left))
@@ -59,7 +59,7 @@ share-paths-spec =
     loop-holds
     element-copy-out-path-before
     path-before-requires
-    path-at-requires
+    node-text-requires
     common-from-requires
     small-requires
     element-write-shared

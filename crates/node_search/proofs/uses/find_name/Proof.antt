@@ -1,9 +1,8 @@
 use Rattle.text_bytes.specs.Text.{lowered}
 use native.Mathlib.Omega.{arith}
-use Prim.Native.Nat.{ℕ, _≤_, _-_}
-use mathlib.Core.Path.{_≡_, ap, ap₂, sym, _∙_}
+use Prim.Native.Nat.{_≤_, _-_}
+use mathlib.Core.Path.{_≡_, ap, sym, _∙_}
 use native.Mathlib.Nat.{sub-zero}
-use lib.ListN.{take, drop}
 use Rattle.resolution.specs.Names.{sameName}
 use Rattle.node_search.specs.Search.{findName}
 use Rattle.node_search.proofs.UseLaws.{name-found, name-more, name-none}
@@ -21,33 +20,17 @@ loop-holds : tie.Need-loop-holds Inv-loop μ-loop
 loop-holds c = let a = c .before .before .args in
     (omega arith, ap (findName (a .t .now) (a .name-at .now) (a .name-len .now) (lowered (a .s .now)) 0) (sym (sub-zero (a .n))))
 
-mul-wider : tie.Need-mul-wider Inv-loop μ-loop
-mul-wider c = search needs
-
-element-copy-out-wider : tie.Need-element-copy-out-wider Inv-loop μ-loop
-element-copy-out-wider c = search needs
-
-wider-requires : tie.Need-wider-requires Inv-loop μ-loop
-wider-requires c κs = search needs
-
-element-copy-out-wide : tie.Need-element-copy-out-wide Inv-loop μ-loop
-element-copy-out-wide c = search needs
-
-wide-requires : tie.Need-wide-requires Inv-loop μ-loop
-wide-requires c κs = search needs
-
-part-requires : tie.Need-part-requires Inv-loop μ-loop
-part-requires c κs = search needs
+name-text-requires : tie.Need-name-text-requires Inv-loop μ-loop
+name-text-requires c κs = search needs
 
 same-lowered-requires : tie.Need-same-lowered-requires Inv-loop μ-loop
 same-lowered-requires c κs = search needs
 
 returns : tie.Need-returns Inv-loop μ-loop
-returns c = let a = c .before .before .before .before .before .before .before .before .before .before .before .args in
-    let l = c .before .before .before .before .before .before .before .before .loop in
-    name-found (a .t .now) (lowered (a .s .now)) (a .name-at .now) (a .name-len .now) (a .n) (l .i) (l .inv .1) (c .before .before .before .before .before .before .before .loop-test .taken)
-    (c .before .same-lowered .ensures ∙ ap (sameName (lowered (a .s .now)))
-    (c .before .before .part .ensures ∙ ap₂ (λ (x : ℕ) (y : ℕ). take y (drop x (a .t .now))) (c .before .before .before .before .before .wider .ensures .0) (c .before .before .before .wide .ensures .0)))
+returns c = let a = c .before .before .before .before .before .before .before .args in
+    let l = c .before .before .before .before .loop in
+    name-found (a .t .now) (lowered (a .s .now)) (a .name-at .now) (a .name-len .now) (a .n) (l .i) (l .inv .1) (c .before .before .before .loop-test .taken)
+    (c .before .same-lowered .ensures ∙ ap (sameName (lowered (a .s .now))) (c .before .before .name-text .ensures .0 (omega (arith, c .before .before .before .before .before .before .before .pre))))
     (c .if1 .taken)
 
 add-i : tie.Need-add-i Inv-loop μ-loop
@@ -57,12 +40,11 @@ loop-less : tie.Need-loop-less Inv-loop μ-loop
 loop-less c = omega arith
 
 loop-again : tie.Need-loop-again Inv-loop μ-loop
-loop-again c = let a = c .before .before .before .before .before .before .before .before .before .before .before .args in
-    let l = c .before .before .before .before .before .before .before .before .loop in (
+loop-again c = let a = c .before .before .before .before .before .before .before .args in
+    let l = c .before .before .before .before .loop in (
       omega arith,
-      name-more (a .t .now) (lowered (a .s .now)) (a .name-at .now) (a .name-len .now) (a .n) (l .i) (l .inv .1) (c .before .before .before .before .before .before .before .loop-test .taken)
-          (c .before .same-lowered .ensures ∙ ap (sameName (lowered (a .s .now)))
-          (c .before .before .part .ensures ∙ ap₂ (λ (x : ℕ) (y : ℕ). take y (drop x (a .t .now))) (c .before .before .before .before .before .wider .ensures .0) (c .before .before .before .wide .ensures .0)))
+      name-more (a .t .now) (lowered (a .s .now)) (a .name-at .now) (a .name-len .now) (a .n) (l .i) (l .inv .1) (c .before .before .before .loop-test .taken)
+          (c .before .same-lowered .ensures ∙ ap (sameName (lowered (a .s .now))) (c .before .before .name-text .ensures .0 (omega (arith, c .before .before .before .before .before .before .before .pre))))
           (c .if1 .left),
     )
 
@@ -77,12 +59,7 @@ find-name-spec =
     Inv-loop
     μ-loop
     loop-holds
-    mul-wider
-    element-copy-out-wider
-    wider-requires
-    element-copy-out-wide
-    wide-requires
-    part-requires
+    name-text-requires
     same-lowered-requires
     returns
     add-i

@@ -14,19 +14,19 @@ returns : tie.Need-returns
 returns c = let a = c .before .before .before .before .before .args in
     (look-counted (a .t .now) (a .at .now) (a .len .now) (a .inner .now) (lowered (a .w .now)) (a .i) (a .l) (a .s) (c .before .if1 .taken) (c .counted .ensures), omega (arith, c .before .if1 .taken, c .before .before .before .before .before .pre, ap (λ (s : Search). s .compared) (c .counted .ensures)))
 
-path-at-requires : tie.Need-path-at-requires
-path-at-requires c κs = search needs
+node-text-requires : tie.Need-node-text-requires
+node-text-requires c κs = search needs
 
 departs-requires : tie.Need-departs-requires
 departs-requires c κs = search needs
 
 counted-requires-2 : tie.Need-counted-requires-2
 counted-requires-2 c κs = let a = c .before .before .before .before .before .before .before .args in
-    (omega (arith, c .before .before .before .before .before .before .before .pre, departs-same (c .before .before .path-at .result .now) (lowered (a .w .now)) (a .s .same) (a .l) (c .before .departs .ensures) (c .if2 .taken)), omega (arith, c .before .before .before .before .before .before .before .pre))
+    (omega (arith, c .before .before .before .before .before .before .before .pre, departs-same (c .before .before .node-text .result .now) (lowered (a .w .now)) (a .s .same) (a .l) (c .before .departs .ensures) (c .if2 .taken)), omega (arith, c .before .before .before .before .before .before .before .pre))
 
 returns-2 : tie.Need-returns-2
 returns-2 c = let a = c .before .before .before .before .before .before .before .before .args in
-    let d = look-departs (a .t .now) (a .at .now) (a .len .now) (a .inner .now) (lowered (a .w .now)) (a .i) (a .l) (a .s) (c .before .before .before .before .if1 .left) (c .before .before .before .path-at .ensures .0) (c .before .before .departs .ensures) (c .before .if2 .taken) (c .before .before .before .path-at .ensures .1) (c .counted2 .ensures) in
+    let d = look-departs (a .t .now) (a .at .now) (a .len .now) (a .inner .now) (lowered (a .w .now)) (a .i) (a .l) (a .s) (c .before .before .before .before .if1 .left) (c .before .before .before .node-text .ensures .0 (c .before .before .before .before .before .before .before .before .pre .0)) (c .before .before .departs .ensures) (c .before .if2 .taken) (c .before .before .before .node-text .ensures .1) (c .counted2 .ensures) in
     (d .0, omega (arith, d .1, c .before .before .before .before .before .before .before .before .pre, ap (λ (s : Search). s .compared) (c .counted2 .ensures)))
 
 common-lowered-next-requires : tie.Need-common-lowered-next-requires
@@ -46,7 +46,7 @@ met-requires c κs = search needs
 
 returns-3 : tie.Need-returns-3
 returns-3 c = let a = c .before .before .before .before .before .before .before .before .before .before .args in
-    (look-met (a .t .now) (a .at .now) (a .len .now) (a .inner .now) (lowered (a .w .now)) (a .i) (a .l) (a .s) (c .before .before .before .before .before .before .if1 .left) (c .before .before .before .before .before .path-at .ensures .0) (c .before .before .common-lowered-next .ensures (c .before .before .before .before .before .before .before .before .before .before .pre .3)) (c .met .ensures .0), omega (arith, c .met .ensures .1, c .before .before .before .before .before .before .before .before .before .before .pre))
+    (look-met (a .t .now) (a .at .now) (a .len .now) (a .inner .now) (lowered (a .w .now)) (a .i) (a .l) (a .s) (c .before .before .before .before .before .before .if1 .left) (c .before .before .before .before .before .node-text .ensures .0 (c .before .before .before .before .before .before .before .before .before .before .pre .0)) (c .before .before .common-lowered-next .ensures (c .before .before .before .before .before .before .before .before .before .before .pre .3)) (c .met .ensures .0), omega (arith, c .met .ensures .1, c .before .before .before .before .before .before .before .before .before .before .pre))
 
 pub look-spec : {M : Type 1} → statement M
 look-spec =
@@ -54,7 +54,7 @@ look-spec =
     (tie.spec
     counted-requires
     returns
-    path-at-requires
+    node-text-requires
     departs-requires
     counted-requires-2
     returns-2

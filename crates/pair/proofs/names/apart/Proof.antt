@@ -23,14 +23,14 @@ at-most-requires-2 c κs = search needs
 loop-holds : tie.Need-loop-holds Inv-loop μ-loop
 loop-holds c = passed-none _ _
 
-name-requires : tie.Need-name-requires Inv-loop μ-loop
-name-requires c κs = search needs
+name-text-requires : tie.Need-name-text-requires Inv-loop μ-loop
+name-text-requires c κs = search needs
 
 none-is-requires : tie.Need-none-is-requires Inv-loop μ-loop
 none-is-requires c κs = search needs
 
 returns : tie.Need-returns Inv-loop μ-loop
-returns c = apart-stop _ _ _ _ _ _ _ _ _ (c .before .before .before .before .before .before .at-most .ensures .0) (c .before .before .before .before .before .at-most2 .ensures .0) (c .before .before .before .loop-test .taken) (c .before .none-is .ensures) (c .before .before .name .ensures) (not-true _ (c .if1 .taken))
+returns c = apart-stop _ _ _ _ _ _ _ _ _ (c .before .before .before .before .before .before .at-most .ensures .0) (c .before .before .before .before .before .at-most2 .ensures .0) (c .before .before .before .loop-test .taken) (c .before .none-is .ensures) (c .before .before .name-text .ensures .0 (omega (arith, c .before .before .before .loop-test .taken, c .before .before .before .before .before .before .at-most .ensures .1))) (not-true _ (c .if1 .taken))
 
 add-i : tie.Need-add-i Inv-loop μ-loop
 add-i c = search needs
@@ -39,7 +39,7 @@ loop-less : tie.Need-loop-less Inv-loop μ-loop
 loop-less c = omega (arith, c .before .before .before .loop-test .taken)
 
 loop-again : tie.Need-loop-again Inv-loop μ-loop
-loop-again c = passed-more _ _ _ (c .before .before .before .before .loop .inv) (c .before .before .before .loop-test .taken) (none-is _ _ _ _ _ _ _ _ (c .before .none-is .ensures) (c .before .before .name .ensures) ∙ not-false _ (c .if1 .left))
+loop-again c = passed-more _ _ _ (c .before .before .before .before .loop .inv) (c .before .before .before .loop-test .taken) (none-is _ _ _ _ _ _ _ _ (c .before .none-is .ensures) (c .before .before .name-text .ensures .0 (omega (arith, c .before .before .before .loop-test .taken, c .before .before .before .before .before .before .at-most .ensures .1))) ∙ not-false _ (c .if1 .left))
 
 returns-2 : tie.Need-returns-2 Inv-loop μ-loop
 returns-2 c = apart-is _ _ _ _ _ _ _ _ (c .before .before .before .at-most .ensures .0) (c .before .before .at-most2 .ensures .0) (passed-all _ _ _ (c .before .loop .inv) (c .loop-test .left))
@@ -53,7 +53,7 @@ apart-spec =
     at-most-requires
     at-most-requires-2
     loop-holds
-    name-requires
+    name-text-requires
     none-is-requires
     returns
     add-i

@@ -15,14 +15,14 @@ abbrev μ-loop : tie.MeasureT-loop
 loop-holds : tie.Need-loop-holds Inv-loop μ-loop
 loop-holds c = passed-none _ _
 
-name-requires : tie.Need-name-requires Inv-loop μ-loop
-name-requires c κs = search needs
+name-text-requires : tie.Need-name-text-requires Inv-loop μ-loop
+name-text-requires c κs = search needs
 
 same-requires : tie.Need-same-requires Inv-loop μ-loop
 same-requires c κs = search needs
 
 returns : tie.Need-returns Inv-loop μ-loop
-returns c = none-stop _ _ _ _ _ _ (c .before .before .before .loop-test .taken) (c .before .same .ensures) (c .before .before .name .ensures) (c .if1 .taken)
+returns c = none-stop _ _ _ _ _ _ (c .before .before .before .loop-test .taken) (c .before .same .ensures) (c .before .before .name-text .ensures .0 (omega arith)) (c .if1 .taken)
 
 add-j : tie.Need-add-j Inv-loop μ-loop
 add-j c = search needs
@@ -31,7 +31,7 @@ loop-less : tie.Need-loop-less Inv-loop μ-loop
 loop-less c = omega (arith, c .before .before .before .loop-test .taken)
 
 loop-again : tie.Need-loop-again Inv-loop μ-loop
-loop-again c = passed-more _ _ _ (c .before .before .before .before .loop .inv) (c .before .before .before .loop-test .taken) (other-differs _ _ _ _ _ (c .before .same .ensures) (c .before .before .name .ensures) (c .if1 .left))
+loop-again c = passed-more _ _ _ (c .before .before .before .before .loop .inv) (c .before .before .before .loop-test .taken) (other-differs _ _ _ _ _ (c .before .same .ensures) (c .before .before .name-text .ensures .0 (omega arith)) (c .if1 .left))
 
 returns-2 : tie.Need-returns-2 Inv-loop μ-loop
 returns-2 c = passed-all _ _ _ (c .before .loop .inv) (c .loop-test .left)
@@ -43,7 +43,7 @@ none-is-spec =
     Inv-loop
     μ-loop
     loop-holds
-    name-requires
+    name-text-requires
     same-requires
     returns
     add-j

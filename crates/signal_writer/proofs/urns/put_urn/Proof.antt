@@ -33,41 +33,32 @@ small-requires c κs = search needs
 byte-requires : tie.Need-byte-requires
 byte-requires c κs = search needs
 
-mul-text-in : tie.Need-mul-text-in
-mul-text-in c = omega (arith, c .before .before .before .before .before .before .wide .ensures .0, c .before .before .before .before .before .before .before .before .before .before .before .before .pre .2)
-
-element-copy-out-text-in : tie.Need-element-copy-out-text-in
-element-copy-out-text-in c = omega (arith, c .before .before .before .before .before .before .wide .ensures .0, c .before .before .before .before .before .before .before .before .before .before .before .before .pre .2)
-
-element-copy-out-text-in-2 : tie.Need-element-copy-out-text-in-2
-element-copy-out-text-in-2 c = omega (arith, c .before .before .before .before .before .before .before .wide .ensures .0, c .before .before .before .before .before .before .before .before .before .before .before .before .before .pre .2)
-
-text-in-requires : tie.Need-text-in-requires
-text-in-requires c κs = search needs
+name-text-requires : tie.Need-name-text-requires
+name-text-requires c κs = search needs
 
 all-requires : tie.Need-all-requires
 all-requires c κs = search needs
 
 put-path-requires : tie.Need-put-path-requires
-put-path-requires c κs = let g = c .before .before .before .before .before .before .before .before .before .before .before .before .before .before .before .before .before .before .before .pre in
-    let w = c .before .before .before .before .text-in .ensures .1 in
-    let F = c .before .before .before .before .before .before .before .before .before .before .byte .ensures (omega (arith, g .5)) in
+put-path-requires c κs = let g = c .before .before .before .before .before .before .before .before .before .before .before .before .before .before .before .before .before .pre in
+    let w = c .before .before .before .before .name-text .ensures .1 in
+    let F = c .before .before .before .before .before .before .before .before .byte .ensures (omega (arith, g .5)) in
     let H = c .before .before .before .all .ensures (omega (arith, w, F .end, g .5)) in
     (g .4, omega (arith, w, F .end, H .end, g .5))
 
 same-length : tie.Need-same-length
-same-length c = let g = c .before .before .before .before .before .before .before .before .before .before .before .before .before .before .before .before .before .before .before .before .before .before .pre in
-    let w = c .before .before .before .before .before .before .before .text-in .ensures .1 in
-    let F = c .before .before .before .before .before .before .before .before .before .before .before .before .before .byte .ensures (omega (arith, g .5)) in
+same-length c = let g = c .before .before .before .before .before .before .before .before .before .before .before .before .before .before .before .before .before .before .before .before .pre in
+    let w = c .before .before .before .before .before .before .before .name-text .ensures .1 in
+    let F = c .before .before .before .before .before .before .before .before .before .before .before .byte .ensures (omega (arith, g .5)) in
     c .before .before .put-path .ensures .0 .long ∙ c .before .before .before .before .before .before .all .ensures (omega (arith, w, F .end, g .5)) .long ∙ F .long
 
 returns : tie.Need-returns
-returns c = let a = c .before .before .before .before .before .before .before .before .before .before .before .before .before .before .before .before .before .before .before .before .before .before .args in
-    let g = c .before .before .before .before .before .before .before .before .before .before .before .before .before .before .before .before .before .before .before .before .before .before .pre in
-    let w = c .before .before .before .before .before .before .before .text-in .ensures in
-    let F = c .before .before .before .before .before .before .before .before .before .before .before .before .before .byte .ensures (omega (arith, g .5)) in
+returns c = let a = c .before .before .before .before .before .before .before .before .before .before .before .before .before .before .before .before .before .before .before .before .args in
+    let g = c .before .before .before .before .before .before .before .before .before .before .before .before .before .before .before .before .before .before .before .before .pre in
+    let w = c .before .before .before .before .before .before .before .name-text .ensures in
+    let F = c .before .before .before .before .before .before .before .before .before .before .before .byte .ensures (omega (arith, g .5)) in
     let H = c .before .before .before .before .before .before .all .ensures (omega (arith, w .1, F .end, g .5)) in
-    (puts-urn (a .t .now) (a .name-at .now) (a .name-len .now) (a .category .now) (a .parent .now) (a .at .now) (a .len .now) (a .size .now) (a .depth .now) (a .k) (one-byte (c .before .before .before .before .before .before .before .before .before .before .before .before .before .before .small .ensures) (omega (arith, g .3))) (c .before .before .before .before .before .before .before .before .before .before .before .before .before .before .before .before .wide .ensures .0) (w .0) F H (c .before .before .put-path .ensures .0), omega (arith, F .end, H .end, w .1, c .before .before .put-path .ensures .1))
+    (puts-urn (a .t .now) (a .name-at .now) (a .name-len .now) (a .category .now) (a .parent .now) (a .at .now) (a .len .now) (a .size .now) (a .depth .now) (a .k) (one-byte (c .before .before .before .before .before .before .before .before .before .before .before .before .small .ensures) (omega (arith, g .3))) (c .before .before .before .before .before .before .before .before .before .before .before .before .before .before .wide .ensures .0) (w .0 (omega (arith, c .before .before .before .before .before .before .before .before .before .before .before .before .before .before .wide .ensures .0, g .2))) F H (c .before .before .put-path .ensures .0), omega (arith, F .end, H .end, w .1, c .before .before .put-path .ensures .1))
 
 pub put-urn-spec : {M : Type 1} → statement M
 put-urn-spec =
@@ -82,10 +73,7 @@ put-urn-spec =
     wide-requires
     small-requires
     byte-requires
-    mul-text-in
-    element-copy-out-text-in
-    element-copy-out-text-in-2
-    text-in-requires
+    name-text-requires
     all-requires
     put-path-requires
     same-length

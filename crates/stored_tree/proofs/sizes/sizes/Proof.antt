@@ -33,23 +33,23 @@ wide-requires-2 c κs = search needs
 name-text-requires : tie.Need-name-text-requires Inv-loop μ-loop
 name-text-requires c κs = search needs
 
-last-text-requires : tie.Need-last-text-requires Inv-loop μ-loop
-last-text-requires c κs = search needs
+node-text-requires : tie.Need-node-text-requires Inv-loop μ-loop
+node-text-requires c κs = search needs
 
 above-requires : tie.Need-above-requires Inv-loop μ-loop
 above-requires c κs = omega (arith, c .before .before .before .before .before .wide .ensures .0, c .before .before .before .before .before .before .before .before .before .before .pre .3 .low _ (c .before .before .before .before .before .before .before .loop-test .taken))
 
 add-size : tie.Need-add-size Inv-loop μ-loop
 add-size c = let a = c .before .before .before .before .before .before .before .before .before .before .before .args in
-    let n = ap length (c .before .before .before .name-text .ensures (omega (arith, c .before .before .before .before .wide2 .ensures .0, c .before .before .before .before .before .before .before .before .before .before .before .pre .3 .few _ (c .before .before .before .before .before .before .before .before .loop-test .taken)))) in
+    let n = ap length (c .before .before .before .name-text .ensures .0 (omega (arith, c .before .before .before .before .wide2 .ensures .0, c .before .before .before .before .before .before .before .before .before .before .before .pre .3 .few _ (c .before .before .before .before .before .before .before .before .loop-test .taken)))) in
     let m = stretch-le (a .t .now) (a .name-at .now) (a .name-len .now) (c .before .before .before .before .wide2 .result) in
     let b = base-le (a .parent .now) (a .category .now) (c .before .before .before .before .before .before .before .before .before .loop .out) (a .n) (c .before .before .before .before .before .before .before .before .before .loop .i) (c .before .before .before .before .before .before .before .before .before .before .before .pre .3) (c .before .before .before .before .before .before .before .before .loop-test .taken) (c .before .before .before .before .before .before .before .before .before .loop .inv .3) (c .before .before .before .before .before .before .wide .ensures .0) (c .above .ensures) (omega (arith, n, m, c .before .before .before .before .before .before .before .before .before .before .before .pre .2)) in omega (arith, b)
 
 add-size-2 : tie.Need-add-size-2 Inv-loop μ-loop
 add-size-2 c = let a = c .before .before .before .before .before .before .before .before .before .before .before .args in
-    let n = ap length (c .before .before .before .name-text .ensures (omega (arith, c .before .before .before .before .wide2 .ensures .0, c .before .before .before .before .before .before .before .before .before .before .before .pre .3 .few _ (c .before .before .before .before .before .before .before .before .loop-test .taken)))) in
+    let n = ap length (c .before .before .before .name-text .ensures .0 (omega (arith, c .before .before .before .before .wide2 .ensures .0, c .before .before .before .before .before .before .before .before .before .before .before .pre .3 .few _ (c .before .before .before .before .before .before .before .before .loop-test .taken)))) in
     let m = stretch-le (a .t .now) (a .name-at .now) (a .name-len .now) (c .before .before .before .before .wide2 .result) in
-    let l = ap length (c .before .before .last-text .ensures .0 (omega arith)) in
+    let l = ap length (c .before .before .node-text .ensures .0 (omega arith)) in
     let k = stretch-le (a .t .now) (a .at .now) (a .len .now) (c .before .before .before .before .before .before .before .before .before .loop .i) in
     let b = base-le (a .parent .now) (a .category .now) (c .before .before .before .before .before .before .before .before .before .loop .out) (a .n) (c .before .before .before .before .before .before .before .before .before .loop .i) (c .before .before .before .before .before .before .before .before .before .before .before .pre .3) (c .before .before .before .before .before .before .before .before .loop-test .taken) (c .before .before .before .before .before .before .before .before .before .loop .inv .3) (c .before .before .before .before .before .before .wide .ensures .0) (c .above .ensures) (omega (arith, n, m, c .before .before .before .before .before .before .before .before .before .before .before .pre .2)) in omega (arith, b, l, k, c .before .before .before .before .before .before .before .before .before .before .before .pre .2)
 
@@ -70,9 +70,9 @@ loop-again c = let a = c .before .before .before .before .before .before .before
     let out = c .before .before .before .before .before .before .before .before .before .loop .out in
     let i = c .before .before .before .before .before .before .before .before .before .loop .i in
     let y : i < length out = omega arith in
-    let n = ap length (c .before .before .before .name-text .ensures (omega (arith, c .before .before .before .before .wide2 .ensures .0, c .before .before .before .before .before .before .before .before .before .before .before .pre .3 .few _ (c .before .before .before .before .before .before .before .before .loop-test .taken)))) in
+    let n = ap length (c .before .before .before .name-text .ensures .0 (omega (arith, c .before .before .before .before .wide2 .ensures .0, c .before .before .before .before .before .before .before .before .before .before .before .pre .3 .few _ (c .before .before .before .before .before .before .before .before .loop-test .taken)))) in
     let m = stretch-le (a .t .now) (a .name-at .now) (a .name-len .now) (c .before .before .before .before .wide2 .result) in
-    let l = ap length (c .before .before .last-text .ensures .0 (omega arith)) in
+    let l = ap length (c .before .before .node-text .ensures .0 (omega arith)) in
     let k = stretch-le (a .t .now) (a .at .now) (a .len .now) i in
     let more : ℕ → ℕ = λ i. suc (length (stretch (a .t .now) (a .at .now) (a .len .now) i)) in (
       omega arith,
@@ -96,7 +96,7 @@ sizes-spec =
     element-copy-out-wide-2
     wide-requires-2
     name-text-requires
-    last-text-requires
+    node-text-requires
     above-requires
     add-size
     add-size-2

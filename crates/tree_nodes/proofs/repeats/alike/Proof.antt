@@ -16,17 +16,17 @@ element-copy-out-p c = search needs
 element-copy-out-q : tie.Need-element-copy-out-q
 element-copy-out-q c = search needs
 
-last-text-requires : tie.Need-last-text-requires
-last-text-requires c κs = search needs
+node-text-requires : tie.Need-node-text-requires
+node-text-requires c κs = search needs
 
-last-text-requires-2 : tie.Need-last-text-requires-2
-last-text-requires-2 c κs = search needs
+node-text-requires-2 : tie.Need-node-text-requires-2
+node-text-requires-2 c κs = search needs
 
 same-requires : tie.Need-same-requires
 same-requires c κs = search needs
 
 returns : tie.Need-returns
-returns c = let a = c .before .before .before .before .before .before .before .before .before .before .args in by-name (a .t .now) (a .category .now) (a .parent .now) (a .at .now) (a .len .now) (a .i) (a .j) (c .before .before .before .before .before .before .if1 .taken) (c .before .before .before .if2 .taken) (c .same .ensures) (c .before .before .last-text .ensures .0 (omega arith)) (c .before .last-text2 .ensures .0 (omega arith))
+returns c = let a = c .before .before .before .before .before .before .before .before .before .before .args in by-name (a .t .now) (a .category .now) (a .parent .now) (a .at .now) (a .len .now) (a .i) (a .j) (c .before .before .before .before .before .before .if1 .taken) (c .before .before .before .if2 .taken) (c .same .ensures) (c .before .before .node-text .ensures .0 (omega arith)) (c .before .node-text2 .ensures .0 (omega arith))
 
 returns-2 : tie.Need-returns-2
 returns-2 c = let a = c .before .before .before .before .before .before .before .args in not-parent (a .t .now) (a .category .now) (a .parent .now) (a .at .now) (a .len .now) (a .i) (a .j) (c .before .before .before .if1 .taken) (c .if2 .left)
@@ -42,8 +42,8 @@ alike-spec =
     element-copy-out-d
     element-copy-out-p
     element-copy-out-q
-    last-text-requires
-    last-text-requires-2
+    node-text-requires
+    node-text-requires-2
     same-requires
     returns
     returns-2

@@ -20,8 +20,8 @@ abbrev μ-loop : tie.MeasureT-loop
 loop-holds : tie.Need-loop-holds Inv-loop μ-loop
 loop-holds c = (omega arith, λ _. all-start _ _)
 
-last-text-requires : tie.Need-last-text-requires Inv-loop μ-loop
-last-text-requires c κs = search needs
+node-text-requires : tie.Need-node-text-requires Inv-loop μ-loop
+node-text-requires c κs = search needs
 
 stored-name-requires : tie.Need-stored-name-requires Inv-loop μ-loop
 stored-name-requires c κs = search needs
@@ -33,10 +33,10 @@ loop-less : tie.Need-loop-less Inv-loop μ-loop
 loop-less c = omega arith
 
 loop-again : tie.Need-loop-again Inv-loop μ-loop
-loop-again c = (omega arith, λ h. all-next _ _ _ (c .before .before .before .before .loop .inv .1 h) (c .before .stored-name .ensures ∙ ap storedName (c .before .before .last-text .ensures .0 (omega arith))) (c .if1 .taken))
+loop-again c = (omega arith, λ h. all-next _ _ _ (c .before .before .before .before .loop .inv .1 h) (c .before .stored-name .ensures ∙ ap storedName (c .before .before .node-text .ensures .0 (omega arith))) (c .if1 .taken))
 
 returns : tie.Need-returns Inv-loop μ-loop
-returns c = λ h. all-fails _ _ _ _ (c .before .before .before .loop-test .taken) (c .before .stored-name .ensures ∙ ap storedName (c .before .before .last-text .ensures .0 (omega arith))) (c .if1 .left)
+returns c = λ h. all-fails _ _ _ _ (c .before .before .before .loop-test .taken) (c .before .stored-name .ensures ∙ ap storedName (c .before .before .node-text .ensures .0 (omega arith))) (c .if1 .left)
 
 returns-2 : tie.Need-returns-2 Inv-loop μ-loop
 returns-2 c = λ h. all-ends _ _ _ _ (c .before .loop .inv .1 h) (c .before .loop .inv .0) (c .loop-test .left)
@@ -48,7 +48,7 @@ lasts-formed-spec =
     Inv-loop
     μ-loop
     loop-holds
-    last-text-requires
+    node-text-requires
     stored-name-requires
     add-i
     loop-less
