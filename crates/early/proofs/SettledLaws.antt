@@ -83,15 +83,6 @@ module _ (rows ps : List ℕ) (inner : List Bool) (n : ℕ) (st : Packed) (c : �
   pub rest-on : (b : ℕ) {a r : Bool} → a ≡ heldKeeps rows ps inner n st c b → a ≡ true → r ≡ allBelow (min n 32) (signalKeeps rows ps inner n st c) → r ≡ rest b
   rest-on b e z i = i ∙ sym (ap (λ x. x && allBelow (min n 32) (signalKeeps rows ps inner n st c)) (sym e ∙ z))
 
--- two states are compared by their two numbers
-pub same-no : (a b : Packed) → (a .signal ≡ b .signal → ⊥) → false ≡ samePacked a b
-unfolding samePacked
-same-no a b n = sym (ap (λ z. z && eqb (a .statuses) (b .statuses)) (ne-eqb (a .signal) (b .signal) n))
-
-pub same-rest : (a b : Packed) → a .signal ≡ b .signal → eqb (a .statuses) (b .statuses) ≡ samePacked a b
-unfolding samePacked
-same-rest a b e = sym (ap (λ z. z && eqb (a .statuses) (b .statuses)) (eq-eqb (a .signal) (b .signal) e))
-
 -- the same state is as settled as it was
 pub same-settled : (f : Packed → Bool) (a b : Packed) {was s : Bool} → was ≡ f a → s ≡ samePacked a b → s ≡ true → was ≡ f b
 same-settled f a b w e z = w ∙ ap f (packed-exact .to a b (sym e ∙ z))

@@ -6,11 +6,11 @@ use alert_cursor::Span;
 use node_search::uses::Use;
 use node_search::uses::uses;
 use node_step::stored::Packed;
+use node_step::stored::same;
 use node_step::stored::step_packed;
 use stored_table::Decoded;
 ghost use mathlib.Core.Path.{_≡_};
 ghost use Prim.Native.Nat.{_≤_};
-ghost use Rattle.node_step.specs.StatusByte.{samePacked};
 ghost use Rattle.early.specs.Run.{afterUse, spanIn, reachedAt, runFrom};
 
 // The signal after so many entries, and whether they are enough.
@@ -76,16 +76,6 @@ fn taken<'a>(
             step_packed(rows, parents, inner, signals, st, category, k, w)
         }
     }
-}
-
-// Two states are the same.
-fn same(a: Packed, b: Packed) -> bool
-    ensures { λ r. ⌜ r ≡ samePacked a b ⌝ }
-{
-    if a.signal != b.signal {
-        return false;
-    }
-    a.statuses == b.statuses
 }
 
 // From entry to entry through the value. Whether the state is settled is asked again only where it is another one.

@@ -1,7 +1,7 @@
 // The states that are reached, by breadth-first discovery, each one's row in its own stretch of a lent part.
 use machine_symbols::steps::next;
-use machine_symbols::steps::same;
 use node_step::stored::Packed;
+use node_step::stored::same;
 use text_bytes::cut::wide;
 ghost use mathlib.Core.Path.{_≡_};
 ghost use mathlib.Core.Bool.{_&&_};

@@ -9,8 +9,8 @@ pub mod form;
 pub mod image;
 mod rows;
 
-use machine_symbols::steps::same;
 use node_step::stored::Packed;
+use node_step::stored::same;
 ghost use mathlib.Core.Path.{_≡_};
 ghost use Rattle.node_step.specs.StatusByte.{fitsBy};
 ghost use Rattle.machine_symbols.specs.Steps.{nextState};

@@ -19,12 +19,3 @@ module _ (rows ps : List ℕ) (inner : List Bool) (n : ℕ) (sy : List ℕ) (st 
       → c ≡ getD sy (3 * k) 0 → r ≡ stepPacked rows ps inner n st c (getD sy (3 * k + 1) 0) (eqb (getD sy (3 * k + 2) 0) 0) → r ≡ nextState rows ps inner n sy st k
   unfolding nextState
   next-is h e f = f ∙ ap (λ z. stepPacked rows ps inner n st z (getD sy (3 * k + 1) 0) (eqb (getD sy (3 * k + 2) 0) 0)) e ∙ sym (rw (lt-ltb k 128 h))
-
--- the test, signal first
-pub same-no : (a b : Packed) → (a .signal ≡ b .signal → ⊥) → false ≡ samePacked a b
-unfolding samePacked
-same-no a b n = sym (rw (ne-eqb (a .signal) (b .signal) n))
-
-pub same-rest : (a b : Packed) → a .signal ≡ b .signal → eqb (a .statuses) (b .statuses) ≡ samePacked a b
-unfolding samePacked
-same-rest a b e = sym (rw (eq-eqb (a .signal) (b .signal) e))

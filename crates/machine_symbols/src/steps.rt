@@ -1,9 +1,8 @@
-// States with their statuses in one number: the step of a symbol, and whether two of them are the same.
+// The step of a symbol, on states with their statuses in one number.
 use node_step::stored::Packed;
 use text_bytes::cut::wide;
 ghost use mathlib.Core.Path.{_≡_};
 ghost use Prim.Native.Nat.{_<_};
-ghost use Rattle.node_step.specs.StatusByte.{samePacked};
 ghost use Rattle.machine_symbols.specs.Steps.{nextState};
 
 // The state after symbol k, which is one of at most 128.
@@ -26,13 +25,4 @@ pub fn next<'a>(
     let d = symbols[at + 1];
     let whole = symbols[at + 2] == 0;
     node_step::stored::step_packed(rows, parents, inner, signals, st, c, d, whole)
-}
-
-pub fn same(a: Packed, b: Packed) -> bool
-    ensures { λ r. ⌜ r ≡ samePacked a b ⌝ }
-{
-    if a.signal != b.signal {
-        return false;
-    }
-    a.statuses == b.statuses
 }

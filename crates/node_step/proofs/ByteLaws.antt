@@ -3,7 +3,7 @@ use Prim.Native.Nat.{ℕ, zero, suc, _+_, _-_, _*_, _^_, _≤_, _<_}
 use mathlib.Core.Path.{_≡_, refl, sym, ap, _∙_}
 use mathlib.Core.Bool.{Bool, true, false, cond}
 use mathlib.Core.List.{List, [], _∷_}
-use lib.Dec.{ltb}
+use lib.Dec.{ltb, eqb}
 use lib.ListN.{length, getD, set, length-replicate, length-set}
 use lib.Seq.{getD-set-same, getD-set-other}
 use native.Mathlib.Nat.{add-zero, zero-add, pow-succ'}
@@ -12,7 +12,8 @@ use native.Mathlib.Omega.{arith}
 use native.Mathlib.Decide.{ℕ-discrete}
 use Rattle.node_step.specs.declared.Status.{Status}
 use Rattle.node_step.specs.declared.Status.the-variants.{Open, Held, Shut}
-use Rattle.node_step.specs.StatusByte.{byteOf, statusOf, packed, unpacked}
+use Rattle.node_step.specs.StatusByte.{byteOf, statusOf, packed, unpacked, samePacked}
+use Rattle.node_step.specs.declared.stored.Packed.{Packed}
 use Rattle.node_step.specs.declared.Progress.{Progress}
 use Rattle.node_step.specs.Step.{digit, statusIn}
 use Rattle.node_step.specs.Rows.{pack}
@@ -131,3 +132,12 @@ pack-again l long numbered =
     at k h =
         unpacked-at (packed l 0 8) 8 k (record { status = Open }) h (omega arith)
         ∙ ap (λ z. record { status = z }) (ap statusOf (packed-digit l k h) ∙ status-byte (statusIn l k) (numbered k h))
+
+-- whether two states are the same, by the signal first
+pub same-no : (a b : Packed) → (a .signal ≡ b .signal → ⊥) → false ≡ samePacked a b
+unfolding samePacked
+same-no a b n = sym (rw (ne-eqb (a .signal) (b .signal) n))
+
+pub same-rest : (a b : Packed) → a .signal ≡ b .signal → eqb (a .statuses) (b .statuses) ≡ samePacked a b
+unfolding samePacked
+same-rest a b e = sym (rw (eq-eqb (a .signal) (b .signal) e))

@@ -15,12 +15,22 @@ ghost use mathlib.Core.Path.{_≡_};
 ghost use mathlib.Core.Bool.{true};
 ghost use Prim.Native.Nat.{_<_};
 ghost use Rattle.node_step.specs.Step.{rowAt, digit, extends};
-ghost use Rattle.node_step.specs.StatusByte.{byteOf, statusOf, stepPacked, movedPacked, fitsBy};
+ghost use Rattle.node_step.specs.StatusByte.{samePacked, byteOf, statusOf, stepPacked, movedPacked, fitsBy};
 
 // A state with its categories' bytes in one number, category 0 lowest.
 pub struct Packed {
     pub signal: u8,
     pub statuses: u64,
+}
+
+// Two states are the same.
+pub fn same(a: Packed, b: Packed) -> bool
+    ensures { λ r. ⌜ r ≡ samePacked a b ⌝ }
+{
+    if a.signal != b.signal {
+        return false;
+    }
+    a.statuses == b.statuses
 }
 
 // The byte of a category: 0 open, 1 shut, 1 + n held at node n.

@@ -18,7 +18,6 @@ use Rattle.early.proofs.run.run.Lts as lts
 use Rattle.alert_cursor.proofs.cursor.Cursor.entry.Reads as entry-reads
 use Rattle.early.proofs.run.begin.Reads as begin-reads
 use Rattle.early.proofs.run.ended.Reads as ended-reads
-use Rattle.early.proofs.run.same.Reads as same-reads
 use Rattle.early.proofs.run.span_in.Reads as span-in-reads
 use Rattle.early.proofs.run.taken.Reads as taken-reads
 use Rattle.early.proofs.settled.settled.Reads as settled-reads

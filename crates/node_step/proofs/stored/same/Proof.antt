@@ -1,6 +1,6 @@
-use Rattle.machine_symbols.proofs.StepLaws.{same-no, same-rest}
-use Rattle.machine_symbols.proofs.steps.same.Statement.{statement}
-use Rattle.machine_symbols.proofs.steps.same.Tie as tie
+use Rattle.node_step.proofs.ByteLaws.{same-no, same-rest}
+use Rattle.node_step.proofs.stored.same.Statement.{statement}
+use Rattle.node_step.proofs.stored.same.Tie as tie
 
 returns : tie.Need-returns
 returns c = let a = c .before .before .before .args in same-no (a .a) (a .b) (c .if1 .taken)
