@@ -2,8 +2,8 @@
 //
 // In: for every URN its signal, category and node, and the nodes' categories. Out: each signal's places as one number, or 9 to 12.
 //
-//   signals.rt  which URN each signal has in each category
-//   places.rt   their nodes as places
+//   places.rt   each signal's places by the nodes of its URNs, and whether two signals have the same
+//   signals.rt  which URN each signal has in each category, for a table with too many nodes; signal 0 without a URN
 mod places;
 mod signals;
 

@@ -30,16 +30,9 @@ fn stored_numbers(t: &[u8], number: &mut [u8; 256], signal: &mut [u8; 256]) -> u
 {
     let mut name_at = [0u16; 8];
     let mut name_len = [0u8; 8];
-    let mut urn_at = [0u16; 256];
-    let mut urn_len = [0u8; 256];
-    let l = table_sections::read(
-        t,
-        &mut name_at,
-        &mut name_len,
-        &mut urn_at,
-        &mut urn_len,
-        signal,
-    );
+    let mut at = [0u16; 256];
+    let mut len = [0u8; 256];
+    let l = table_sections::read(t, &mut name_at, &mut name_len, &mut at, &mut len, signal);
     let mut category = [0u8; 256];
     table_categories::index_urns(
         t,
@@ -47,25 +40,25 @@ fn stored_numbers(t: &[u8], number: &mut [u8; 256], signal: &mut [u8; 256]) -> u
         &name_at,
         &name_len,
         l.urns,
-        &mut urn_at,
-        &mut urn_len,
+        &mut at,
+        &mut len,
         &mut category,
     );
     let mut cats = [0u8; 64];
     let mut parents = [0u8; 64];
-    let mut at = [0u16; 64];
-    let mut len = [0u8; 64];
+    let mut node_at = [0u16; 64];
+    let mut node_len = [0u8; 64];
     table_nodes::add_all(
         t,
         l.urns,
         &category,
-        &urn_at,
-        &urn_len,
+        &at,
+        &len,
         number,
         &mut cats,
         &mut parents,
-        &mut at,
-        &mut len,
+        &mut node_at,
+        &mut node_len,
     );
     l.urns
 }
