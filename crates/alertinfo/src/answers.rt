@@ -1,4 +1,4 @@
-// The commands' answers, each for a table that was read and the arguments after it.
+// The commands' answers, each for a table that was read and the words after it.
 use crate::fields;
 use crate::files;
 use crate::month;
@@ -8,40 +8,40 @@ use crate::words;
 use libc::STDERR_FILENO;
 use libc::STDOUT_FILENO;
 
-// A form or an image goes to the file that argument 3 names.
-fn written(refusal: u8, n: usize, bytes: &[u8]) {
+// A form or an image goes to the file that word 3 names.
+fn written(call: usize, refusal: u8, n: usize, bytes: &[u8]) {
     if refusal != 0 {
         words::refused(refusal);
         return;
     }
-    if files::write(3, bytes, n) {
+    if files::write(files::word(call, 3), bytes, n) {
         words::count(n as u64, b" bytes written\n");
     }
 }
 
-pub fn build(t: &[u8]) {
+pub fn build(call: usize, t: &[u8]) {
     let mut image = io::large_buffer();
     let b = signal_table::build(t, &mut image);
-    written(b.refusal, b.len, &image);
+    written(call, b.refusal, b.len, &image);
 }
 
 // The table with its tree written once.
-pub fn tree(t: &[u8]) {
+pub fn tree(call: usize, t: &[u8]) {
     let mut form = io::large_buffer();
     let c = tree_table::from_signal_table(t, &mut form);
-    written(c.refusal, c.len, &form);
+    written(call, c.refusal, c.len, &form);
 }
 
 // The table of such a tree.
-pub fn untree(t: &[u8]) {
+pub fn untree(call: usize, t: &[u8]) {
     let mut form = io::large_buffer();
     let c = tree_table::to_signal_table(t, &mut form);
-    written(c.refusal, c.len, &form);
+    written(call, c.refusal, c.len, &form);
 }
 
-pub fn check(t: &[u8]) {
+pub fn check(call: usize, t: &[u8]) {
     let mut image = io::large_buffer();
-    let m = files::file(3, &mut image);
+    let m = files::file(files::word(call, 3), &mut image);
     if !m.ok {
         return;
     }
@@ -75,10 +75,10 @@ fn resolution(refusal: u8, signal: u8, used: usize, skipped: usize) {
     io::write_all(STDOUT_FILENO, b"\n");
 }
 
-// By the machine that argument 4 names.
-pub fn walk(t: &[u8], v: &[u8]) {
+// By the machine that word 4 names.
+pub fn walk(call: usize, t: &[u8], v: &[u8]) {
     let mut image = io::large_buffer();
-    let m = files::file(4, &mut image);
+    let m = files::file(files::word(call, 4), &mut image);
     if !m.ok {
         return;
     }
@@ -87,10 +87,10 @@ pub fn walk(t: &[u8], v: &[u8]) {
     resolution(r.refusal, r.signal, r.used as usize, r.skipped as usize);
 }
 
-// By the small machine that argument 3 names.
-pub fn small(t: &[u8], v: &[u8]) {
+// By the small machine that word 3 names.
+pub fn small(call: usize, t: &[u8], v: &[u8]) {
     let mut image = io::large_buffer();
-    let m = files::file(3, &mut image);
+    let m = files::file(files::word(call, 3), &mut image);
     if !m.ok {
         return;
     }
@@ -99,10 +99,10 @@ pub fn small(t: &[u8], v: &[u8]) {
     resolution(r.refusal, r.signal, r.used as usize, r.skipped as usize);
 }
 
-// With only the signals that argument 3 lists.
-pub fn available(t: &[u8], v: &[u8]) {
+// With only the signals that word 3 lists.
+pub fn available(call: usize, t: &[u8], v: &[u8]) {
     let mut text = io::buffer();
-    let n = os::arg(3, &mut text);
+    let n = os::arg(files::word(call, 3), &mut text);
     let s = signals::read(&text[..n]);
     if !s.ok {
         io::write_all(
@@ -115,10 +115,10 @@ pub fn available(t: &[u8], v: &[u8]) {
     resolution(r.refusal, r.signal, r.used as usize, r.skipped as usize);
 }
 
-// A ring by this table, and a lamp by the one that argument 3 names.
-pub fn pair(t: &[u8], v: &[u8]) {
+// A ring by this table, and a lamp by the one that word 3 names.
+pub fn pair(call: usize, t: &[u8], v: &[u8]) {
     let mut lamps = io::large_buffer();
-    let l = files::file(3, &mut lamps);
+    let l = files::file(files::word(call, 3), &mut lamps);
     if !l.ok {
         return;
     }
@@ -156,10 +156,10 @@ fn found(m: signal_table::Match) {
     words::counted(m.compared as u64, b" byte compared\n", b" bytes compared\n");
 }
 
-// What the URI that argument 3 is means to the table.
-pub fn match_uri(t: &[u8]) {
+// What the URI that word 3 is means to the table.
+pub fn match_uri(call: usize, t: &[u8]) {
     let mut uri = io::large_buffer();
-    let n = os::arg(3, &mut uri);
+    let n = os::arg(files::word(call, 3), &mut uri);
     let m = signal_table::match_urn(t, &uri[..n]);
     if m.refusal != 0 {
         words::refused(m.refusal);
@@ -172,10 +172,10 @@ pub fn match_uri(t: &[u8]) {
     found(m);
 }
 
-// The values of one message, from argument 3 on: the signal at the end and the counts of all, or the last refusal if no
+// The values of one message, from word 3 on: the signal at the end and the counts of all, or the last refusal if no
 // value is accepted.
-pub fn feed(t: &[u8], arguments: usize) {
-    let m = fields::all_of(t, arguments);
+pub fn feed(call: usize, t: &[u8], n: usize) {
+    let m = fields::all_of(call, t, n);
     if !m.ok {
         return;
     }
@@ -187,31 +187,31 @@ pub fn feed(t: &[u8], arguments: usize) {
     resolution(0, end.signal, m.used, m.skipped);
 }
 
-// The month of the values in the file that argument 3 names, one a line.
-pub fn tally_file(t: &[u8]) {
+// The month of the values in the file that word 3 names, one a line.
+pub fn tally_file(call: usize, t: &[u8]) {
     let k = signal_table::refusal(t);
     if k != 0 {
         words::refused(k);
         return;
     }
-    let fd = files::opened(3);
+    let fd = files::opened(files::word(call, 3));
     if fd < 0 {
         return;
     }
     let r = month::of_file(fd, t);
     libc::close(fd);
     if r.failed {
-        files::failed(3);
+        files::failed(files::word(call, 3));
         return;
     }
     let m = r.month;
     report::month(m, tally::month::needed(t));
 }
 
-// Whether each call of the log that argument 3 names has the right answer.
-pub fn log(t: &[u8]) {
+// Whether each call of the log that word 3 names has the right answer.
+pub fn log(call: usize, t: &[u8]) {
     let mut calls = io::large_buffer();
-    let l = files::file(3, &mut calls);
+    let l = files::file(files::word(call, 3), &mut calls);
     if !l.ok {
         return;
     }

@@ -78,10 +78,10 @@ fn tell(number: usize, k: u8) {
     words::refusal(STDERR_FILENO, k);
 }
 
-// One value more: argument i.
-fn fed(t: &[u8], m: Message, i: usize, number: usize) -> Message {
+// One value more: word i.
+fn fed(call: usize, t: &[u8], m: Message, i: usize, number: usize) -> Message {
     let mut value = io::large_buffer();
-    let v = files::value(i, &mut value);
+    let v = files::value(files::word(call, i), &mut value);
     if !v.ok {
         return unread(m);
     }
@@ -94,18 +94,18 @@ fn fed(t: &[u8], m: Message, i: usize, number: usize) -> Message {
     with(m, a, after)
 }
 
-fn next(t: &[u8], m: Message, i: usize, number: usize) -> Message {
+fn next(call: usize, t: &[u8], m: Message, i: usize, number: usize) -> Message {
     if m.ok {
-        return fed(t, m, i, number);
+        return fed(call, t, m, i, number);
     }
     m
 }
 
-// The message whose values are the arguments from 3 up to n.
-pub fn all_of(t: &[u8], n: usize) -> Message {
+// The message whose values are the words from 3 up to n.
+pub fn all_of(call: usize, t: &[u8], n: usize) -> Message {
     let mut m = nothing();
     for i in 3..n {
-        m = next(t, m, i, i - 2);
+        m = next(call, t, m, i, i - 2);
     }
     m
 }

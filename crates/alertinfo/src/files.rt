@@ -9,6 +9,16 @@ pub struct Got {
     pub n: usize,
 }
 
+// Which argument word i of a call is. Several calls may stand in one; each begins after the argument `call`.
+pub fn word(call: usize, i: usize) -> usize {
+    if call < 65536 {
+        if i < 65536 {
+            return call + i;
+        }
+    }
+    i
+}
+
 // Argument i is this word.
 pub fn is(i: usize, word: &[u8]) -> bool {
     let mut buf = [0u8; 16];

@@ -13,7 +13,7 @@ mod words;
 use libc::STDERR_FILENO;
 use libc::STDOUT_FILENO;
 
-// What is asked of a table, which is argument 2.
+// What is asked of a table, which is word 2.
 enum Command {
     Build,
     Check,
@@ -56,7 +56,8 @@ fn usage(to: i32) {
 TABLE, TREE, MACHINE, SMALL, RINGS, LAMPS and LOG are files. VALUE is a file, or the value itself if it begins with '<'.
 FILE has one value a line; empty lines are no values. SIGNALS are numbers with commas between, as 0,2,5.
 SEED is a number of at most 32 bits. COUNT values are made from it, one a line.
-A file that is read may be -, standard input. Status: 0 an answer, 1 refused, 2 no answer.
+A file that is read may be -, standard input. Several calls may stand in one, the word `then` between.
+Status: 0 an answer, 1 refused, 2 no answer; of several calls, the first one's.
 ",
     );
 }
@@ -74,9 +75,9 @@ fn list(v: &[u8]) {
     }
 }
 
-fn entries() {
+fn entries(call: usize) {
     let mut value = io::large_buffer();
-    let v = files::value(2, &mut value);
+    let v = files::value(files::word(call, 2), &mut value);
     if !v.ok {
         return;
     }
@@ -89,72 +90,76 @@ fn entries() {
     list(&value[..n]);
 }
 
+fn command_is(call: usize, text: &[u8]) -> bool {
+    files::is(files::word(call, 1), text)
+}
+
 // A command on a table and one more word.
-fn of_one_more() -> Command {
-    if files::is(1, b"build") {
+fn of_one_more(call: usize) -> Command {
+    if command_is(call, b"build") {
         return Command::Build;
     }
-    if files::is(1, b"check") {
+    if command_is(call, b"check") {
         return Command::Check;
     }
-    if files::is(1, b"match") {
+    if command_is(call, b"match") {
         return Command::Match;
     }
-    if files::is(1, b"tally") {
+    if command_is(call, b"tally") {
         return Command::Tally;
     }
-    if files::is(1, b"log") {
+    if command_is(call, b"log") {
         return Command::Log;
     }
-    if files::is(1, b"tree") {
+    if command_is(call, b"tree") {
         return Command::Tree;
     }
-    if files::is(1, b"untree") {
+    if command_is(call, b"untree") {
         return Command::Untree;
     }
-    if files::is(1, b"resolve") {
+    if command_is(call, b"resolve") {
         return Command::Resolve;
     }
-    if files::is(1, b"early") {
+    if command_is(call, b"early") {
         return Command::Early;
     }
     Command::None
 }
 
 // A command on a table and two more words.
-fn of_two_more() -> Command {
-    if files::is(1, b"resolve") {
+fn of_two_more(call: usize) -> Command {
+    if command_is(call, b"resolve") {
         return Command::Walk;
     }
-    if files::is(1, b"available") {
+    if command_is(call, b"available") {
         return Command::Available;
     }
-    if files::is(1, b"pair") {
+    if command_is(call, b"pair") {
         return Command::Pair;
     }
-    if files::is(1, b"sample") {
+    if command_is(call, b"sample") {
         return Command::Sample;
     }
-    if files::is(1, b"small") {
+    if command_is(call, b"small") {
         return Command::Small;
     }
-    if files::is(1, b"shrink") {
+    if command_is(call, b"shrink") {
         return Command::Shrink;
     }
     Command::None
 }
 
-fn asked(n: usize) -> Command {
+fn asked(call: usize, n: usize) -> Command {
     if n == 4 {
-        return of_one_more();
+        return of_one_more(call);
     }
     if n == 5 {
-        return of_two_more();
+        return of_two_more(call);
     }
     Command::None
 }
 
-// Which argument the value is.
+// Which word the value is.
 fn value_at(c: Command) -> usize {
     match c {
         Command::Available => 4,
@@ -165,71 +170,96 @@ fn value_at(c: Command) -> usize {
 }
 
 // The commands with a value.
-fn by_value(c: Command, t: &[u8]) {
+fn by_value(call: usize, c: Command, t: &[u8]) {
     let mut value = io::large_buffer();
-    let v = files::value(value_at(c), &mut value);
+    let v = files::value(files::word(call, value_at(c)), &mut value);
     if !v.ok {
         return;
     }
     let n = v.n;
     match c {
-        Command::Walk => answers::walk(t, &value[..n]),
+        Command::Walk => answers::walk(call, t, &value[..n]),
         Command::Early => answers::early(t, &value[..n]),
-        Command::Available => answers::available(t, &value[..n]),
-        Command::Pair => answers::pair(t, &value[..n]),
-        Command::Small => answers::small(t, &value[..n]),
+        Command::Available => answers::available(call, t, &value[..n]),
+        Command::Pair => answers::pair(call, t, &value[..n]),
+        Command::Small => answers::small(call, t, &value[..n]),
         _ => answers::plain(t, &value[..n]),
     }
 }
 
-fn by_table(c: Command, n: usize) {
+fn by_table(call: usize, c: Command, n: usize) {
     let mut table = io::large_buffer();
-    let t = files::file(2, &mut table);
+    let t = files::file(files::word(call, 2), &mut table);
     if !t.ok {
         return;
     }
     let k = t.n;
     match c {
-        Command::Build => answers::build(&table[..k]),
-        Command::Check => answers::check(&table[..k]),
-        Command::Match => answers::match_uri(&table[..k]),
-        Command::Tally => answers::tally_file(&table[..k]),
-        Command::Log => answers::log(&table[..k]),
-        Command::Tree => answers::tree(&table[..k]),
-        Command::Untree => answers::untree(&table[..k]),
-        Command::Shrink => shrink::shrink(&table[..k]),
-        Command::Feed => answers::feed(&table[..k], n),
-        Command::Sample => samples::print(&table[..k]),
-        _ => by_value(c, &table[..k]),
+        Command::Build => answers::build(call, &table[..k]),
+        Command::Check => answers::check(call, &table[..k]),
+        Command::Match => answers::match_uri(call, &table[..k]),
+        Command::Tally => answers::tally_file(call, &table[..k]),
+        Command::Log => answers::log(call, &table[..k]),
+        Command::Tree => answers::tree(call, &table[..k]),
+        Command::Untree => answers::untree(call, &table[..k]),
+        Command::Shrink => shrink::shrink(call, &table[..k]),
+        Command::Feed => answers::feed(call, &table[..k], n),
+        Command::Sample => samples::print(call, &table[..k]),
+        _ => by_value(call, c, &table[..k]),
     }
 }
 
 // A call that asks nothing of a table.
-fn without_table(n: usize) {
+fn without_table(call: usize, n: usize) {
     if n == 3 {
-        if files::is(1, b"entries") {
-            entries();
+        if command_is(call, b"entries") {
+            entries(call);
             return;
         }
     }
-    if files::is(1, b"--help") {
+    if command_is(call, b"--help") {
         usage(STDOUT_FILENO);
         return;
     }
     usage(STDERR_FILENO);
 }
 
-fn main() {
-    let n = os::arg_count();
+// A call of n words, of which the first stands before the command.
+fn answer(call: usize, n: usize) {
     if 3 < n {
-        if files::is(1, b"feed") {
-            by_table(Command::Feed, n);
+        if command_is(call, b"feed") {
+            by_table(call, Command::Feed, n);
             return;
         }
     }
-    let c = asked(n);
+    let c = asked(call, n);
     match c {
-        Command::None => without_table(n),
-        _ => by_table(c, n),
+        Command::None => without_table(call, n),
+        _ => by_table(call, c, n),
     }
+}
+
+// The call that begins after argument `call`, if it ends before argument i; where the next one begins.
+fn until(call: usize, i: usize, ends: bool) -> usize {
+    if ends {
+        if call < i {
+            answer(call, i - call);
+        }
+        return i;
+    }
+    call
+}
+
+// The same where the word `then` ends a call.
+fn past(call: usize, i: usize) -> usize {
+    until(call, i, files::is(i, b"then"))
+}
+
+fn main() {
+    let n = os::arg_count();
+    let mut call = 0;
+    for i in 1..n {
+        call = past(call, i);
+    }
+    until(call, n, true);
 }

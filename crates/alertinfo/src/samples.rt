@@ -1,4 +1,5 @@
 // Sample values by a table, one a line.
+use crate::files;
 use crate::words;
 use libc::STDERR_FILENO;
 use libc::STDOUT_FILENO;
@@ -42,10 +43,10 @@ fn read(text: &[u8]) -> Digits {
     r
 }
 
-// The number that argument i is, of at most 32 bits; 0 if it is none.
-fn number(i: usize) -> Digits {
+// The number that word i is, of at most 32 bits; 0 if it is none.
+fn number(call: usize, i: usize) -> Digits {
     let mut text = io::buffer();
-    let n = os::arg(i, &mut text);
+    let n = os::arg(files::word(call, i), &mut text);
     let r = read(&text[..n]);
     if r.ok {
         if r.n <= 4294967295 {
@@ -91,15 +92,15 @@ fn values(t: &[u8], x: u32, count: u64) {
     }
 }
 
-// As many values as argument 4 says, from the seed that argument 3 is.
-pub fn print(t: &[u8]) {
+// As many values as word 4 says, from the seed that word 3 is.
+pub fn print(call: usize, t: &[u8]) {
     let refusal = signal_table::refusal(t);
     if refusal != 0 {
         words::refused(refusal);
         return;
     }
-    let seed = number(3);
-    let count = number(4);
+    let seed = number(call, 3);
+    let count = number(call, 4);
     if !seed.ok {
         io::write_all(STDERR_FILENO, b"SEED is a number from 0 to 4294967295\n");
         return;

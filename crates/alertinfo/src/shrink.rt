@@ -19,15 +19,15 @@ fn report(states: usize, classes: usize, bytes: usize, left: usize) {
     words::count(bytes as u64, b" bytes\n");
 }
 
-// The small image of these classes goes to the file that argument 4 names.
-fn write(t: &[u8], m: &[u8], p: &[u8]) {
+// The small image of these classes goes to the file that word 4 names.
+fn write(call: usize, t: &[u8], m: &[u8], p: &[u8]) {
     let mut image = io::large_buffer();
     let b = small_machine::write(t, m, p, &mut image);
     if b.refusal != 0 {
         words::refused(b.refusal);
         return;
     }
-    if files::write(4, &image, b.len) {
+    if files::write(files::word(call, 4), &image, b.len) {
         report(
             p.len(),
             class_check::states::highest_class(p) + 1,
@@ -38,18 +38,18 @@ fn write(t: &[u8], m: &[u8], p: &[u8]) {
 }
 
 // The classes are as many as the proposer says.
-fn proposed(t: &[u8], m: &[u8], classes: &[u8], n: usize) {
+fn proposed(call: usize, t: &[u8], m: &[u8], classes: &[u8], n: usize) {
     if classes.len() < n {
         return;
     }
     let a = 0;
-    write(t, m, &classes[a..n]);
+    write(call, t, m, &classes[a..n]);
 }
 
-// The machine of argument 3 for this table, as small as it can be.
-pub fn shrink(t: &[u8]) {
+// The machine of word 3 for this table, as small as it can be.
+pub fn shrink(call: usize, t: &[u8]) {
     let mut image = io::large_buffer();
-    let m = files::file(3, &mut image);
+    let m = files::file(files::word(call, 3), &mut image);
     if !m.ok {
         return;
     }
@@ -60,5 +60,5 @@ pub fn shrink(t: &[u8]) {
         words::refused(b.refusal);
         return;
     }
-    proposed(t, &image[..n], &classes, b.len);
+    proposed(call, t, &image[..n], &classes, b.len);
 }

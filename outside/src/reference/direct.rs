@@ -41,8 +41,18 @@ pub fn step(table: &Table, state: &State, urn: &Node) -> State {
     step_among(table, &all, state, urn)
 }
 
-/// A step by a used URN, where the search finds only signals among those given.
-pub fn step_among(table: &Table, among: &[usize], state: &State, urn: &Node) -> State {
+/// What the search for a used URN finds: a signal, how long its path is in the URN's category, and how many candidates were
+/// looked up until then.
+struct Found {
+    signal: usize,
+    length: usize,
+    tries: usize,
+}
+
+/// The search for a used URN among the signals given: its candidates from the URN itself up to the present place, the first
+/// with a signal. Nothing for a URN that is passed over. What is deeper than every node that is the URN or above it is no
+/// signal's place, so it is not looked up, and not counted.
+fn search(table: &Table, among: &[usize], state: &State, urn: &Node) -> Option<Found> {
     let (c, u) = (urn.category, &urn.path);
     let place = &table.signals[state.signal][c];
     let taken = match &state.status[c] {
@@ -51,23 +61,37 @@ pub fn step_among(table: &Table, among: &[usize], state: &State, urn: &Node) -> 
         Status::Shut => false,
     };
     if !taken {
-        return state.clone();
+        return None;
     }
-    // Candidates from the URN itself up to the present place: the first with a signal.
+    let mut tries = 0;
+    let mut met_node = false;
     for length in (place.len()..=u.len()).rev() {
+        met_node |= length == 0 || table.is_node(c, &u[..length]);
+        if !met_node {
+            continue;
+        }
+        tries += 1;
         if let Some(signal) = signal_with(table, among, state.signal, c, &u[..length]) {
-            let mut status = state.status.clone();
-            status[c] = if length == u.len() {
-                Status::Open
-            } else if table.nodes_under(urn) {
-                Status::Held(u.clone())
-            } else {
-                Status::Shut
-            };
-            return State { signal, status };
+            return Some(Found { signal, length, tries });
         }
     }
     unreachable!("the present place has the current signal")
+}
+
+/// A step by a used URN, where the search finds only signals among those given.
+pub fn step_among(table: &Table, among: &[usize], state: &State, urn: &Node) -> State {
+    let Some(found) = search(table, among, state, urn) else {
+        return state.clone();
+    };
+    let mut status = state.status.clone();
+    status[urn.category] = if found.length == urn.path.len() {
+        Status::Open
+    } else if table.nodes_under(urn) {
+        Status::Held(urn.path.clone())
+    } else {
+        Status::Shut
+    };
+    State { signal: found.signal, status }
 }
 
 /// A status as stored: 0 open, 1 shut, 1 + n held at node n.
@@ -98,17 +122,10 @@ pub fn read_status(table: &Table, signal: usize, c: usize, byte: u8) -> Option<S
     }
 }
 
-/// The candidates looked up for a used URN, longest first, up to and with the one found: those deeper than the deepest
-/// node that is the URN or above it are left out. None for a URN that is passed over.
+/// The candidates looked up for a used URN.
 fn tries(table: &Table, state: &State, urn: &Node) -> usize {
-    let next = step(table, state, urn);
-    if next == *state {
-        return 0;
-    }
-    let deepest =
-        (0..=urn.path.len()).rev().find(|&length| length == 0 || table.is_node(urn.category, &urn.path[..length]));
-    let found = table.signals[next.signal][urn.category].len();
-    deepest.expect("the root is above every URN") - found + 1
+    let all: Vec<usize> = (0..table.signals.len()).collect();
+    search(table, &all, state, urn).map_or(0, |found| found.tries)
 }
 
 /// The plain resolver.

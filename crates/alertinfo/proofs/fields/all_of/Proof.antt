@@ -5,10 +5,10 @@ use Rattle.alertinfo.proofs.fields.all_of.Statement.{statement}
 use Rattle.alertinfo.proofs.fields.all_of.Tie as tie
 
 abbrev Inv-loop : tie.InvT-loop
-Inv-loop t n m₀ i₀ m i = 3 ≤ i
+Inv-loop call t n m₀ i₀ m i = 3 ≤ i
 
 abbrev μ-loop : tie.MeasureT-loop
-μ-loop t n m₀ i₀ m i = n - i
+μ-loop call t n m₀ i₀ m i = n - i
 
 nothing-requires : tie.Need-nothing-requires Inv-loop μ-loop
 nothing-requires c κs = search needs
