@@ -63,7 +63,7 @@ by-number t v r h = go (eqb (refusalOf v) 0) (eqb (tableRefusal t) 0)
     go true false n = refl
     go false b n = refl
 
-plain-refused : (t v : List ℕ) → (plainOf t v .refusal ≡ 0 → ⊥) → plainOf t v ≡ refused (plainOf t v .refusal)
+pub plain-refused : (t v : List ℕ) → (plainOf t v .refusal ≡ 0 → ⊥) → plainOf t v ≡ refused (plainOf t v .refusal)
 unfolding plainOf
 plain-refused t v = by-number t v _ (λ n. absurd (n refl))
 
@@ -169,7 +169,7 @@ module _ (t : List ℕ) (ok : tableRefusal t ≡ 0) where
   unfolding checkFrom
   check-image im = simp (eq-eqb (tableRefusal t) 0 ok)
 
-  walk-claim : (im : List ℕ) → checkFrom t im ≡ 0 → (before after : List (List ℕ)) → WalkClaim t im before after
+  pub walk-claim : (im : List ℕ) → checkFrom t im ≡ 0 → (before after : List (List ℕ)) → WalkClaim t im before after
   walk-claim im e before after =
       record {
         agrees = c .agrees;
@@ -221,7 +221,7 @@ module _ (t : List ℕ) (ok : tableRefusal t ≡ 0) where
         ∙ ap (checkFrom t) (take-at (machineImage (tableOf t)) (replicate (room - length (machineImage (tableOf t))) 0) (length (machineImage (tableOf t))) refl)
         ∙ every-build t ok few .checked
 
-  small-alike : (im small : List ℕ) → checkFrom t im ≡ 0 → GoesWith t im small → (v : List ℕ) → resolvedSmall t small v ≡ plainOf t v
+  pub small-alike : (im small : List ℕ) → checkFrom t im ≡ 0 → GoesWith t im small → (v : List ℕ) → resolvedSmall t small v ≡ plainOf t v
   small-alike im small e g v = small-machine t im small v (form-to-right (tableOf t) im (form-right im e)) g ∙ alike im e v
 
 pub demand-three : DemandThree
