@@ -1,5 +1,5 @@
 -- The three demands on the whole software, as claims.
-use Prim.Native.Nat.{ℕ, _-_, _≤_}
+use Prim.Native.Nat.{ℕ, _+_, _-_, _≤_}
 use mathlib.Core.Path.{_≡_}
 use mathlib.Core.Logic.{_↔_, _⊎_}
 use mathlib.Core.List.{List, [], _++_}
@@ -15,6 +15,7 @@ use Rattle.machine_image.specs.Image.{signalIn, machineImage}
 use Rattle.machine_image.specs.Walk.{stepIn}
 use Rattle.small_image.specs.Numbers.{smallOf}
 use Rattle.stored_table.specs.Tables.{tableRefusal, tableOf, categoryNames}
+use Rattle.stored_table.specs.Claims.{TableRefusedExactly}
 use Rattle.carried_record.specs.declared.Carried.{Carried}
 use Rattle.signal_table.specs.Built.{builtFrom, bufferFrom, checkFrom}
 use Rattle.signal_table.specs.Claims.{TooManyStates, BuildExactly, RightForm, RightImage}
@@ -30,6 +31,7 @@ use Rattle.resolver.specs.Feed.{feedOf}
 use Rattle.demands.specs.Feeding.{OneValue, EndsDirect, NeverRefused, JoinedAlike}
 use Rattle.demands.specs.BesidePlain.{BesidePlain}
 use Rattle.demands.specs.BesideMachine.{GoesWith, OneOfTwo, Proposed, SmallWalkClaim}
+use Rattle.demands.specs.FirstNumber.{FirstNumber}
 
 -- a number from lo to hi
 abbrev pub Among : ℕ → ℕ → ℕ → Type 0
@@ -107,6 +109,10 @@ pub record Demand1 (t : List ℕ) : Type 0 where
 pub record Demand2 (t : List ℕ) : Type 0 where
   -- a value's number is the one that the grammar and the limits give it, both ways; 0 is accepted
   pub values : RefusedExactly
+  -- a table's number is the smallest of 4 to 12 that is due, both ways; 0 is accepted
+  pub tables : TableRefusedExactly
+  -- a resolver gives the value's number first, then the table's, then 15
+  pub first-number : FirstNumber t
   -- the plain resolver gives direct resolution's signal, with the numbers of used and skipped entries
   pub plain-answer : (v : List ℕ) → refusalOf v ≡ 0 → tableRefusal t ≡ 0
       → plainOf t v
@@ -116,6 +122,8 @@ pub record Demand2 (t : List ℕ) : Type 0 where
         used = usedCount (takenAs t (urisOf v));
         skipped = skippedCount (takenAs t (urisOf v));
       }
+  -- and every entry is one or the other
+  pub all-counted : (v : List ℕ) → plainOf t v .refusal ≡ 0 → plainOf t v .used + plainOf t v .skipped ≡ length (urisOf v)
   -- the machine resolver walks any image of the right form, checked or not, and 15 is given exactly to every other
   pub machine-walks : (im v : List ℕ) → refusalOf v ≡ 0 → tableRefusal t ≡ 0 → RightForm (tableOf t) im
       → machineOf t im v ≡ answered t (urisOf v) (walkedSignal t im (urisOf v))
