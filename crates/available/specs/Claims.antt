@@ -13,7 +13,7 @@ use Rattle.resolution.specs.Says.{Says, Given}
 use Rattle.resolution.specs.Available.{counts, envAvailable}
 use Rattle.node_search.specs.Uses.{usedUrn}
 use Rattle.stored_table.specs.Tables.{tableRefusal, tableOf, categoryNames}
-use Rattle.entry_run.specs.Answers.{takenAs, numberOf, refused, answered}
+use Rattle.entry_run.specs.Answers.{takenAs, numberOf, answered}
 use Rattle.available.specs.Available.{hasBit, availableSignal, availableOf}
 
 -- a bit of the set that is no signal's
@@ -27,9 +27,9 @@ Everyone t set = (s : ℕ) → 0 < s → s < length (tableOf t .signals) → has
 -- of a value
 pub record Answers (t : List ℕ) (set : ℕ) (v : List ℕ) : Type 0 where
   -- what the plain resolver refuses, 1 to 12, is refused with the same number, whatever the set
-  pub first : (numberOf t v ≡ 0 → ⊥) → availableOf t set v ≡ refused (numberOf t v)
+  pub first : (numberOf t v ≡ 0 → ⊥) → availableOf t set v ≡ record { refusal = numberOf t v; signal = 0; used = 0; skipped = 0 }
   -- then 23 is given exactly for a bit that is no signal's
-  pub strange : numberOf t v ≡ 0 → (availableOf t set v ≡ refused 23) ↔ Strange t set
+  pub strange : numberOf t v ≡ 0 → (availableOf t set v ≡ record { refusal = 23; signal = 0; used = 0; skipped = 0 }) ↔ Strange t set
   -- else it is answered, with the numbers of used and skipped entries
   pub given : numberOf t v ≡ 0 → (Strange t set → ⊥) → availableOf t set v ≡ answered t (urisOf v) (availableSignal t set (urisOf v))
   -- with every signal available this is direct resolution's signal

@@ -9,7 +9,7 @@ use Rattle.stored_table.specs.Tables.{tableRefusal}
 use Rattle.resolver.specs.Resolve.{plainOf}
 use Rattle.call_log.specs.Log.{Call, callsOf, endOf, isLog}
 use Rattle.call_log.specs.Written.{logBytes}
-use Rattle.call_log.specs.Verdict.{refused, allAgree, differs, verdictOf}
+use Rattle.call_log.specs.Verdict.{allAgree, differs, verdictOf}
 
 -- a call's three bytes are the plain resolver's for its value
 pub record Right (t : List ℕ) (c : Call) : Type 0 where
@@ -46,16 +46,16 @@ LogNumber n = (n ≡ 0) ⊎ (((4 ≤ n) × (n ≤ 12)) ⊎ (n ≡ 25))
 
 pub record Judges (t log : List ℕ) : Type 0 where
   -- a refused table's number, whatever the log
-  pub table-first : (tableRefusal t ≡ 0 → ⊥) → verdictOf t log ≡ refused (tableRefusal t)
+  pub table-first : (tableRefusal t ≡ 0 → ⊥) → verdictOf t log ≡ record { refusal = tableRefusal t; agrees = 0; call = 0; signal = 0; used = 0; skipped = 0 }
   -- then 25, exactly for what is no log, whatever its calls
-  pub no-log : tableRefusal t ≡ 0 → (verdictOf t log ≡ refused 25) ↔ NoLog log
+  pub no-log : tableRefusal t ≡ 0 → (verdictOf t log ≡ record { refusal = 25; agrees = 0; call = 0; signal = 0; used = 0; skipped = 0 }) ↔ NoLog log
   -- else every call is right, or the first that is not is named
   pub each-call : tableRefusal t ≡ 0 → (NoLog log → ⊥) → AllRight t log ⊎ FirstWrong t log
   -- and it is said that all agree exactly if every call is right
   pub all-agree : tableRefusal t ≡ 0 → (NoLog log → ⊥) → (verdictOf t log ≡ allAgree) ↔ AllRight t log
   -- no other number is given, and a refused log is 0 but for its number
   pub number : LogNumber (verdictOf t log .refusal)
-  pub zeros : (verdictOf t log .refusal ≡ 0 → ⊥) → verdictOf t log ≡ refused (verdictOf t log .refusal)
+  pub zeros : (verdictOf t log .refusal ≡ 0 → ⊥) → verdictOf t log ≡ record { refusal = verdictOf t log .refusal; agrees = 0; call = 0; signal = 0; used = 0; skipped = 0 }
 
 -- for a refused value 0, 0, 0 is right, and nothing else
 abbrev pub RefusedCall : List ℕ → Call → Type 0

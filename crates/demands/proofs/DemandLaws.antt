@@ -23,6 +23,7 @@ use Rattle.machine_image.proofs.Check.{check-to}
 use Rattle.machine_image.proofs.Walk.{image-claim}
 use Rattle.stored_table.specs.Tables.{tableRefusal, tableOf, categoryNames}
 use Rattle.stored_table.proofs.Accepting.{accepted}
+use Rattle.stored_table.proofs.Exactly.{refused-exactly as table-exactly}
 use Rattle.machine_builder.specs.Built.{refused as without, builtOf}
 use Rattle.signal_table.specs.Built.{builtFrom, bufferFrom, checkFrom}
 use Rattle.machine_builder.specs.declared.Built.{Built}
@@ -36,12 +37,13 @@ use Rattle.demands.specs.Demands.{WalkClaim, DemandOne, DemandTwo, Deman
 use Rattle.entry_run.proofs.TakenLaws.{taken-used}
 use Rattle.early.proofs.Claims.{early-claim}
 use Rattle.resolver.proofs.TableLaws.{taken-append}
-use Rattle.demands.proofs.EarlyLaws.{plain-answer, early-number, early-refused, early-signal}
+use Rattle.demands.proofs.EarlyLaws.{plain-answer, all-counted, early-number, early-refused, early-signal}
 use Rattle.demands.proofs.MachineLaws.{machine-walks, machine-fifteen}
 use Rattle.small_image.specs.Small.{smallForm}
 use Rattle.small_resolver.specs.Resolve.{walkedSmall, resolvedSmall}
 use Rattle.small_resolver.proofs.Claims.{answers-claim}
 use Rattle.demands.specs.BesideMachine.{GoesWith}
+use Rattle.demands.proofs.FirstNumber.{first-number}
 use Rattle.demands.proofs.SmallLaws.{one-of-two, small-machine, small-walks, small-proposed}
 use Rattle.pair.proofs.PairLaws.{pair-claim}
 use Rattle.pair.proofs.Together.{together-claim}
@@ -63,7 +65,7 @@ by-number t v r h = go (eqb (refusalOf v) 0) (eqb (tableRefusal t) 0)
     go true false n = refl
     go false b n = refl
 
-plain-refused : (t v : List ℕ) → (plainOf t v .refusal ≡ 0 → ⊥) → plainOf t v ≡ refused (plainOf t v .refusal)
+pub plain-refused : (t v : List ℕ) → (plainOf t v .refusal ≡ 0 → ⊥) → plainOf t v ≡ refused (plainOf t v .refusal)
 unfolding plainOf
 plain-refused t v = by-number t v _ (λ n. absurd (n refl))
 
@@ -138,7 +140,10 @@ pub demand-two : DemandTwo
 demand-two t =
     record {
       values = refused-exactly;
+      tables = table-exactly;
+      first-number = first-number t;
       plain-answer = plain-answer t;
+      all-counted = all-counted t;
       machine-walks = machine-walks t;
       machine-fifteen = machine-fifteen t;
       small = answers-claim t;
@@ -169,7 +174,7 @@ module _ (t : List ℕ) (ok : tableRefusal t ≡ 0) where
   unfolding checkFrom
   check-image im = simp (eq-eqb (tableRefusal t) 0 ok)
 
-  walk-claim : (im : List ℕ) → checkFrom t im ≡ 0 → (before after : List (List ℕ)) → WalkClaim t im before after
+  pub walk-claim : (im : List ℕ) → checkFrom t im ≡ 0 → (before after : List (List ℕ)) → WalkClaim t im before after
   walk-claim im e before after =
       record {
         agrees = c .agrees;
@@ -221,7 +226,7 @@ module _ (t : List ℕ) (ok : tableRefusal t ≡ 0) where
         ∙ ap (checkFrom t) (take-at (machineImage (tableOf t)) (replicate (room - length (machineImage (tableOf t))) 0) (length (machineImage (tableOf t))) refl)
         ∙ every-build t ok few .checked
 
-  small-alike : (im small : List ℕ) → checkFrom t im ≡ 0 → GoesWith t im small → (v : List ℕ) → resolvedSmall t small v ≡ plainOf t v
+  pub small-alike : (im small : List ℕ) → checkFrom t im ≡ 0 → GoesWith t im small → (v : List ℕ) → resolvedSmall t small v ≡ plainOf t v
   small-alike im small e g v = small-machine t im small v (form-to-right (tableOf t) im (form-right im e)) g ∙ alike im e v
 
 pub demand-three : DemandThree

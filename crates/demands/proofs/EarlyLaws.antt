@@ -1,20 +1,33 @@
 -- The early answer beside the plain resolver's.
-use Prim.Native.Nat.{ℕ}
+use Prim.Native.Nat.{ℕ, _+_}
 use mathlib.Core.Path.{_≡_, refl, sym, ap, _∙_, subst}
 use mathlib.Core.Logic.{inl}
 use mathlib.Core.Bool.{Bool, true, false, cond}
-use mathlib.Core.List.{List}
+use mathlib.Core.Option.{Option, none, some}
+use mathlib.Core.List.{List, [], _∷_}
+use native.Mathlib.Omega.{arith}
+use lib.ListN.{length}
 use lib.Dec.{eqb}
 use borrow.Author.Tests.{eq-eqb, eqb-true, eqb-false}
 use Rattle.alert_info.specs.Value.{refusalOf, urisOf}
-use Rattle.stored_table.specs.Tables.{tableRefusal}
+use Rattle.resolution.specs.Table.{Urn}
+use Rattle.resolution.specs.Direct.{usedCount, skippedCount}
+use Rattle.node_search.specs.Uses.{usedUrn}
+use Rattle.stored_table.specs.Tables.{tableRefusal, categoryNames}
+use Rattle.stored_table.proofs.Judging.{map-length}
 use Rattle.early.specs.Early.{numberOf, refused as notAnswered, earlyOf}
 use Rattle.early.specs.declared.Early.{Early}
 use Rattle.early.proofs.Claims.{zero-number, early-claim}
 use Rattle.entry_run.specs.declared.Resolution.{Resolution}
-use Rattle.resolver.specs.Resolve.{directSignal, refused, answered, plainOf}
+use Rattle.resolver.specs.Resolve.{takenAs, directSignal, refused, answered, plainOf}
 use Rattle.demands.specs.Demands.{PlainNumber}
 use Rattle.demands.proofs.RefusalLaws.{plain-number}
+
+-- each URI of a list is used or skipped
+count-all : (l : List (Option Urn)) → usedCount l + skippedCount l ≡ length l
+count-all [] = refl
+count-all (none ∷ l) = omega (arith, count-all l)
+count-all (some u ∷ l) = omega (arith, count-all l)
 
 module _ (t v : List ℕ) where
   pub plain-answer : refusalOf v ≡ 0 → tableRefusal t ≡ 0 → plainOf t v ≡ answered t (urisOf v) (directSignal t (urisOf v))
@@ -31,6 +44,11 @@ module _ (t v : List ℕ) where
       go true true e = eqb-true (tableRefusal t) 0 e
       go true false e = refl
       go false b e = refl
+
+  pub all-counted : plainOf t v .refusal ≡ 0 → plainOf t v .used + plainOf t v .skipped ≡ length (urisOf v)
+  all-counted e =
+      let z = zero-number t v (number-is ∙ e) in
+      ap (λ (x : Resolution). x .used + x .skipped) (plain-answer (z .0) (z .1)) ∙ count-all (takenAs t (urisOf v)) ∙ map-length (usedUrn (categoryNames t)) (urisOf v)
 
   pub early-refused : (earlyOf t v .refusal ≡ 0 → ⊥) → earlyOf t v ≡ notAnswered (plainOf t v .refusal)
   early-refused n = early-claim t v .otherwise n ∙ ap notAnswered number-is

@@ -6,6 +6,7 @@ pub mod EarlyLaws
 pub mod MachineLaws
 pub mod AvailableLaws
 pub mod SmallLaws
+pub mod FirstNumber
 pub mod DemandLaws
 pub mod Examples
 pub mod DemandExample

@@ -135,9 +135,10 @@ module _ (t b v : List ℕ) where
       formed false q e = absurd (eqb-false (refusalOf v) 0 q e)
 
   -- a test that does not pass gives 15
-  fifteen : numberOf t v ≡ 0 → (form : Bool) (given : Resolution) → (form ≡ true → ⊥) → unlessRefused t v (cond form given (refused 15)) ≡ refused 15
+  fifteen : numberOf t v ≡ 0 → (form : Bool) (given : Resolution) → (form ≡ true → ⊥) → unlessRefused t v (cond form given (refused 15)) .refusal ≡ 15
   fifteen z true given n = absurd (n refl)
-  fifteen z false given n = unless-number t v (refused 15) ∙ ap (λ a. cond a (refused 15) (refused (numberOf t v))) (eq-eqb (numberOf t v) 0 z)
+  fifteen z false given n =
+      ap (λ (r : Resolution). r .refusal) (unless-number t v (refused 15) ∙ ap (λ a. cond a (refused 15) (refused (numberOf t v))) (eq-eqb (numberOf t v) 0 z))
 
   pub one-of-two : OneOfTwo t b v
   unfolding machineOf resolvedSmall

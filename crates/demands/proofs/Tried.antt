@@ -1,11 +1,15 @@
 -- The plain resolver's tries.
-use mathlib.Core.Path.{refl}
+use mathlib.Core.Path.{refl, ap, ap₂}
+use mathlib.Core.Bool.{cond}
 use borrow.Author.Tests.{eq-eqb, ne-eqb}
+use Rattle.alert_info.specs.Value.{urisOf}
 use Rattle.resolution.proofs.Tries.{tries-law}
 use Rattle.stored_table.specs.Tables.{tableOf}
 use Rattle.stored_table.proofs.Accepting.{accepted}
-use Rattle.resolver.specs.Resolve.{plainOf, plainWith}
+use Rattle.entry_run.specs.declared.Resolution.{Resolution}
+use Rattle.resolver.specs.Resolve.{triesIn, plainOf, plainWith}
 use Rattle.demands.specs.Tried.{TriedClaim}
+use Rattle.demands.proofs.DemandLaws.{plain-refused}
 
 pub tried : TriedClaim
 unfolding plainWith
@@ -13,7 +17,8 @@ tried t =
     record {
       same = λ v. refl;
       counted = λ v e. rw (eq-eqb (plainOf t v .refusal) 0 e);
-      none = λ v n. rw (ne-eqb (plainOf t v .refusal) 0 n);
+      none = λ v n. ap₂ (λ (r : Resolution) k. record { refusal = plainOf t v .refusal; signal = r .signal; used = r .used; skipped = r .skipped; tries = k })
+          (plain-refused t v n) (ap (λ b. cond b (triesIn t (urisOf v)) 0) (ne-eqb (plainOf t v .refusal) 0 n));
       few = λ ok st u.
           let law = tries-law (tableOf t) (accepted t ok .well) in
           law .bounded 8 (law .low 8 (accepted t ok .few-parts)) st u;

@@ -16,7 +16,7 @@ use Rattle.small_image.specs.Numbers.{numbersIn}
 use Rattle.stored_table.specs.Tables.{tableOf, categoryNames}
 use Rattle.small_resolver.specs.Resolve.{walkedSmall, resolvedSmall}
 use Rattle.small_resolver.specs.Claims.{RightSmall}
-use Rattle.resolver.specs.Resolve.{takenAs, directSignal, refused, machineOf}
+use Rattle.resolver.specs.Resolve.{takenAs, directSignal, machineOf}
 
 -- a small image that goes with an image: it is of right form, and after every list of used and skipped URIs its walk has the
 -- image's signal
@@ -26,8 +26,8 @@ pub record GoesWith (t im small : List ℕ) : Type 0 where
 
 -- what one of the two resolvers follows the other refuses with 15
 pub record OneOfTwo (t b v : List ℕ) : Type 0 where
-  pub large : machineOf t b v .refusal ≡ 0 → resolvedSmall t b v ≡ refused 15
-  pub small : resolvedSmall t b v .refusal ≡ 0 → machineOf t b v ≡ refused 15
+  pub large : machineOf t b v .refusal ≡ 0 → resolvedSmall t b v .refusal ≡ 15
+  pub small : resolvedSmall t b v .refusal ≡ 0 → machineOf t b v .refusal ≡ 15
 
 -- a proposal that fits the machine in an image, each of its classes a byte
 pub record Proposed (t im p : List ℕ) : Type 0 where

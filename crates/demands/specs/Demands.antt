@@ -1,5 +1,5 @@
 -- The three demands on the whole software, as claims.
-use Prim.Native.Nat.{ℕ, _-_, _≤_}
+use Prim.Native.Nat.{ℕ, _+_, _-_, _≤_}
 use mathlib.Core.Path.{_≡_}
 use mathlib.Core.Logic.{_↔_, _⊎_}
 use mathlib.Core.List.{List, [], _++_}
@@ -15,21 +15,23 @@ use Rattle.machine_image.specs.Image.{signalIn, machineImage}
 use Rattle.machine_image.specs.Walk.{stepIn}
 use Rattle.small_image.specs.Numbers.{smallOf}
 use Rattle.stored_table.specs.Tables.{tableRefusal, tableOf, categoryNames}
+use Rattle.stored_table.specs.Claims.{TableRefusedExactly}
 use Rattle.carried_record.specs.declared.Carried.{Carried}
 use Rattle.signal_table.specs.Built.{builtFrom, bufferFrom, checkFrom}
 use Rattle.signal_table.specs.Claims.{TooManyStates, BuildExactly, RightForm, RightImage}
-use Rattle.early.specs.Early.{refused as notAnswered, earlyOf}
+use Rattle.early.specs.Early.{earlyOf}
 use Rattle.early.specs.Claims.{EarlyClaims}
 use Rattle.available.specs.Available.{availableSignal, availableOf}
-use Rattle.pair.specs.Pair.{refused as noPair, pairOf}
+use Rattle.pair.specs.Pair.{pairOf}
 use Rattle.pair.specs.Claims.{Shared, PairAnswers, Together}
 use Rattle.small_resolver.specs.Resolve.{resolvedSmall}
 use Rattle.small_resolver.specs.Claims.{SmallAnswers}
-use Rattle.resolver.specs.Resolve.{takenAs, directSignal, walkedSignal, refused, answered, plainOf, machineOf}
+use Rattle.resolver.specs.Resolve.{takenAs, directSignal, walkedSignal, answered, plainOf, machineOf}
 use Rattle.resolver.specs.Feed.{feedOf}
 use Rattle.demands.specs.Feeding.{OneValue, EndsDirect, NeverRefused, JoinedAlike}
 use Rattle.demands.specs.BesidePlain.{BesidePlain}
 use Rattle.demands.specs.BesideMachine.{GoesWith, OneOfTwo, Proposed, SmallWalkClaim}
+use Rattle.demands.specs.FirstNumber.{FirstNumber}
 
 -- a number from lo to hi
 abbrev pub Among : ℕ → ℕ → ℕ → Type 0
@@ -87,14 +89,16 @@ pub record Demand1 (t : List ℕ) : Type 0 where
   -- an entry is refused exactly if its part is empty
   pub entry-refused : (v : List ℕ) (k : ℕ) → (entryRefusalOf v k ≡ 0 → ⊥) ↔ (entryOf v k ≡ [])
   -- a refused resolution is signal 0 with both counts 0
-  pub plain-refused : (v : List ℕ) → (plainOf t v .refusal ≡ 0 → ⊥) → plainOf t v ≡ refused (plainOf t v .refusal)
-  pub machine-refused : (im v : List ℕ) → (machineOf t im v .refusal ≡ 0 → ⊥) → machineOf t im v ≡ refused (machineOf t im v .refusal)
-  pub small-refused : (small v : List ℕ) → (resolvedSmall t small v .refusal ≡ 0 → ⊥) → resolvedSmall t small v ≡ refused (resolvedSmall t small v .refusal)
-  pub available-refused : (set : ℕ) (v : List ℕ) → (availableOf t set v .refusal ≡ 0 → ⊥) → availableOf t set v ≡ refused (availableOf t set v .refusal)
+  pub plain-refused : (v : List ℕ) → (plainOf t v .refusal ≡ 0 → ⊥) → plainOf t v ≡ record { refusal = plainOf t v .refusal; signal = 0; used = 0; skipped = 0 }
+  pub machine-refused : (im v : List ℕ) → (machineOf t im v .refusal ≡ 0 → ⊥) → machineOf t im v ≡ record { refusal = machineOf t im v .refusal; signal = 0; used = 0; skipped = 0 }
+  pub small-refused : (small v : List ℕ) → (resolvedSmall t small v .refusal ≡ 0 → ⊥)
+      → resolvedSmall t small v ≡ record { refusal = resolvedSmall t small v .refusal; signal = 0; used = 0; skipped = 0 }
+  pub available-refused : (set : ℕ) (v : List ℕ) → (availableOf t set v .refusal ≡ 0 → ⊥)
+      → availableOf t set v ≡ record { refusal = availableOf t set v .refusal; signal = 0; used = 0; skipped = 0 }
   -- a refused pair is 0 and 0
-  pub pair-refused : (lamp v : List ℕ) → (pairOf t lamp v .refusal ≡ 0 → ⊥) → pairOf t lamp v ≡ noPair (pairOf t lamp v .refusal)
+  pub pair-refused : (lamp v : List ℕ) → (pairOf t lamp v .refusal ≡ 0 → ⊥) → pairOf t lamp v ≡ record { refusal = pairOf t lamp v .refusal; ring = 0; lamp = 0 }
   -- a refused early question has the plain resolver's number, with signal 0 and no entries
-  pub early-refused : (v : List ℕ) → (earlyOf t v .refusal ≡ 0 → ⊥) → earlyOf t v ≡ notAnswered (plainOf t v .refusal)
+  pub early-refused : (v : List ℕ) → (earlyOf t v .refusal ≡ 0 → ⊥) → earlyOf t v ≡ record { refusal = plainOf t v .refusal; signal = 0; entries = 0 }
   -- of several values, what each does by its number, whatever record it is fed with; no record that feeding gave is refused with 28
   pub one-value : (r : Carried) (v : List ℕ) → OneValue t r v
   pub never-refused : NeverRefused t
@@ -105,8 +109,21 @@ pub record Demand1 (t : List ℕ) : Type 0 where
 pub record Demand2 (t : List ℕ) : Type 0 where
   -- a value's number is the one that the grammar and the limits give it, both ways; 0 is accepted
   pub values : RefusedExactly
+  -- a table's number is the smallest of 4 to 12 that is due, both ways; 0 is accepted
+  pub tables : TableRefusedExactly
+  -- a resolver gives the value's number first, then the table's, then 15
+  pub first-number : FirstNumber t
   -- the plain resolver gives direct resolution's signal, with the numbers of used and skipped entries
-  pub plain-answer : (v : List ℕ) → refusalOf v ≡ 0 → tableRefusal t ≡ 0 → plainOf t v ≡ answered t (urisOf v) (directSignal t (urisOf v))
+  pub plain-answer : (v : List ℕ) → refusalOf v ≡ 0 → tableRefusal t ≡ 0
+      → plainOf t v
+      ≡ record {
+        refusal = 0;
+        signal = directSignal t (urisOf v);
+        used = usedCount (takenAs t (urisOf v));
+        skipped = skippedCount (takenAs t (urisOf v));
+      }
+  -- and every entry is one or the other
+  pub all-counted : (v : List ℕ) → plainOf t v .refusal ≡ 0 → plainOf t v .used + plainOf t v .skipped ≡ length (urisOf v)
   -- the machine resolver walks any image of the right form, checked or not, and 15 is given exactly to every other
   pub machine-walks : (im v : List ℕ) → refusalOf v ≡ 0 → tableRefusal t ≡ 0 → RightForm (tableOf t) im
       → machineOf t im v ≡ answered t (urisOf v) (walkedSignal t im (urisOf v))

@@ -11,7 +11,7 @@ use Rattle.carried_record.specs.Record.{fresh, carriedAs, carriedFits, counted}
 use Rattle.carried_record.specs.declared.Carried.{Carried}
 use Rattle.stored_table.specs.Tables.{tableRefusal, tableOf}
 use Rattle.entry_run.specs.declared.Resolution.{Resolution}
-use Rattle.resolver.specs.Resolve.{takenAs, refused, answered, plainOf}
+use Rattle.resolver.specs.Resolve.{takenAs, answered, plainOf}
 use Rattle.resolver.specs.Feed.{feedOf}
 
 -- what one value does, by the number that it is answered with
@@ -24,7 +24,7 @@ pub record OneValue (t : List ℕ) (r : Carried) (v : List ℕ) : Type 0 where
   -- accepted: the carried signal, and the value's own counts
   pub accepted : feedOf t r v .answer .refusal ≡ 0 → feedOf t r v .answer ≡ answered t (urisOf v) (feedOf t r v .carried .signal)
   -- refused: signal 0 and counts 0
-  pub zeros : (feedOf t r v .answer .refusal ≡ 0 → ⊥) → feedOf t r v .answer ≡ refused (feedOf t r v .answer .refusal)
+  pub zeros : (feedOf t r v .answer .refusal ≡ 0 → ⊥) → feedOf t r v .answer ≡ record { refusal = feedOf t r v .answer .refusal; signal = 0; used = 0; skipped = 0 }
   -- refused with 1 to 3: the count of values alone changes
   pub only-counted : 1 ≤ feedOf t r v .answer .refusal → feedOf t r v .answer .refusal ≤ 3 → feedOf t r v .carried ≡ counted r
   -- refused with any other number: nothing changes

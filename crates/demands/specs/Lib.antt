@@ -4,6 +4,7 @@ pub mod Feeding
 pub mod Tried
 pub mod BesidePlain
 pub mod BesideMachine
+pub mod FirstNumber
 -- the examples
 pub mod Examples
 pub mod DemandExample

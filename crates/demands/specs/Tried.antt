@@ -19,9 +19,9 @@ untried r = record { refusal = r .refusal; signal = r .signal; used = r .used; s
 pub record Tried (t : List ℕ) : Type 0 where
   -- the other four numbers are what they are without tries
   pub same : (v : List ℕ) → untried (plainWith t v) ≡ plainOf t v
-  -- the tries are direct resolution's over the value's list; a refused resolution has none
+  -- the tries are direct resolution's over the value's list; a refused resolution has none, and is zero but for its number
   pub counted : (v : List ℕ) → plainOf t v .refusal ≡ 0 → plainWith t v .tries ≡ triesIn t (urisOf v)
-  pub none : (v : List ℕ) → (plainOf t v .refusal ≡ 0 → ⊥) → plainWith t v .tries ≡ 0
+  pub none : (v : List ℕ) → (plainWith t v .refusal ≡ 0 → ⊥) → plainWith t v ≡ record { refusal = plainWith t v .refusal; signal = 0; used = 0; skipped = 0; tries = 0 }
   -- at most 9 tries for one URN, in any state
   pub few : tableRefusal t ≡ 0 → (st : State) (u : Urn) → tries (envOf (tableOf t)) (nodes (tableOf t)) st u ≤ 9
   -- what is deeper than the deepest node need not be looked up: no search changes, and what is counted is what is looked up

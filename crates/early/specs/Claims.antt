@@ -9,7 +9,7 @@ use Rattle.resolution.specs.Direct.{State, direct, usedOf}
 use Rattle.resolution.specs.Settled.{Settled}
 use Rattle.stored_table.specs.Tables.{tableRefusal, tableOf}
 use Rattle.early.specs.FirstEntries.{Begins}
-use Rattle.early.specs.Early.{takenAs, numberOf, refused, earlyOf}
+use Rattle.early.specs.Early.{takenAs, numberOf, earlyOf}
 
 -- direct resolution's state after a list of URIs
 abbrev pub stateAfter : List ℕ → List (List ℕ) → State
@@ -37,7 +37,7 @@ pub record EarlyClaims (t v : List ℕ) : Type 0 where
   -- and they are there wherever there is an answer
   pub there : earlyOf t v .refusal ≡ 0 → (us : List (List ℕ)) × Needed t v us
   -- otherwise the full resolver's number is given, with signal 0 and no entries
-  pub otherwise : (earlyOf t v .refusal ≡ 0 → ⊥) → earlyOf t v ≡ refused (numberOf t v)
+  pub otherwise : (earlyOf t v .refusal ≡ 0 → ⊥) → earlyOf t v ≡ record { refusal = numberOf t v; signal = 0; entries = 0 }
   -- an accepted value is answered with the signal that all its URIs give
   pub same-signal : refusalOf v ≡ 0 → tableRefusal t ≡ 0 → (earlyOf t v .refusal ≡ 0) × (earlyOf t v .signal ≡ stateAfter t (urisOf v) .signal)
   -- of a value that goes on after the entries needed, what follows them does not matter

@@ -13,7 +13,7 @@ use Rattle.node_search.specs.Uses.{usedUrn}
 use Rattle.pair_table.specs.Pairs.{pairs, pairNumber, PairLaw}
 use Rattle.stored_table.specs.Tables.{tableRefusal, tableOf, categoryNames}
 use Rattle.entry_run.specs.Answers.{takenAs}
-use Rattle.pair.specs.Pair.{signalIn, refused, pairOf}
+use Rattle.pair.specs.Pair.{signalIn, pairOf}
 
 -- a name that is a category of both
 abbrev pub Shared : List ℕ → List ℕ → Type 0
@@ -22,11 +22,11 @@ Shared ring lamp = (x : Name) × (memberBy sameName x (categoryNames ring) ≡ t
 -- of a value
 pub record PairAnswers (ring lamp v : List ℕ) : Type 0 where
   -- the value's number comes first, then the ring table's, then the lamp table's
-  pub of-value : (refusalOf v ≡ 0 → ⊥) → pairOf ring lamp v ≡ refused (refusalOf v)
-  pub of-ring : refusalOf v ≡ 0 → (tableRefusal ring ≡ 0 → ⊥) → pairOf ring lamp v ≡ refused (tableRefusal ring)
-  pub of-lamp : refusalOf v ≡ 0 → tableRefusal ring ≡ 0 → (tableRefusal lamp ≡ 0 → ⊥) → pairOf ring lamp v ≡ refused (tableRefusal lamp)
+  pub of-value : (refusalOf v ≡ 0 → ⊥) → pairOf ring lamp v ≡ record { refusal = refusalOf v; ring = 0; lamp = 0 }
+  pub of-ring : refusalOf v ≡ 0 → (tableRefusal ring ≡ 0 → ⊥) → pairOf ring lamp v ≡ record { refusal = tableRefusal ring; ring = 0; lamp = 0 }
+  pub of-lamp : refusalOf v ≡ 0 → tableRefusal ring ≡ 0 → (tableRefusal lamp ≡ 0 → ⊥) → pairOf ring lamp v ≡ record { refusal = tableRefusal lamp; ring = 0; lamp = 0 }
   -- then 24 is given exactly for a category in common, and else both signals
-  pub shared : refusalOf v ≡ 0 → tableRefusal ring ≡ 0 → tableRefusal lamp ≡ 0 → (pairOf ring lamp v ≡ refused 24) ↔ Shared ring lamp
+  pub shared : refusalOf v ≡ 0 → tableRefusal ring ≡ 0 → tableRefusal lamp ≡ 0 → (pairOf ring lamp v ≡ record { refusal = 24; ring = 0; lamp = 0 }) ↔ Shared ring lamp
   pub given : refusalOf v ≡ 0 → tableRefusal ring ≡ 0 → tableRefusal lamp ≡ 0 → (Shared ring lamp → ⊥)
       → pairOf ring lamp v ≡ record { refusal = 0; ring = signalIn ring v; lamp = signalIn lamp v }
 

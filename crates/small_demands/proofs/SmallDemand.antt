@@ -10,19 +10,18 @@ use Rattle.machine_classes.specs.Proposal.{Fits}
 use Rattle.small_image.specs.Numbers.{smallOf}
 use Rattle.small_machine.specs.Smaller.{machineFrom}
 use Rattle.small_machine.proofs.Claims.{check-claim}
-use Rattle.demands.specs.Demands.{Demand3}
 use Rattle.demands.specs.BesideMachine.{GoesWith}
-use Rattle.demands.proofs.DemandLaws.{demand-two, demand-three}
+use Rattle.demands.proofs.SmallLaws.{small-walks}
+use Rattle.demands.proofs.DemandLaws.{walk-claim, small-alike, demand-two}
 use Rattle.small_demands.specs.SmallDemand.{SmallDemands}
 
 pub small-demands : SmallDemands
-small-demands t im p few bytes e =
+small-demands t im p bytes e =
     let x : (checkFrom t im ≡ 0) × Fits (machineFrom t im) p = check-claim t im p .fitting .0 e in
     let r : RightImage t im = checked t im .0 (x .0) in
     let with : GoesWith t im (smallOf (tableOf t) im p) = demand-two t .small-proposed im p (r .form) (record { byte = bytes; fits = x .1 }) in
-    let d : Demand3 t = demand-three t (r .well-formed) few in
     record {
-      walks = d .small-walks im (smallOf (tableOf t) im p) (x .0) with;
-      plain-alike = d .small-alike im (smallOf (tableOf t) im p) (x .0) with;
+      walks = λ before after. small-walks t im (smallOf (tableOf t) im p) with before after (walk-claim t (r .well-formed) im (x .0));
+      plain-alike = small-alike t (r .well-formed) im (smallOf (tableOf t) im p) (x .0) with;
       machine-alike = λ v. demand-two t .small-machine im (smallOf (tableOf t) im p) v (r .form) with;
     }

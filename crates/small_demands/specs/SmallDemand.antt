@@ -4,7 +4,6 @@ use mathlib.Core.Path.{_≡_}
 use mathlib.Core.List.{List}
 use lib.ListN.{getD}
 use Rattle.stored_table.specs.Tables.{tableOf}
-use Rattle.signal_table.specs.Claims.{TooManyStates}
 use Rattle.small_image.specs.Numbers.{smallOf}
 use Rattle.small_machine.specs.Smaller.{classesRefusal}
 use Rattle.small_resolver.specs.Resolve.{resolvedSmall}
@@ -19,7 +18,6 @@ pub record SmallDemand (t im p : List ℕ) : Type 0 where
   pub plain-alike : (v : List ℕ) → resolvedSmall t (smallOf (tableOf t) im p) v ≡ plainOf t v
   pub machine-alike : (v : List ℕ) → resolvedSmall t (smallOf (tableOf t) im p) v ≡ machineOf t im v
 
--- for every table with at most 256 reachable states, every image, and every proposal of bytes that the check accepts for it
+-- for every table, every image, and every proposal of bytes that the check accepts for it
 abbrev pub SmallDemands : Type 0
-SmallDemands =
-    (t im p : List ℕ) → (TooManyStates t → ⊥) → ((j : ℕ) → getD p j 0 < 256) → classesRefusal t im p ≡ 0 → SmallDemand t im p
+SmallDemands = (t im p : List ℕ) → ((j : ℕ) → getD p j 0 < 256) → classesRefusal t im p ≡ 0 → SmallDemand t im p

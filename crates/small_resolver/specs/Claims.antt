@@ -8,7 +8,7 @@ use Rattle.alert_info.specs.Value.{urisOf}
 use Rattle.resolution.specs.Table.{Table}
 use Rattle.machine_image.specs.Image.{storedSymbols, symbolCount, stateCount}
 use Rattle.stored_table.specs.Tables.{tableOf}
-use Rattle.entry_run.specs.Answers.{numberOf, refused, answered}
+use Rattle.entry_run.specs.Answers.{numberOf, answered}
 use Rattle.small_resolver.specs.Resolve.{walkedSmall, resolvedSmall}
 
 -- a small image of the right form for a table
@@ -26,9 +26,9 @@ pub record RightSmall (T : Table) (small : List ℕ) : Type 0 where
 -- of a value
 pub record SmallAnswers (t small v : List ℕ) : Type 0 where
   -- what the plain resolver refuses, 1 to 12, is refused with the same number, whatever the small image
-  pub first : (numberOf t v ≡ 0 → ⊥) → resolvedSmall t small v ≡ refused (numberOf t v)
+  pub first : (numberOf t v ≡ 0 → ⊥) → resolvedSmall t small v ≡ record { refusal = numberOf t v; signal = 0; used = 0; skipped = 0 }
   -- then 15 is given exactly to a small image that is not of the right form
-  pub fifteen : numberOf t v ≡ 0 → (resolvedSmall t small v ≡ refused 15) ↔ (RightSmall (tableOf t) small → ⊥)
+  pub fifteen : numberOf t v ≡ 0 → (resolvedSmall t small v ≡ record { refusal = 15; signal = 0; used = 0; skipped = 0 }) ↔ (RightSmall (tableOf t) small → ⊥)
   -- any other is walked as it is stored, whoever wrote it
   pub walks : numberOf t v ≡ 0 → RightSmall (tableOf t) small → resolvedSmall t small v ≡ answered t (urisOf v) (walkedSmall t small (urisOf v))
 

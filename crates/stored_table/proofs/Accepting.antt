@@ -246,7 +246,7 @@ node-parts T A k h =
     omega (arith, A .few-parts (n .signal) (n .listed) (n .by) (n .named), ap length (n .above .joined), length-append (nodeAt (nodes T) k .path) (n .above .rest))
 
 -- and a table of which all this holds is refused with none of 9 to 12
-all-of : {A : Type 0} (p : A → Bool) (xs : List A) → ((x : A) → List·Memᴰ x xs → p x ≡ true) → all p xs ≡ true
+pub all-of : {A : Type 0} (p : A → Bool) (xs : List A) → ((x : A) → List·Memᴰ x xs → p x ≡ true) → all p xs ≡ true
 unfolding all
 all-of p [] h = refl
 all-of p (x ∷ xs) h = ap₂ _&&_ (h x (List·Memᴰ·head refl)) (all-of p xs (λ y m. h y (List·Memᴰ·tail m)))

@@ -5,3 +5,7 @@ pub mod RefusalNumbers
 pub mod Capitals
 pub mod Examples
 pub mod Limits
+pub mod Writing
+pub mod Stopping
+pub mod NameForms
+pub mod Exactly

@@ -1,6 +1,9 @@
 -- what a reader has to believe
 pub mod Tables
 -- what is claimed of it
+pub mod Bytes
+pub mod Forms
+pub mod Claims
 pub mod Accepted
 pub mod Capitals
 pub mod Limits
