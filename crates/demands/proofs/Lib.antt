@@ -8,6 +8,7 @@ pub mod AvailableLaws
 pub mod SmallLaws
 pub mod DemandLaws
 pub mod Examples
+pub mod CaseExample
 pub mod DemandExample
 pub mod FieldsExample
 pub mod Tried

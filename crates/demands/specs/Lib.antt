@@ -6,6 +6,7 @@ pub mod BesidePlain
 pub mod BesideMachine
 -- the examples
 pub mod Examples
+pub mod CaseExample
 pub mod DemandExample
 pub mod FieldsExample
 pub mod EarlyExample
