@@ -17,7 +17,7 @@ both true true e = (refl, refl)
 both true false e = absurd (let z : _≡_ {A = ℕ} 0 1 = cc in omega arith)
 both false y e = absurd (let z : _≡_ {A = ℕ} 0 1 = cc in omega arith)
 
-either : (x y : Bool) → (x || y) ≡ true → (x ≡ true) ⊎ (y ≡ true)
+pub either : (x y : Bool) → (x || y) ≡ true → (x ≡ true) ⊎ (y ≡ true)
 either true y e = inl refl
 either false y e = inr e
 
@@ -26,11 +26,11 @@ module _ (b : ℕ) where
   in-range lo hi h e = omega (arith, leb-true b hi (both (leb lo b) (leb b hi) e .1))
 
   -- all of a list are bytes
-  abbrev areBytes : List ℕ → Bool
+  abbrev pub areBytes : List ℕ → Bool
   areBytes [] = true
   areBytes (x ∷ xs) = ltb x 256 && areBytes xs
 
-  in-list : (l : List ℕ) → areBytes l ≡ true → oneOf l b ≡ true → b < 256
+  pub in-list : (l : List ℕ) → areBytes l ≡ true → oneOf l b ≡ true → b < 256
   in-list [] h e = absurd (let z : _≡_ {A = ℕ} 0 1 = cc in omega arith)
   in-list (x ∷ xs) h e =
       let p = both (ltb x 256) (areBytes xs) h in

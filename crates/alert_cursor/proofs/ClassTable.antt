@@ -14,7 +14,7 @@ use lib.ListN.{length, getD}
 use Rattle.alert_cursor.specs.Bytes.{Classes, inClass}
 use Rattle.alert_cursor.proofs.Table.{at, both, every}
 
-abbrev sameB : Bool → Bool → Bool
+abbrev pub sameB : Bool → Bool → Bool
 sameB true b = b
 sameB false true = false
 sameB false false = true
@@ -24,7 +24,7 @@ abbrev bit : ℕ → ℕ → Bool
 bit k x = eqb (x / 2 ^ k % 2) 1
 
 -- the test f passes at each number below n
-abbrev below : ℕ → (ℕ → Bool) → Bool
+abbrev pub below : ℕ → (ℕ → Bool) → Bool
 below zero f = true
 below (suc n) f = both (f n) (below n f)
 
@@ -36,7 +36,7 @@ rest : (a b : Bool) → T (both a b) → T b
 rest true b t = t
 rest false b t = absurd t
 
-at-below : (n : ℕ) (f : ℕ → Bool) → T (below n f) → (k : ℕ) → k < n → T (f k)
+pub at-below : (n : ℕ) (f : ℕ → Bool) → T (below n f) → (k : ℕ) → k < n → T (f k)
 at-below zero f t k h = absurd (not-suc-le-zero h)
 at-below (suc n) f t k h =
     ⊎-elim (λ e. subst (λ (m : ℕ). T (f m)) (sym e) (left (f n) (below n f) t))
@@ -46,7 +46,7 @@ at-below (suc n) f t k h =
 unfoldable pub right : ℕ → ℕ → Bool
 right b x = below 5 (λ k. sameB (bit k x) (inClass k b))
 
-same : (a b : Bool) → T (sameB a b) → a ≡ b
+pub same : (a b : Bool) → T (sameB a b) → a ≡ b
 same true true t = refl
 same true false t = absurd t
 same false true t = absurd t

@@ -1,4 +1,5 @@
 pub mod ByteLaws
+pub mod Characters
 mod ClassTable
 pub mod Lands
 pub mod PartLaws

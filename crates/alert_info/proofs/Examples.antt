@@ -1,10 +1,12 @@
 -- Each refusal number is given to some value and to some entry, by computation; values without folded lines.
 -- Assumes nothing.
-use mathlib.Core.Path.{_≡_, refl, sym, _∙_}
+use mathlib.Core.Path.{_≡_, refl, sym, subst, _∙_}
 use mathlib.Core.Logic.{inl, inr}
-use mathlib.Core.List.{List, []}
+use mathlib.Core.Bool.{Bool, true, _&&_, and-eq-true-iff}
+use mathlib.Core.List.{List, [], _∷_}
 use Prim.Native.Nat.{ℕ, zero, suc, _≤_}
 use native.Mathlib.Omega.{arith}
+use lib.Dec.{T}
 use lib.ListN.{length, replicate, length-replicate}
 use Rattle.ascii.specs.Ascii.{bytes}
 use Rattle.alert_cursor.specs.Bytes.{isBlank, isEscapable, isText, isToken, isUri}
@@ -12,13 +14,14 @@ use Rattle.alert_cursor.specs.Parts.{blankAt, endingAt, endingStep, entryAt, fo
 use Rattle.alert_cursor.specs.Walk.{run, runAt, walk, walkAt}
 use Rattle.alert_cursor.specs.Reading.{readingFrom, readingOf, valueStep}
 use Rattle.alert_info.specs.Value.{refusalOf, spansOf, urisOf, entriesOf, entryRefusalOf}
-use Rattle.alert_info.specs.Grammar.{Blanks}
+use Rattle.alert_info.specs.Grammar.{Any, Blanks, Value}
 use Rattle.alert_info.specs.Grammar as G
-use Rattle.alert_info.specs.Claims.{refused, EachNumber, EachEntryNumber}
-use Rattle.alert_info.specs.Examples.{entriesMore, Examples}
+use Rattle.alert_info.specs.Claims.{refused, notCr, Unfolded, EachNumber, EachEntryNumber}
+use Rattle.alert_info.specs.Examples.{entriesMore, onOneLine, Examples}
 use Rattle.alert_info.proofs.ValueLaws.{refusal-long}
 use Rattle.alert_info.proofs.Agree.{refused-exactly}
 use Rattle.alert_info.proofs.EntryLaws.{entry-refused-exactly}
+use Rattle.alert_info.proofs.Unfolded.{as-before}
 
 -- 64 entries are accepted, 65 are not
 accepted : refusalOf (entriesMore 63) ≡ 0
@@ -56,9 +59,31 @@ each-entry-number (suc n) (inl h) =
     (v .0, 0, entry-refused-exactly (v .0) 0 (suc n) .1 (refused (refused-exactly (v .0) (suc n) .0 (v .1))))
 each-entry-number (suc n) (inr e) = (bytes "<a>", 1, second ∙ sym e)
 
+-- bytes of which each passes a test
+abbrev every : (ℕ → Bool) → List ℕ → Bool
+every p [] = true
+every p (b ∷ l) = p b && every p l
+
+any-every : (p : ℕ → Bool) (l : List ℕ) → every p l ≡ true → Any p l
+any-every p [] e = G.none
+any-every p (b ∷ l) e =
+    let a = and-eq-true-iff (p b) (every p l) .0 e in
+    G.more (subst T (sym (a .0)) tt) (any-every p l (a .1))
+
+one-line : Unfolded onOneLine
+one-line = any-every notCr onOneLine refl
+
+-- the value is accepted, and these are its URIs
+line-read : (refusalOf onOneLine ≡ 0) × (urisOf onOneLine ≡ bytes "urn:a" ∷ bytes "http://b/?c" ∷ [])
+unfolding isBlank isEscapable isText isToken isUri blankAt endingAt endingStep entryAt followingAt paramAt quoteAt quotedAt quotedFrom quotedStep settingAt tokenAt whiteAt whiteStep readingFrom readingOf refusalOf spansOf urisOf valueStep run runAt walk walkAt
+line-read = (refl, refl)
+
+line-accepted : Value Blanks onOneLine (bytes "urn:a" ∷ bytes "http://b/?c" ∷ [])
+line-accepted = subst (Value Blanks onOneLine) (line-read .1) (as-before onOneLine one-line .1 (line-read .0))
+
 pub examples : Examples
 unfolding isBlank
-examples = record { unfolded = G.more tt (G.more tt (G.more tt G.none)); before = no-fold }
+examples = record { unfolded = one-line; accepted = line-accepted; before = no-fold }
   where
     no-fold : Blanks (bytes "\r\n ") → ⊥
     no-fold (G.more n k) = n

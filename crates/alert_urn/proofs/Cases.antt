@@ -1,8 +1,8 @@
 -- Letter case: laws of the forms.
 use Prim.Native.Nat.{ℕ, zero, suc, _+_, _-_, _≤_}
-use mathlib.Core.Path.{_≡_, refl, ap, ap₂, _∙_}
+use mathlib.Core.Path.{_≡_, refl, ap, ap₂, sym, _∙_}
 use mathlib.Core.Logic.{inl}
-use mathlib.Core.Bool.{Bool, true, false, not, _&&_, _||_}
+use mathlib.Core.Bool.{Bool, true, false, not, _&&_, _||_, and-eq-true-iff, false≢true}
 use mathlib.Core.List.{List, [], _∷_, map}
 use native.Mathlib.Omega.{arith}
 use lib.ListN.{length, getD, drop}
@@ -11,8 +11,9 @@ use borrow.Author.Tests.{le-leb}
 use Rattle.ascii.specs.Ascii.{within, bytes}
 use Rattle.text_bytes.specs.Text.{all, upTo, past, fields, lower, lowered}
 use Rattle.alert_urn.specs.Names.{labelByte, labelOk, nameOk}
-use Rattle.alert_urn.specs.Urn.{begins, restOk, alertUrn}
-use Rattle.text_bytes.proofs.Cases.{lower-cases, lower-other, lowered-length, lowered-upTo, lowered-past, lowered-drop, lower-twice, fields-case}
+use Rattle.alert_urn.specs.Urn.{notCapital, noCapital, begins, restOk, alertUrn}
+use Rattle.alert_urn.specs.Claims.{NoCapitalExactly}
+use Rattle.text_bytes.proofs.Cases.{lower-cases, lower-out, lower-other, lowered-length, lowered-upTo, lowered-past, lowered-drop, lower-twice, fields-case}
 
 -- the form of a URI has no regard to letter case
 in-range : (lo hi x : ℕ) → lo ≤ x → x ≤ hi → within lo hi x ≡ true
@@ -80,3 +81,26 @@ begins-case (x ∷ w) (y ∷ s) = ap₂ _&&_ (ap (λ z. eqb z x) (lower-twice y)
 pub alert-case : (uri : List ℕ) → alertUrn (lowered uri) ≡ alertUrn uri
 unfolding alertUrn
 alert-case uri = ap₂ _&&_ (begins-case (bytes "urn:alert:") uri) (ap restOk (lowered-drop 10 uri) ∙ rest-case (drop 10 uri))
+
+-- capital letters
+not-true : (b : Bool) → not b ≡ true → b ≡ false
+not-true true e = absurd (false≢true e)
+not-true false e = refl
+
+small-stays : (s : List ℕ) → noCapital s ≡ true → lowered s ≡ s
+unfolding noCapital all lowered
+small-stays [] e = refl
+small-stays (x ∷ s) e =
+    let a = and-eq-true-iff (notCapital x) (all notCapital s) .0 e in
+    ap₂ _∷_ (sym (lower-out x refl (not-true (within 65 90 x) (a .0)))) (small-stays s (a .1))
+
+stays-small : (s : List ℕ) → lowered s ≡ s → noCapital s ≡ true
+unfolding noCapital all lowered
+stays-small [] e = refl
+stays-small (x ∷ s) e =
+    let f : lower x ≡ x = cc in
+    let g : lowered s ≡ s = cc in
+    ap₂ _&&_ (lower-cases x (λ a b h. absurd (omega (arith, sym f ∙ h))) (λ a h. ap not a)) (stays-small s g)
+
+pub no-capital-exactly : NoCapitalExactly
+no-capital-exactly s = (small-stays s, stays-small s)

@@ -51,7 +51,7 @@ run-short (x ∷ xs) h =
     (λ e. simp e)
 
 -- a byte that no label has is none of a label's
-other-byte : (c x : ℕ) → labelByte c ≡ false → labelByte x ≡ true → eqb x c ≡ false
+pub other-byte : (c x : ℕ) → labelByte c ≡ false → labelByte x ≡ true → eqb x c ≡ false
 other-byte c x n e = ne-eqb x c (λ q. false≢true (sym n ∙ ap labelByte (sym q) ∙ e))
 
 -- before a byte that no label has, or the end, the run is what stands up to that byte

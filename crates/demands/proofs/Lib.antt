@@ -9,6 +9,7 @@ pub mod SmallLaws
 pub mod FirstNumber
 pub mod DemandLaws
 pub mod Examples
+pub mod CaseExample
 pub mod DemandExample
 pub mod FieldsExample
 pub mod Tried

@@ -7,6 +7,7 @@ pub mod BesideMachine
 pub mod FirstNumber
 -- the examples
 pub mod Examples
+pub mod CaseExample
 pub mod DemandExample
 pub mod FieldsExample
 pub mod EarlyExample

@@ -29,6 +29,7 @@ use Rattle.text_bytes.specs.Words.{commonNext}
 use Rattle.alert_urn.specs.Urn.{alertUrn}
 use Rattle.text_bytes.proofs.Fields.{byTest, fields-first, same-fields, text-fields}
 use Rattle.text_bytes.proofs.Cases.{lowered-drop, lowered-twice}
+use Rattle.text_bytes.proofs.LetterCase.{lowered-exactly}
 use Rattle.alert_urn.proofs.Cases.{alert-case}
 use Rattle.text_bytes.proofs.Turns.{covers-level, covers-not, covers-ends, common-three, common-le, next-lesser}
 use Rattle.node_search.specs.declared.uses.Search.{Search}
@@ -406,4 +407,4 @@ lowered-use names uri =
     ap₂ (λ a s. cond (a && memberBy sameName (upTo 58 s) names) (some (urn (indexBy sameName (upTo 58 s) names) (fields 58 (past 58 s)))) none) (alert-case uri) e
 
 pub case-ignored : CaseIgnored
-case-ignored names a b e = sym (lowered-use names a) ∙ ap (usedUrn names) e ∙ lowered-use names b
+case-ignored names a b k = sym (lowered-use names a) ∙ ap (usedUrn names) (lowered-exactly a b .1 k) ∙ lowered-use names b

@@ -12,6 +12,7 @@ use Rattle.resolution.specs.Lists.{memberBy, indexBy}
 use Rattle.resolution.specs.Table.{Urn, urn, Table}
 use Rattle.resolution.specs.Nodes.{nodes, number, leaf, deepest}
 use Rattle.text_bytes.specs.Text.{fields, textOf, someBelow, comparedBytes, lowered}
+use Rattle.text_bytes.specs.LetterCase.{SameButCase}
 use Rattle.alert_urn.specs.Urn.{alertUrn, categoryOf, pathOf}
 use Rattle.node_search.specs.declared.uses.Use.{Use}
 use Rattle.node_search.specs.declared.uses.Use.the-variants.{Skipped, Used}
@@ -24,9 +25,9 @@ usedUrn names uri =
     (some (urn (indexBy sameName (categoryOf (lowered (drop 10 uri))) names) (fields 58 (pathOf (lowered (drop 10 uri))))))
     none
 
--- URIs that differ only in letter case are used alike, as the same URN
+-- URIs that are the same but for letter case are used alike, as the same URN
 abbrev pub CaseIgnored : Type 0
-CaseIgnored = (names : List Name) (a b : List ℕ) → lowered a ≡ lowered b → usedUrn names a ≡ usedUrn names b
+CaseIgnored = (names : List Name) (a b : List ℕ) → SameButCase a b → usedUrn names a ≡ usedUrn names b
 
 -- The search for the path u in category c goes through the nodes of that category in their order and ends with the first leaf that is
 -- u or above it. Of each node's path it compares the bytes that u has at the same places, and the first that it lacks there.

@@ -3,3 +3,4 @@ pub mod FormRight
 pub mod MatchLaws
 pub mod Claims
 pub mod Exactly
+pub mod MatchExamples

@@ -2,18 +2,18 @@
 use Prim.Native.Nat.{ℕ, _+_, _-_, _≤_, _<_}
 use mathlib.Core.Path.{_≡_, refl, sym, ap, _∙_}
 use mathlib.Core.Logic.{inl, inr}
-use mathlib.Core.List.{List, [], map}
+use mathlib.Core.List.{List, [], _∷_, map}
 use native.Mathlib.Omega.{arith}
 use lib.ListN.{length, getD, List·getD-map}
 use Rattle.resolution.specs.Lists.{tabulate}
 use Rattle.resolution.specs.Nodes.{nodes}
 use Rattle.resolution.proofs.Lists.{tabulate-at}
-use Rattle.text_bytes.specs.Text.{all, fields, onFirst, past, upTo}
+use Rattle.text_bytes.specs.Text.{all, fields, onFirst, past, upTo, afterColons, textOf}
 use Rattle.alert_urn.specs.Names.{labelByte, labelOk, nameOk}
 use Rattle.alert_urn.specs.Urn.{noCapital, storedName, urnOk}
 use Rattle.table_sections.specs.Stored.{andThen, byteIn, counted, stored, storedFrom, text, times}
 use Rattle.stored_table.specs.Tables.{any, distinct, fewNodes, formed, isListed, judged, judgedRead, listed, noTwo, zeroSilent, single, tableOf, tableRead, tableRefusal, uses, verdict, EachNumber}
-use Rattle.stored_table.specs.Examples.{least, fullest, refusedTables}
+use Rattle.stored_table.specs.Examples.{least, fullest, longest, overTables, refusedTables}
 
 -- some element has the number n, if the elements' numbers are those from lo on
 pub from-list : {A : Type 0} (f : A → ℕ) (lo k : ℕ) (l : List A) (d : A) → map f l ≡ tabulate (λ i. lo + i) k → (n : ℕ) → lo ≤ n → n < lo + k
@@ -33,6 +33,14 @@ least-formed = refl
 pub fullest-formed : tableRefusal fullest ≡ 0
 unfolding all fields labelByte labelOk nameOk onFirst past upTo noCapital storedName urnOk andThen byteIn counted stored storedFrom text times any distinct fewNodes formed isListed judged judgedRead listed noTwo zeroSilent single tableRefusal uses verdict nodes
 fullest-formed = refl
+
+pub longest-formed : tableRefusal longest ≡ 0
+unfolding all fields labelByte labelOk nameOk onFirst past upTo noCapital storedName urnOk andThen byteIn counted stored storedFrom text times any distinct fewNodes formed isListed judged judgedRead listed noTwo zeroSilent single tableRefusal uses verdict nodes afterColons textOf
+longest-formed = refl
+
+pub over-refused : map tableRefusal overTables ≡ 4 ∷ 6 ∷ 6 ∷ 7 ∷ 7 ∷ 6 ∷ 6 ∷ 7 ∷ []
+unfolding all fields labelByte labelOk nameOk onFirst past upTo noCapital storedName urnOk andThen byteIn counted stored storedFrom text times any distinct fewNodes formed isListed judged judgedRead listed noTwo zeroSilent single tableRefusal uses verdict nodes afterColons textOf
+over-refused = refl
 
 pub each-number : EachNumber
 each-number n (inl e) = (least, least-formed ∙ sym e)

@@ -161,7 +161,7 @@ unfolding andThen
 after-got (fault k) f b q e = let z : _≡_ {A = ℕ} 0 1 = cc in absurd (omega arith)
 after-got (got a p) f b q e = (a, p, refl, e)
 
-got-list : {A : Type 0} (xs ys : List A) (p q : ℕ) → got xs p ≡ got ys q → xs ≡ ys
+pub got-list : {A : Type 0} (xs ys : List A) (p q : ℕ) → got xs p ≡ got ys q → xs ≡ ys
 got-list xs ys p q e = cc
 
 pub times-length : {A : Type 0} (rd : ℕ → Read A) (n at : ℕ) (xs : List A) (q : ℕ) → times rd n at ≡ got xs q → length xs ≡ n
