@@ -1,4 +1,4 @@
--- What the definitions of nodes, symbols, machines and walks mean: each is fixed by laws that hold of no other definition.
+-- What the definitions of nodes, symbols, machines and walks mean: each is said once more, as laws about it.
 -- proofs/Order.antt and proofs/MachineMeaning.antt prove each.
 use Prim.Native.Nat.{ℕ, suc, _+_, _*_, _<_}
 use mathlib.Core.Path.{_≡_}

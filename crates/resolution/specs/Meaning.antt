@@ -1,5 +1,5 @@
--- What the definitions of direct resolution that the claims rest on mean: each is fixed by laws that hold of no other
--- definition. proofs/Meaning.antt proves each.
+-- What the definitions of direct resolution that the claims rest on mean: each is said once more, as laws about it.
+-- proofs/Meaning.antt proves each.
 use Prim.Native.Nat.{ℕ, suc, _+_, _≤_, _<_}
 use mathlib.Core.Path.{_≡_}
 use mathlib.Core.Logic.{_⊎_, _↔_, _≢_}
