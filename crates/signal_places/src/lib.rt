@@ -20,6 +20,8 @@ ghost use Rattle.signal_places.specs.Verdict.{verdict};
 ghost use Rattle.signal_places.specs.Slots.{Listing, Numbering, Placed};
 
 // The places of n signals with m URNs, by the node of each URN; or 9, 10 or 11.
+// Promised for arrays that say a table's URNs and the numbers of their nodes, and for rows that are lent clear. For others the number
+// and the rows are left open, and so are the rows where a number is given: they are filled up to the URN that is refused.
 pub fn by_nodes(
     n: usize,
     m: usize,
@@ -50,6 +52,7 @@ pub fn by_nodes(
 }
 
 // The number of a table with too many nodes: 9, 10 or 11, or else 12. Places are compared by their texts.
+// Promised for arrays that say the URNs of a table with over 64 nodes; for others it is left open which of these numbers is given.
 pub fn by_texts(
     t: &[u8],
     n: usize,

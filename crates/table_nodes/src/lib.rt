@@ -219,6 +219,8 @@ fn add_urn(
 }
 
 // The nodes of all URNs, and each URN's node; 65 if there are more than 64.
+// Promised for at most 256 URNs and arrays that are lent clear. What is answered and put into arrays that hold something already, or
+// for more URNs than they have room for, is left open: a node is looked for among those that the arrays hold.
 pub fn add_all(
     t: &[u8],
     m: usize,

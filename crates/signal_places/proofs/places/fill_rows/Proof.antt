@@ -8,6 +8,7 @@ use Rattle.signal_places.specs.Tests.{noTwo}
 use Rattle.signal_places.specs.Slots.{keyAt, sameKey, nodeIn, rowIn, Fillable}
 use Rattle.signal_places.proofs.TestLaws.{two-start, two-ends}
 use Rattle.signal_places.proofs.RowLaws.{row-start, bytes-start, row-twice, row-once, bytes-next, row-put}
+use Rattle.node_step.proofs.PackedLaws.{place-in, put-in}
 use borrow.Author.Needs.{needs}
 use Rattle.signal_places.proofs.places.fill_rows.Statement.{statement}
 use Rattle.signal_places.proofs.places.fill_rows.Tie as tie
@@ -84,9 +85,9 @@ loop-again c =
           let e = x .ensures .0 in
           let g = y .ensures .0 in (
             length-set (l .rows) (x .result) (c .with-place .result) ∙ v .0,
-            row-once (a .signal .now) (a .category .now) (a .node .now) (l .rows) (l .i) (x .result) (y .result) e g h (v .2) (v .3) k (λ j w. r .1 j (omega arith) .0) (v .1) (sym (c .before .before .before .place-in .ensures h) ∙ c .before .before .if2 .taken),
+            row-once (a .signal .now) (a .category .now) (a .node .now) (l .rows) (l .i) (x .result) (y .result) e g h (v .2) (v .3) k (λ j w. r .1 j (omega arith) .0) (v .1) (sym (c .before .before .before .place-in .ensures ∙ place-in _ _ h) ∙ c .before .before .if2 .taken),
             bytes-next (a .signal .now) (a .category .now) (a .node .now) (l .rows) (l .i) (x .result) (y .result) e g h (v .2) (v .3) k (omega (arith, r .1 _ i .1)),
-            row-put (a .signal .now) (a .category .now) (a .node .now) (l .rows) (l .i) (x .result) (y .result) e g h (v .2) (v .3) k (c .with-place .result) _ (c .with-place .ensures h) refl (v .0),
+            row-put (a .signal .now) (a .category .now) (a .node .now) (l .rows) (l .i) (x .result) (y .result) e g h (v .2) (v .3) k (c .with-place .result) _ (c .with-place .ensures ∙ put-in _ _ _ h) refl (v .0),
           ),
     )
 
@@ -101,7 +102,7 @@ returns-2 c =
           let v = l .inv .1 r in
           let h : y .result < 8 = omega (arith, y .ensures .0, r .0 .1 _ i) in
           let k : x .result < 32 = omega (arith, c .before .before .before .before .before .if1 .left) in
-          row-twice (a .signal .now) (a .category .now) (a .node .now) (l .rows) (l .i) (x .result) (y .result) (x .ensures .0) (y .ensures .0) h (v .2) (v .3) k (a .m) i (λ z. c .if2 .left (c .before .place-in .ensures h ∙ z)),
+          row-twice (a .signal .now) (a .category .now) (a .node .now) (l .rows) (l .i) (x .result) (y .result) (x .ensures .0) (y .ensures .0) h (v .2) (v .3) k (a .m) i (λ z. c .if2 .left (c .before .place-in .ensures ∙ place-in _ _ h ∙ z)),
       λ r e. absurd (false≢true e),
     )
 
