@@ -54,7 +54,7 @@ pub(crate) fn tried(t: &[u8], d: Decoded, v: &[u8]) -> PlainResolution
     with_tries(e.answer, last.tries)
 }
 
-// The value v with what is decoded of the table t; the refusal that is decoded, if there is one.
+// The value v with what is decoded of the table t, or the refusal that is decoded.
 pub fn plain(t: &[u8], d: Decoded, v: &[u8]) -> Resolution
     ensures { λ r. ⌜ r ≡ plainBy (now (t .entry)) d (now (v .entry)) ⌝ }
 {
