@@ -39,7 +39,7 @@ fn among(d: Decoded, set: u32) -> Decoded
 }
 
 // The value v with the table t, decoded as d, and the signals of the set, bit s for signal s.
-pub fn by(t: &[u8], d: Decoded, set: u32, v: &[u8]) -> Resolution
+fn by(t: &[u8], d: Decoded, set: u32, v: &[u8]) -> Resolution
     ensures { λ r. ⌜ (Means (now (t .entry)) d → r ≡ availableOf (now (t .entry)) set (now (v .entry))) ⌝ }
 {
     if d.refusal != 0 {

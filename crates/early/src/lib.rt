@@ -46,7 +46,7 @@ fn value_first(v: &[u8], k: u8) -> Early
 }
 
 // The value v with the table t, decoded as d.
-pub fn by(t: &[u8], d: Decoded, v: &[u8]) -> Early
+fn by(t: &[u8], d: Decoded, v: &[u8]) -> Early
     ensures { λ r. ⌜ (Means (now (t .entry)) d → r ≡ earlyOf (now (t .entry)) (now (v .entry))) ⌝ }
 {
     if 4096 < v.len() {

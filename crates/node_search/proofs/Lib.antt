@@ -1,3 +1,4 @@
+pub mod TextLaws
 pub mod MarkLaws
 pub mod UseLaws
 pub mod UseRight

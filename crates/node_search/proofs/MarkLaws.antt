@@ -1,18 +1,21 @@
 -- Laws of the marks of nodes: which have nodes under them, and how many bytes a path shares with the one before it.
-use Prim.Native.Nat.{ℕ, zero, suc, _+_, _-_, _≤_, _<_}
+use Prim.Native.Nat.{ℕ, zero, suc, _+_, _-_, _≤_, _<_, min}
 use mathlib.Core.Path.{_≡_, refl, ap, ap₂, sym, _∙_}
-use mathlib.Core.Bool.{Bool, true, false, not, _&&_, _||_}
+use mathlib.Core.Bool.{Bool, true, false, cond, not, _&&_, _||_}
 use mathlib.Core.List.{List, []}
 use native.Mathlib.Omega.{arith}
 use native.Mathlib.Decide.{ℕ-discrete}
 use native.Mathlib.Numerals.{add-one}
 use native.Mathlib.Nat.{zero-add}
-use lib.Dec.{eqb}
+use lib.Dec.{eqb, ltb}
 use lib.ListN.{length, getD, set, take, drop, replicate}
-use lib.Seq.{getD-set-same, getD-set-other}
-use borrow.Author.Tests.{eq-eqb, ne-eqb}
+use lib.Seq.{getD-set-same, getD-set-other, ext-getD}
+use borrow.Author.Tests.{eq-eqb, ne-eqb, lt-ltb, ltb-true, ltb-false}
+use Rattle.resolution.specs.Lists.{tabulate}
+use Rattle.resolution.proofs.Lists.{tabulate-length, tabulate-at}
+use Rattle.text_bytes.proofs.Fields.{byTest}
 use Rattle.text_bytes.specs.Text.{common}
-use Rattle.node_search.specs.Arrays.{stretch, lastPath, SharedIn, childless}
+use Rattle.node_search.specs.Arrays.{stretch, lastPath, sharedOf, SharedIn, childless, innerOf}
 
 or-false : (b : Bool) → b || false ≡ b
 or-false true = refl
@@ -92,3 +95,38 @@ shared-more t ca pos len sh i {x} {y} {k} {r} v h e f g d s l = go (ℕ-discrete
 -- as many nodes
 pub shared-of : (t ca pos len sh : List ℕ) {n m : ℕ} → n ≡ m → SharedIn t ca pos len sh n → SharedIn t ca pos len sh m
 shared-of t ca pos len sh e v i h = v i (omega arith)
+
+-- nothing is shared yet
+pub unshared : (n k : ℕ) → _≡_ {A = ℕ} (getD (replicate n 0) k 0) 0
+unshared zero k = refl
+unshared (suc n) zero = refl
+unshared (suc n) (suc k) = unshared n k
+
+-- both arrays whole
+module _ (t ca pos len : List ℕ) where
+  pub shares-all : (sh : List ℕ) {n m : ℕ} → n ≡ m → length sh ≡ 64 → SharedIn t ca pos len sh n → ((k : ℕ) → n ≤ k → getD sh k 0 ≡ 0)
+      → sh ≡ tabulate (sharedOf t ca pos len m) 64
+  unfolding sharedOf
+  shares-all sh {n} {m} e l v z =
+      ext-getD 0 sh (tabulate (sharedOf t ca pos len m) 64) (l ∙ sym (tabulate-length (sharedOf t ca pos len m) 64))
+      (λ i h. byTest (ltb i m)
+      (λ b. v i (omega (arith, ltb-true i m b)) ∙ sym (tabulate-at (sharedOf t ca pos len m) 64 i 0 (omega arith) ∙ ap (λ b. cond b (sharedBy t ca pos len i) 0) b))
+      (λ b. z i (omega (arith, ltb-false i m b)) ∙ sym (tabulate-at (sharedOf t ca pos len m) 64 i 0 (omega arith) ∙ ap (λ b. cond b (sharedBy t ca pos len i) 0) b)))
+
+  -- and what they say of each node
+  pub shared-in : {sh : List ℕ} (nodes : ℕ) → sh ≡ tabulate (sharedOf t ca pos len (min nodes 64)) 64 → SharedIn t ca pos len sh (min nodes 64)
+  unfolding sharedOf
+  shared-in nodes e i l =
+      ap (λ s. getD s i 0) e ∙ tabulate-at (sharedOf t ca pos len (min nodes 64)) 64 i 0 (omega arith)
+      ∙ ap (λ b. cond b (sharedBy t ca pos len i) 0) (lt-ltb i (min nodes 64) l)
+
+pub marks-all : (ps : List ℕ) (inner : List Bool) {n m : ℕ} → n ≡ m → length inner ≡ 64 → ((k : ℕ) → k < 64 → getD inner k false ≡ not (childless ps (k + 1) n))
+    → inner ≡ tabulate (innerOf ps m) 64
+unfolding innerOf
+marks-all ps inner {n} {m} e l v =
+    ext-getD false inner (tabulate (innerOf ps m) 64) (l ∙ sym (tabulate-length (innerOf ps m) 64))
+    (λ k h. v k (omega arith) ∙ ap (λ j. not (childless ps j n)) (add-one k) ∙ ap (λ j. not (childless ps (suc k) j)) e ∙ sym (tabulate-at (innerOf ps m) 64 k false (omega arith)))
+
+pub inner-in : (ps : List ℕ) {inner : List Bool} (n : ℕ) → inner ≡ tabulate (innerOf ps n) 64 → (k : ℕ) → k < 64 → getD inner k false ≡ not (childless ps (k + 1) n)
+unfolding innerOf
+inner-in ps n e k h = ap (λ s. getD s k false) e ∙ tabulate-at (innerOf ps n) 64 k false h ∙ ap (λ j. not (childless ps j n)) (sym (add-one k))

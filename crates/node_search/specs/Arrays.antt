@@ -4,7 +4,7 @@ use Prim.Native.Nat.{ℕ, zero, suc, _≤_, _<_}
 use mathlib.Core.Path.{_≡_}
 use mathlib.Core.Bool.{Bool, true, false, cond, not, _&&_}
 use mathlib.Core.List.{List, []}
-use lib.Dec.{eqb}
+use lib.Dec.{eqb, ltb}
 use lib.ListN.{getD, length, take, drop}
 use Rattle.resolution.specs.Names.{Name}
 use Rattle.resolution.specs.Table.{Table}
@@ -14,6 +14,10 @@ use Rattle.text_bytes.specs.Text.{fields, common}
 -- the bytes of t at the i-th of the places in `at`, as many as `len` says
 abbrev pub stretch : List ℕ → List ℕ → List ℕ → ℕ → List ℕ
 stretch t at len i = take (getD len i 0) (drop (getD at i 0) t)
+
+-- the same in arrays with room for n texts: no bytes past them
+unfoldable pub textIn : ℕ → List ℕ → List ℕ → List ℕ → ℕ → List ℕ
+textIn n t at len i = cond (ltb i n) (stretch t at len i) []
 
 -- the names of the categories, in order
 pub record NamesIn (t nameAt nameLen : List ℕ) (k : ℕ) (names : List Name) : Type 0 where
@@ -33,7 +37,11 @@ unfoldable pub lastPath : List ℕ → List ℕ → List ℕ → List ℕ → �
 lastPath t category at len c zero = []
 lastPath t category at len c (suc i) = cond (eqb (getD category i 0) c) (stretch t at len i) (lastPath t category at len c i)
 
--- how many bytes the path of each node has in common with the one before it in its category
+-- how many bytes the path of the i-th of n nodes has in common with the one before it in its category; 0 past them
+unfoldable pub sharedOf : (t category at len : List ℕ) (n i : ℕ) → ℕ
+sharedOf t category at len n i = cond (ltb i n) (common (lastPath t category at len (getD category i 0) i) (stretch t at len i)) 0
+
+-- so it is of each of n nodes
 abbrev pub SharedIn : List ℕ → List ℕ → List ℕ → List ℕ → List ℕ → ℕ → Type 0
 SharedIn t category at len shared n = (i : ℕ) → i < n → getD shared i 0 ≡ common (lastPath t category at len (getD category i 0) i) (stretch t at len i)
 
@@ -41,6 +49,10 @@ SharedIn t category at len shared n = (i : ℕ) → i < n → getD shared i 0 �
 unfoldable pub childless : List ℕ → ℕ → ℕ → Bool
 childless ps d zero = true
 childless ps d (suc n) = childless ps d n && not (eqb (getD ps n 0) d)
+
+-- whether some of the first n nodes has the k-th for its parent
+unfoldable pub innerOf : List ℕ → ℕ → ℕ → Bool
+innerOf ps n k = not (childless ps (suc k) n)
 
 -- which nodes have nodes under them; the others are the leaves
 abbrev pub InnerIn : List Bool → Table → Type 0

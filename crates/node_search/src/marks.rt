@@ -6,7 +6,8 @@ ghost use mathlib.Core.Bool.{false, not, _||_};
 ghost use Prim.Native.Nat.{ℕ, _+_, _≤_, _<_, min};
 ghost use lib.Dec.{eqb};
 ghost use lib.ListN.{length, getD};
-ghost use Rattle.node_search.specs.Arrays.{lastPath, SharedIn, childless};
+ghost use Rattle.resolution.specs.Lists.{tabulate};
+ghost use Rattle.node_search.specs.Arrays.{lastPath, sharedOf, SharedIn, childless, innerOf};
 
 pub struct Marks {
     pub shared: [u8; 64],
@@ -31,6 +32,7 @@ fn mark(p: u8, inner: &mut [bool; 64])
 // Of n nodes those that are a node's parent are marked.
 fn mark_parents(parents: &[u8; 64], n: usize, inner: &mut [bool; 64])
     requires { ⌜ (n ≤ 64) × (length (now inner) ≡ 64) × ((k : ℕ) → k < 64 → getD (now inner) k false ≡ false) ⌝ }
+    ensures { λ _. ⌜ length (now (inner .exit)) ≡ 64 ⌝ }
     ensures { λ _. ⌜ ((k : ℕ) → k < 64 → getD (now (inner .exit)) k false ≡ not (childless (now (parents .entry)) (k + 1) n)) ⌝ }
 {
     let mut i = 0;
@@ -80,7 +82,8 @@ fn share_paths<'a>(
     len: &'a [u8; 64],
     shared: &mut [u8; 64],
 )
-    requires { ⌜ (n ≤ 64) × (length (now shared) ≡ 64) ⌝ }
+    requires { ⌜ (n ≤ 64) × (length (now shared) ≡ 64) × ((k : ℕ) → getD (now shared) k 0 ≡ 0) ⌝ }
+    ensures { λ _. ⌜ (length (now (shared .exit)) ≡ 64) × ((k : ℕ) → n ≤ k → getD (now (shared .exit)) k 0 ≡ 0) ⌝ }
     ensures { λ _. ⌜ SharedIn (now (t .entry)) (now (category .entry)) (now (at .entry)) (now (len .entry)) (now (shared .exit)) n ⌝ }
 {
     let mut i = 0;
@@ -93,7 +96,7 @@ fn share_paths<'a>(
     }
 }
 
-// The marks of the nodes that the arrays hold, at most 64.
+// The marks of the nodes that the arrays hold, at most 64; those past them share nothing.
 pub fn of_nodes<'a>(
     t: &[u8],
     category: &'a [u8; 64],
@@ -102,8 +105,8 @@ pub fn of_nodes<'a>(
     len: &'a [u8; 64],
     nodes: usize,
 ) -> Marks
-    ensures { λ r. ⌜ SharedIn (now (t .entry)) (now (category .entry)) (now (at .entry)) (now (len .entry)) (r .shared) (min nodes 64) ⌝ }
-    ensures { λ r. ⌜ ((k : ℕ) → k < 64 → getD (r .inner) k false ≡ not (childless (now (parent .entry)) (k + 1) (min nodes 64))) ⌝ }
+    ensures { λ r. ⌜ (r .shared ≡ tabulate (sharedOf (now (t .entry)) (now (category .entry)) (now (at .entry)) (now (len .entry)) (min nodes 64)) 64)
+        × (r .inner ≡ tabulate (innerOf (now (parent .entry)) (min nodes 64)) 64) ⌝ }
 {
     let n = text_bytes::compare::at_most(nodes, 64);
     let mut shared = [0u8; 64];

@@ -1,11 +1,10 @@
 // The places of a signal, each in its byte of one number: read and set.
 ghost use mathlib.Core.Path.{_≡_};
-ghost use Prim.Native.Nat.{_<_};
-ghost use Rattle.node_step.specs.Step.{digit, put};
+ghost use Rattle.node_step.specs.Step.{placeIn, withPlace};
 
 // The place in category c, or 0 if there is no byte for it.
 pub fn place_in(row: u64, c: usize) -> u8
-    ensures { λ r. ⌜ (c < 8 → r ≡ digit row c) ⌝ }
+    ensures { λ r. ⌜ r ≡ placeIn row c ⌝ }
 {
     if c < 8 {
         return crate::digit_at(row, c);
@@ -15,7 +14,7 @@ pub fn place_in(row: u64, c: usize) -> u8
 
 // The row with p for its place in category c, or as it is if there is no byte for it.
 pub fn with_place(row: u64, c: usize, p: u8) -> u64
-    ensures { λ r. ⌜ (c < 8 → r ≡ put row c p) ⌝ }
+    ensures { λ r. ⌜ r ≡ withPlace row c p ⌝ }
 {
     if c < 8 {
         return crate::put_at(row, c, crate::digit_at(row, c), p);

@@ -11,8 +11,8 @@ ghost use mathlib.Core.Path.{_≡_};
 ghost use mathlib.Core.Bool.{cond};
 ghost use lib.Dec.{eqb};
 ghost use Rattle.alert_info.specs.Value.{refusalOf};
-ghost use Rattle.stored_table.specs.Decoded.{Means};
-ghost use Rattle.resolver.specs.Resolve.{refused as refusedWith, triedAs, plainOf, plainWith};
+ghost use Rattle.resolver.specs.Resolve.{refused as refusedWith, triedAs};
+ghost use Rattle.resolver.specs.ByTable.{triedBy, plainBy};
 
 // An answer with its tries, of which a refused one has none.
 fn with_tries(a: Resolution, tries: u16) -> PlainResolution
@@ -45,18 +45,18 @@ pub(crate) fn untried(v: &[u8], k: u8) -> PlainResolution
     with_tries(value_first(v, k), 0)
 }
 
-// The value v with the table t, decoded as d and not refused, and the tries.
+// The value v with what is decoded of the table t, and the tries.
 pub(crate) fn tried(t: &[u8], d: Decoded, v: &[u8]) -> PlainResolution
-    ensures { λ r. ⌜ (Means (now (t .entry)) d → d .refusal ≡ 0 → r ≡ plainWith (now (t .entry)) (now (v .entry))) ⌝ }
+    ensures { λ r. ⌜ r ≡ triedBy (now (t .entry)) d (now (v .entry)) ⌝ }
 {
     let e = direct(t, d, at_start(), v);
     let last = e.last;
     with_tries(e.answer, last.tries)
 }
 
-// The value v with the table t, decoded as d.
+// The value v with what is decoded of the table t, or the refusal that is decoded.
 pub fn plain(t: &[u8], d: Decoded, v: &[u8]) -> Resolution
-    ensures { λ r. ⌜ (Means (now (t .entry)) d → r ≡ plainOf (now (t .entry)) (now (v .entry))) ⌝ }
+    ensures { λ r. ⌜ r ≡ plainBy (now (t .entry)) d (now (v .entry)) ⌝ }
 {
     if d.refusal != 0 {
         return value_first(v, d.refusal);

@@ -2,4 +2,5 @@ pub mod TestLaws
 pub mod SlotLaws
 pub mod Flat
 pub mod RowLaws
+pub mod FilledLaws
 pub mod Placing

@@ -3,3 +3,4 @@ pub mod Tests
 pub mod Verdict
 -- what only the code's inner promises use
 pub mod Slots
+pub mod Filled

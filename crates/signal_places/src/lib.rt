@@ -18,8 +18,11 @@ ghost use Rattle.node_search.specs.Arrays.{stretch};
 ghost use Rattle.table_sections.specs.Held.{Padded};
 ghost use Rattle.signal_places.specs.Verdict.{verdict};
 ghost use Rattle.signal_places.specs.Slots.{Listing, Numbering, Placed};
+ghost use Rattle.signal_places.specs.Filled.{rowsBy, nodesNumber, slotsBy, textsNumber};
 
 // The places of n signals with m URNs, by the node of each URN; or 9, 10 or 11.
+// The number and the rows follow from the arrays, whatever they hold; where they say a table, and the rows are lent clear, they are
+// the table's.
 pub fn by_nodes(
     n: usize,
     m: usize,
@@ -28,7 +31,9 @@ pub fn by_nodes(
     node: &[u8; 256],
     rows: &mut [u64; 32],
 ) -> u8
-    ensures { λ r. ⌜ ((T : Table) (path : ℕ → Parts) → Listing T (now (signal .entry)) (now (category .entry)) path n m
+    ensures { λ r. ⌜ (r ≡ nodesNumber n m (now (signal .entry)) (rowsBy n m (now (signal .entry)) (now (category .entry)) (now (node .entry)) (now (rows .entry))))
+        × (now (rows .exit) ≡ rowsBy n m (now (signal .entry)) (now (category .entry)) (now (node .entry)) (now (rows .entry)) .held) ⌝ }
+    ensures placed { λ r. ⌜ ((T : Table) (path : ℕ → Parts) → Listing T (now (signal .entry)) (now (category .entry)) path n m
         → Numbering T (now (category .entry)) path (now (node .entry)) m → Padded 32 0 (now (rows .entry)) → Placed T (now (rows .exit)) n r) ⌝ }
 {
     if 32 < n {
@@ -50,6 +55,7 @@ pub fn by_nodes(
 }
 
 // The number of a table with too many nodes: 9, 10 or 11, or else 12. Places are compared by their texts.
+// It follows from the arrays, whatever they hold; where they say a table with over 64 nodes, it is the table's number.
 pub fn by_texts(
     t: &[u8],
     n: usize,
@@ -60,7 +66,8 @@ pub fn by_texts(
     path_at: &[u16; 256],
     path_len: &[u8; 256],
 ) -> u8
-    ensures { λ r. ⌜ ((T : Table) → Listing T (now (signal .entry)) (now (category .entry)) (λ i. fields 58 (stretch (now (t .entry)) (now («path_at» .entry)) (now («path_len» .entry)) i)) n m
+    ensures { λ r. ⌜ r ≡ textsNumber (now (t .entry)) n categories m (now (signal .entry)) (now («path_at» .entry)) (now («path_len» .entry)) (slotsBy n categories m (now (signal .entry)) (now (category .entry))) ⌝ }
+    ensures number { λ r. ⌜ ((T : Table) → Listing T (now (signal .entry)) (now (category .entry)) (λ i. fields 58 (stretch (now (t .entry)) (now («path_at» .entry)) (now («path_len» .entry)) i)) n m
         → T .cats ≡ categories → 64 < length (nodes T) → r ≡ verdict T) ⌝ }
 {
     if 32 < n {

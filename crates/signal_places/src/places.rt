@@ -12,6 +12,7 @@ ghost use Rattle.resolution.specs.Lists.{tabulate};
 ghost use Rattle.text_bytes.specs.Text.{all};
 ghost use Rattle.signal_places.specs.Tests.{any, noTwo};
 ghost use Rattle.signal_places.specs.Slots.{keyAt, sameKey, rowIn, Fillable, sameSlots, samePlacesAt};
+ghost use Rattle.signal_places.specs.Filled.{rowsFrom};
 
 // The places of the signals: each of m URNs gives its signal a node in its category; false if a signal has two of one.
 pub(crate) fn fill_rows(
@@ -25,6 +26,7 @@ pub(crate) fn fill_rows(
     ensures { λ r. ⌜ (Fillable (now (signal .entry)) (now (category .entry)) (now (node .entry)) (now (rows .entry)) m → r ≡ noTwo sameKey (tabulate (keyAt (now (signal .entry)) (now (category .entry))) m)) ⌝ }
     ensures filled { λ r. ⌜ (Fillable (now (signal .entry)) (now (category .entry)) (now (node .entry)) (now (rows .entry)) m → r ≡ true
         → (length (now (rows .exit)) ≡ 32) × ((s : ℕ) → s < 32 → getD (now (rows .exit)) s 0 ≡ rowIn (keyAt (now (signal .entry)) (now (category .entry))) (now (node .entry)) s m)) ⌝ }
+    ensures all { λ r. ⌜ rowsFrom (now (signal .entry)) (now (category .entry)) (now (node .entry)) 0 m (now (rows .entry)) ≡ record { ok = r; held = now (rows .exit) } ⌝ }
 {
     let mut i = 0;
     while i < m {

@@ -4,10 +4,10 @@ ghost use mathlib.Core.Path.{_≡_};
 ghost use mathlib.Core.Bool.{true, false};
 ghost use Prim.Native.Nat.{ℕ, _≤_, _<_, _+_, _*_};
 ghost use lib.ListN.{length, getD};
-ghost use lib.Dec.{eqb, ltb};
 ghost use Rattle.resolution.specs.Lists.{tabulate};
 ghost use Rattle.signal_places.specs.Tests.{noTwo};
 ghost use Rattle.signal_places.specs.Slots.{InRange, keyAt, sameKey, slotIn};
+ghost use Rattle.signal_places.specs.Filled.{slotsFrom, firstSilent};
 
 // One more than the number of the URN of a signal and category, at 8 * signal + category; false if a signal has two of one.
 pub(crate) fn fill_slots(
@@ -21,6 +21,7 @@ pub(crate) fn fill_slots(
     ensures filled { λ r. ⌜ (InRange (now (signal .entry)) (now (category .entry)) m → r ≡ true → (s c : ℕ) → c < 8
         → getD (now (slots .exit)) (8 * s + c) 0 ≡ slotIn (keyAt (now (signal .entry)) (now (category .entry))) s c m) ⌝ }
     ensures few { λ r. ⌜ ((j : ℕ) → getD (now (slots .exit)) j 0 ≤ 256) ⌝ }
+    ensures all { λ r. ⌜ slotsFrom (now (signal .entry)) (now (category .entry)) 0 m (now (slots .entry)) ≡ record { ok = r; held = now (slots .exit) } ⌝ }
 {
     let mut i = 0;
     while i < m {
@@ -40,7 +41,7 @@ pub(crate) fn fill_slots(
 
 // The first URN, if there is one, is not of signal 0.
 pub(crate) fn silent(m: usize, signal: &[u8; 256]) -> bool
-    ensures { λ r. ⌜ (m ≡ 0 → r ≡ true) × (0 < m → r ≡ ltb 0 (getD (now (signal .entry)) 0 0)) ⌝ }
+    ensures { λ r. ⌜ r ≡ firstSilent m (now (signal .entry)) ⌝ }
 {
     if 0 < m {
         return 0 < signal[0];

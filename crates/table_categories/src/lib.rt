@@ -16,13 +16,12 @@ ghost use Rattle.resolution.specs.Lists.{tabulate, indexBy};
 ghost use Rattle.resolution.specs.Names.{sameName};
 ghost use Rattle.text_bytes.specs.Text.{all};
 ghost use Rattle.alert_urn.specs.Urn.{storedName};
-ghost use Rattle.node_search.specs.Arrays.{stretch};
 ghost use Rattle.signal_places.specs.Tests.{any, noTwo};
-ghost use Rattle.table_categories.specs.Categories.{isListed, Fits, Indexed};
+ghost use Rattle.table_categories.specs.Categories.{namesIn, allListed, allUsed, Fits, Indexed};
 
-// Every name has its form.
+// Every name has its form. Past the 8 for which there is room a name is empty, here and below.
 pub fn names_formed(t: &[u8], n: usize, at: &[u16; 8], len: &[u8; 8]) -> bool
-    ensures { λ r. ⌜ (n ≤ 8 → r ≡ all storedName (tabulate (stretch (now (t .entry)) (now (at .entry)) (now (len .entry))) n)) ⌝ }
+    ensures { λ r. ⌜ r ≡ all storedName (namesIn (now (t .entry)) (now (at .entry)) (now (len .entry)) n) ⌝ }
 {
     let mut i = 0;
     while i < n {
@@ -37,7 +36,7 @@ pub fn names_formed(t: &[u8], n: usize, at: &[u16; 8], len: &[u8; 8]) -> bool
 
 // The number of the first of n categories that has the name s, or n.
 fn name_index(t: &[u8], s: &[u8], n: usize, at: &[u16; 8], len: &[u8; 8]) -> usize
-    ensures { λ r. ⌜ (n ≤ 8 → r ≡ indexBy sameName (now (s .entry)) (tabulate (stretch (now (t .entry)) (now (at .entry)) (now (len .entry))) n)) ⌝ }
+    ensures { λ r. ⌜ r ≡ indexBy sameName (now (s .entry)) (namesIn (now (t .entry)) (now (at .entry)) (now (len .entry)) n) ⌝ }
     ensures few { λ r. ⌜ r ≤ n ⌝ }
 {
     let mut i = 0;
@@ -52,7 +51,7 @@ fn name_index(t: &[u8], s: &[u8], n: usize, at: &[u16; 8], len: &[u8; 8]) -> usi
 
 // No category is listed twice.
 pub fn names_distinct(t: &[u8], n: usize, at: &[u16; 8], len: &[u8; 8]) -> bool
-    ensures { λ r. ⌜ (n ≤ 8 → r ≡ noTwo sameName (tabulate (stretch (now (t .entry)) (now (at .entry)) (now (len .entry))) n)) ⌝ }
+    ensures { λ r. ⌜ r ≡ noTwo sameName (namesIn (now (t .entry)) (now (at .entry)) (now (len .entry)) n) ⌝ }
 {
     let mut i = 0;
     while i < n {
@@ -83,7 +82,9 @@ fn room(at: &[u16; 256], len: &[u8; 256]) -> usize
     text_bytes::compare::at_most(a.len(), n.len())
 }
 
-// The category of every URN, as far as it is listed, and its text cut down to its path.
+// Whether the category of each of m URNs is listed; then it is put into the array, and the URN's text is cut down to its path.
+// What the arrays have is promised if all are listed, of a table of at most 8,192 bytes with at most 8 categories. Otherwise it is
+// left open: no caller looks at them then.
 pub fn index_urns(
     t: &[u8],
     n: usize,
@@ -94,11 +95,9 @@ pub fn index_urns(
     len: &mut [u8; 256],
     category: &mut [u8; 256],
 ) -> bool
-    ensures { λ r. ⌜ (Fits (now (t .entry)) n m (now (category .entry))
-        → r ≡ all (isListed (tabulate (stretch (now (t .entry)) (now («name_at» .entry)) (now («name_len» .entry))) n))
-        (tabulate (stretch (now (t .entry)) (now (at .entry)) (now (len .entry))) m)) ⌝ }
+    ensures { λ r. ⌜ r ≡ allListed (namesIn (now (t .entry)) (now («name_at» .entry)) (now («name_len» .entry)) n) (now (t .entry)) (now (at .entry)) (now (len .entry)) m ⌝ }
     ensures indexed { λ r. ⌜ (Fits (now (t .entry)) n m (now (category .entry)) → r ≡ true
-        → Indexed (now (t .entry)) (tabulate (stretch (now (t .entry)) (now («name_at» .entry)) (now («name_len» .entry))) n) (now (at .entry)) (now (len .entry)) m
+        → Indexed (now (t .entry)) (namesIn (now (t .entry)) (now («name_at» .entry)) (now («name_len» .entry)) n) (now (at .entry)) (now (len .entry)) m
         (now (category .exit)) (now (at .exit)) (now (len .exit))) ⌝ }
 {
     if room(at, len) < m {
@@ -138,9 +137,9 @@ fn has_category(category: &[u8; 256], m: usize, c: usize) -> bool
     false
 }
 
-// Every one of n categories has a URN.
+// Every one of n categories has one of m URNs; false if there is no room for so many.
 pub fn all_used(category: &[u8; 256], m: usize, n: usize) -> bool
-    ensures { λ r. ⌜ (m ≤ 256 → r ≡ all (λ c. any (λ x. eqb x c) (tabulate (λ j. getD (now (category .entry)) j 0) m)) (tabulate (λ c. c) n)) ⌝ }
+    ensures { λ r. ⌜ r ≡ allUsed (now (category .entry)) m n ⌝ }
 {
     if 256 < m {
         return false;

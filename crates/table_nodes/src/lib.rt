@@ -219,6 +219,8 @@ fn add_urn(
 }
 
 // The nodes of all URNs, and each URN's node; 65 if there are more than 64.
+// Promised for at most 256 URNs and arrays that are lent clear, so that nothing stands past the nodes. For more URNs and for other
+// arrays all is left open, and so is what the arrays hold where 65 is answered.
 pub fn add_all(
     t: &[u8],
     m: usize,

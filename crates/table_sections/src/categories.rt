@@ -34,6 +34,7 @@ fn read_names(t: &[u8], from: usize, n: usize, at: &mut [u16; 8], len: &mut [u8;
 }
 
 // 1 to 8 categories, at the beginning of a table: how many, and the position after them.
+// Promised for a table of at most 8,192 bytes and arrays that are lent clear. What these hold where a fault is met is left open.
 pub fn read_categories(t: &[u8], at: &mut [u16; 8], len: &mut [u8; 8]) -> Reading
     ensures { λ r. ⌜ NamesRead (now (t .entry)) (now (at .entry)) (now (len .entry)) (now (at .exit)) (now (len .exit)) (categories (now (t .entry)) 0) r ⌝ }
     ensures few { λ r. ⌜ readAtMost r 8 ⌝ }

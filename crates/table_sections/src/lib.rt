@@ -76,6 +76,8 @@ fn read_rest(
 }
 
 // The whole table: the names of its categories and the URNs of its signals, as places in the bytes, and each URN's signal.
+// Promised for arrays of names that are lent clear; the three others have room for every URN in any case. What the arrays hold where
+// a fault is met is left open: they are filled up to it.
 pub fn read(
     t: &[u8],
     name_at: &mut [u16; 8],

@@ -2,7 +2,7 @@
 use Prim.Native.Nat.{ℕ, zero, suc, _+_, _-_, _≤_, _<_}
 use mathlib.Core.Path.{_≡_, refl, ap, ap₂, sym, _∙_}
 use mathlib.Core.Logic.{_⊎_, inl, inr}
-use mathlib.Core.Bool.{Bool, true, false, not, and-eq-true-iff}
+use mathlib.Core.Bool.{Bool, true, false, cond, not, and-eq-true-iff}
 use mathlib.Core.List.{List, [], _∷_, map}
 use native.Mathlib.Omega.{arith}
 use lib.ListN.{length, getD, drop, drop-of-length-le}
@@ -174,3 +174,25 @@ pub as-is-next : (s : List ℕ) (i : ℕ) {b : Bool} → ((k : ℕ) → k < i �
 as-is-next s i v e t k h = byTest (eqb k i)
     (λ b. let z = eqb-true k i b in ap (λ j. lower (getD s j 0)) z ∙ sym (lower-out (getD s i 0) e t) ∙ ap (λ j. getD s j 0) (sym z))
     (λ b. let z = eqb-false k i b in v k (omega arith))
+
+-- the test whether a text has no capital letter
+pub no-capital : (s : List ℕ) → ((k : ℕ) → k < length s → lower (getD s k 0) ≡ getD s k 0) → true ≡ sameName (lowered s) s
+no-capital s h = small-same s s 0 (omega arith) (lowered-as-is s h)
+
+pub has-capital : (s : List ℕ) (i : ℕ) {b : Bool} → i < length s → b ≡ within 65 90 (getD s i 0) → b ≡ true → false ≡ sameName (lowered s) s
+has-capital s i h e t = small-other s s refl i h (lower-in (getD s i 0) e t) (λ q. omega arith)
+
+pub test-as-is : (s : List ℕ) {b : Bool} → b ≡ sameName (lowered s) s → b ≡ true → lowered s ≡ s
+test-as-is s e t = name-exact .to (lowered s) s (sym e ∙ t)
+
+-- a text that is taken as it is where a flag says so
+pub taken-as-is : (w : List ℕ) {b : Bool} → b ≡ true → cond b w (lowered w) ≡ w
+taken-as-is w e = ap (λ b. cond b w (lowered w)) e
+
+pub taken-lowered : (w : List ℕ) {b : Bool} → b ≡ false → cond b w (lowered w) ≡ lowered w
+taken-lowered w e = ap (λ b. cond b w (lowered w)) e
+
+-- where the flag is right, that is the text with small letters
+pub taken-small : (w : List ℕ) (b : Bool) → (b ≡ true → lowered w ≡ w) → cond b w (lowered w) ≡ lowered w
+taken-small w true h = sym (h refl)
+taken-small w false h = refl

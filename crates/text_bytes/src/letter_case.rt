@@ -1,6 +1,6 @@
 // Texts compared without regard to letter case: the letters of one of them are taken as small ones.
 ghost use mathlib.Core.Path.{_≡_};
-ghost use mathlib.Core.Bool.{true};
+ghost use mathlib.Core.Bool.{cond};
 ghost use Prim.Native.Nat.{_+_, _≤_, _<_};
 ghost use lib.ListN.{length, drop, getD};
 ghost use Rattle.resolution.specs.Names.{sameName};
@@ -76,9 +76,9 @@ fn common_lowered_from(p: &[u8], w: &[u8], from: usize) -> usize
     i
 }
 
-// The text has no capital letter, so with its letters taken as small ones it is as it is.
+// The text has no capital letter: with its letters taken as small ones it is as it is.
 pub fn is_lowered(s: &[u8]) -> bool
-    ensures { λ r. ⌜ (r ≡ true → lowered (now (s .entry)) ≡ now (s .entry)) ⌝ }
+    ensures { λ r. ⌜ r ≡ sameName (lowered (now (s .entry))) (now (s .entry)) ⌝ }
 {
     let mut i = 0;
     while i < s.len() {
@@ -90,10 +90,10 @@ pub fn is_lowered(s: &[u8]) -> bool
     true
 }
 
-// How many bytes p has in common with w, whose letters are taken as small ones, where another text has k in common with w and
-// l with p. Where w is known to have small letters only, it is compared as it is.
+// How many bytes p has in common with w, where another text has k in common with w and l with p. The letters of w are taken as
+// small ones, unless it is said that they are small: then it is compared as it is.
 pub fn common_lowered_next(p: &[u8], w: &[u8], small: bool, k: usize, l: usize) -> usize
-    ensures { λ r. ⌜ ((small ≡ true → lowered (now (w .entry)) ≡ now (w .entry)) → r ≡ commonNext (now (p .entry)) (lowered (now (w .entry))) k l) ⌝ }
+    ensures { λ r. ⌜ r ≡ commonNext (now (p .entry)) (cond small (now (w .entry)) (lowered (now (w .entry)))) k l ⌝ }
 {
     if k == l {
         if small {

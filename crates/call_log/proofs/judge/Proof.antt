@@ -5,6 +5,7 @@ use borrow.Author.Tests.{not-true, not-false}
 use Rattle.call_log.specs.Log.{callsFrom, callsOf}
 use Rattle.call_log.specs.Verdict.{judged}
 use Rattle.call_log.proofs.JudgeLaws.{turn-on, turn-wrong, turn-end}
+use Rattle.resolver.proofs.ByTableLaws.{plain-means}
 use borrow.Author.Needs.{needs}
 use Rattle.call_log.proofs.judge.Statement.{statement}
 use Rattle.call_log.proofs.judge.Tie as tie
@@ -46,7 +47,7 @@ differs-requires : tie.Need-differs-requires Inv-loop μ-loop
 differs-requires c κs = search needs
 
 returns : tie.Need-returns Inv-loop μ-loop
-returns c = turn-wrong (c .before .before .before .before .before .before .before .before .before .before .before .args .t .now) (c .before .before .before .before .before .before .before .before .before .before .before .args .log .now) (c .before .before .before .before .before .before .before .loop .left) (c .before .before .before .before .before .before .before .loop .at) (c .before .before .before .before .before .before .before .loop .k) (c .before .before .before .before .before .before .before .loop .inv .0) (c .before .before .before .before .before .before .before .loop .left - 1) (omega (arith, c .before .before .before .before .before .before .loop-test .taken)) (c .before .before .before .before .before .word2 .ensures .0) (c .before .before .before .before .part .ensures) (c .before .before .before .plain .ensures (c .before .before .before .before .before .before .before .before .before .before .before .pre)) (c .before .before .says .ensures) (not-true _ (c .before .if1 .taken)) (c .differs .ensures)
+returns c = turn-wrong (c .before .before .before .before .before .before .before .before .before .before .before .args .t .now) (c .before .before .before .before .before .before .before .before .before .before .before .args .log .now) (c .before .before .before .before .before .before .before .loop .left) (c .before .before .before .before .before .before .before .loop .at) (c .before .before .before .before .before .before .before .loop .k) (c .before .before .before .before .before .before .before .loop .inv .0) (c .before .before .before .before .before .before .before .loop .left - 1) (omega (arith, c .before .before .before .before .before .before .loop-test .taken)) (c .before .before .before .before .before .word2 .ensures .0) (c .before .before .before .before .part .ensures) (c .before .before .before .plain .ensures ∙ plain-means _ _ _ (c .before .before .before .before .before .before .before .before .before .before .before .pre)) (c .before .before .says .ensures) (not-true _ (c .before .if1 .taken)) (c .differs .ensures)
 
 add-at : tie.Need-add-at Inv-loop μ-loop
 add-at c = omega (arith, c .before .before .before .before .before .before .loop .inv .1, c .before .before .before .before .before .before .loop .inv .2, c .before .before .before .before .word2 .ensures .1)
@@ -61,7 +62,7 @@ loop-less : tie.Need-loop-less Inv-loop μ-loop
 loop-less c = omega (arith, c .before .before .before .before .before .loop-test .taken)
 
 loop-again : tie.Need-loop-again Inv-loop μ-loop
-loop-again c = (turn-on (c .before .before .before .before .before .before .before .before .before .before .args .t .now) (c .before .before .before .before .before .before .before .before .before .before .args .log .now) (c .before .before .before .before .before .before .loop .left) (c .before .before .before .before .before .before .loop .at) (c .before .before .before .before .before .before .loop .k) (c .before .before .before .before .before .before .loop .inv .0) (c .before .before .before .before .before .before .loop .left - 1) (omega (arith, c .before .before .before .before .before .loop-test .taken)) (c .before .before .before .before .word2 .ensures .0) (c .before .before .before .part .ensures) (c .before .before .plain .ensures (c .before .before .before .before .before .before .before .before .before .before .pre)) (c .before .says .ensures) (not-false _ (c .if1 .left)), omega (arith, c .before .before .before .before .before .before .loop .inv .1, c .before .before .before .before .before .loop-test .taken), omega (arith, c .before .before .before .before .before .before .loop .inv .2, c .before .before .before .before .word2 .ensures .1))
+loop-again c = (turn-on (c .before .before .before .before .before .before .before .before .before .before .args .t .now) (c .before .before .before .before .before .before .before .before .before .before .args .log .now) (c .before .before .before .before .before .before .loop .left) (c .before .before .before .before .before .before .loop .at) (c .before .before .before .before .before .before .loop .k) (c .before .before .before .before .before .before .loop .inv .0) (c .before .before .before .before .before .before .loop .left - 1) (omega (arith, c .before .before .before .before .before .loop-test .taken)) (c .before .before .before .before .word2 .ensures .0) (c .before .before .before .part .ensures) (c .before .before .plain .ensures ∙ plain-means _ _ _ (c .before .before .before .before .before .before .before .before .before .before .pre)) (c .before .says .ensures) (not-false _ (c .if1 .left)), omega (arith, c .before .before .before .before .before .before .loop .inv .1, c .before .before .before .before .before .loop-test .taken), omega (arith, c .before .before .before .before .before .before .loop .inv .2, c .before .before .before .before .word2 .ensures .1))
 
 without-call-requires : tie.Need-without-call-requires Inv-loop μ-loop
 without-call-requires c κs = search needs

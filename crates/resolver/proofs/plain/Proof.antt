@@ -1,5 +1,6 @@
 use mathlib.Core.Path.{_∙_}
 use Rattle.resolver.proofs.PlainLaws.{tried-long, tried-table}
+use Rattle.resolver.proofs.ByTableLaws.{tried-means}
 use borrow.Author.Needs.{needs}
 use Rattle.resolver.proofs.plain.Statement.{statement}
 use Rattle.resolver.proofs.plain.Tie as tie
@@ -23,7 +24,7 @@ tried-requires : tie.Need-tried-requires
 tried-requires c κs = search needs
 
 returns-3 : tie.Need-returns-3
-returns-3 c = c .tried .ensures (c .before .before .before .decode .ensures) (c .before .if2 .left)
+returns-3 c = c .tried .ensures ∙ tried-means _ _ _ (c .before .before .before .decode .ensures) (c .before .if2 .left)
 
 pub plain-spec : {M : Type 1} → statement M
 plain-spec = tie.close (tie.spec too-long-requires returns decode-requires untried-requires returns-2 tried-requires returns-3)

@@ -15,7 +15,7 @@ refused-requires c κs = search needs
 returns : tie.Need-returns
 returns c = let a = c .before .before .before .args in
     let C = c .before .before .before .pre in
-    let e = c .before .by-texts .ensures (tableOf (a .t .now)) (C .listing) (C .cats) (C .many) in
+    let e = c .before .by-texts .ensures .1 (tableOf (a .t .now)) (C .listing) (C .cats) (C .many) in
     means-refused (a .t .now) (c .before .by-texts .result) (c .refused .ensures) (C .refusal ∙ sym e) (λ z. many-nodes (tableOf (a .t .now)) (C .many) (sym e ∙ z))
 
 pub crowded-spec : {M : Type 1} → statement M

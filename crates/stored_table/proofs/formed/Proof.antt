@@ -1,5 +1,6 @@
 use native.Mathlib.Omega.{arith}
 use Rattle.stored_table.proofs.Judging.{means-refused, names-unformed, urns-unformed, all-formed}
+use Rattle.table_categories.proofs.RoomLaws.{formed-in}
 use borrow.Author.Needs.{needs}
 use Rattle.stored_table.proofs.formed.Statement.{statement}
 use Rattle.stored_table.proofs.formed.Tie as tie
@@ -11,7 +12,7 @@ urns-formed-requires : tie.Need-urns-formed-requires
 urns-formed-requires c κs = search needs
 
 listed-requires : tie.Need-listed-requires
-listed-requires c κs = let a = c .before .before .before .before .before .before .before .before .before .args in all-formed (a .t .now) (a .name-at .now) (a .name-len .now) (a .at .now) (a .len .now) (a .signal .now) (a .l) (c .before .before .before .before .before .before .before .before .before .pre) (c .before .before .before .before .before .before .before .names-formed .ensures (c .before .before .before .before .before .before .before .before .before .pre .few-categories)) (c .before .before .before .before .before .before .if1 .taken) (c .before .before .before .urns-formed .ensures) (c .before .before .if2 .taken)
+listed-requires c κs = let a = c .before .before .before .before .before .before .before .before .before .args in all-formed (a .t .now) (a .name-at .now) (a .name-len .now) (a .at .now) (a .len .now) (a .signal .now) (a .l) (c .before .before .before .before .before .before .before .before .before .pre) (formed-in _ _ _ _ (c .before .before .before .before .before .before .before .names-formed .ensures) (c .before .before .before .before .before .before .before .before .before .pre .few-categories)) (c .before .before .before .before .before .before .if1 .taken) (c .before .before .before .urns-formed .ensures) (c .before .before .if2 .taken)
 
 returns : tie.Need-returns
 returns c = search needs
@@ -20,13 +21,13 @@ refused-requires : tie.Need-refused-requires
 refused-requires c κs = search needs
 
 returns-2 : tie.Need-returns-2
-returns-2 c = let a = c .before .before .before .before .before .before .before .before .args in means-refused (a .t .now) 7 (c .refused .ensures) (urns-unformed (a .t .now) (a .name-at .now) (a .name-len .now) (a .at .now) (a .len .now) (a .signal .now) (a .l) (c .before .before .before .before .before .before .before .before .pre) (c .before .before .before .before .before .before .names-formed .ensures (c .before .before .before .before .before .before .before .before .pre .few-categories)) (c .before .before .urns-formed .ensures) (c .before .if2 .left)) (λ z. omega arith)
+returns-2 c = let a = c .before .before .before .before .before .before .before .before .args in means-refused (a .t .now) 7 (c .refused .ensures) (urns-unformed (a .t .now) (a .name-at .now) (a .name-len .now) (a .at .now) (a .len .now) (a .signal .now) (a .l) (c .before .before .before .before .before .before .before .before .pre) (formed-in _ _ _ _ (c .before .before .before .before .before .before .names-formed .ensures) (c .before .before .before .before .before .before .before .before .pre .few-categories)) (c .before .before .urns-formed .ensures) (c .before .if2 .left)) (λ z. omega arith)
 
 refused-requires-2 : tie.Need-refused-requires-2
 refused-requires-2 c κs = search needs
 
 returns-3 : tie.Need-returns-3
-returns-3 c = let a = c .before .before .before .before .args in means-refused (a .t .now) 7 (c .refused2 .ensures) (names-unformed (a .t .now) (a .name-at .now) (a .name-len .now) (a .at .now) (a .len .now) (a .signal .now) (a .l) (c .before .before .before .before .pre) (c .before .before .names-formed .ensures (c .before .before .before .before .pre .few-categories)) (c .before .if1 .left)) (λ z. omega arith)
+returns-3 c = let a = c .before .before .before .before .args in means-refused (a .t .now) 7 (c .refused2 .ensures) (names-unformed (a .t .now) (a .name-at .now) (a .name-len .now) (a .at .now) (a .len .now) (a .signal .now) (a .l) (c .before .before .before .before .pre) (formed-in _ _ _ _ (c .before .before .names-formed .ensures) (c .before .before .before .before .pre .few-categories)) (c .before .if1 .left)) (λ z. omega arith)
 
 pub formed-spec : {M : Type 1} → statement M
 formed-spec =

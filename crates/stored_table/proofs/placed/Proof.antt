@@ -5,6 +5,7 @@ use Rattle.table_sections.proofs.Padding.{clear}
 use Rattle.stored_table.specs.Tables.{tableOf}
 use Rattle.stored_table.proofs.Judging.{means-refused}
 use Rattle.stored_table.proofs.Decoding.{over, numbering, placed-refused, means-accepted}
+use Rattle.node_search.proofs.MarkLaws.{shared-in, inner-in}
 use borrow.Author.Needs.{needs}
 use Rattle.stored_table.proofs.placed.Statement.{statement}
 use Rattle.stored_table.proofs.placed.Tie as tie
@@ -32,9 +33,9 @@ returns-2 c = let a = c .before .before .before .before .before .before .before 
     let S = c .before .before .before .before .before .before .before .before .before .before .before .before .before .before .before .before .before .before .before .before .before .pre in
     let A = c .before .before .before .before .before .before .before .before .before .before .before .before .before .before .add-all .ensures (S .listing .few-urns) (refl, clear 64, clear 64, clear 64, clear 64) in
     let few = c .before .before .before .before .before .before .before .before .before .before .before .before .before .if1 .left in
-    let P = c .before .before .before .before .before .before .before .before .before .before .by-nodes .ensures (tableOf (a .t .now)) (λ i. fields 58 (stretch (a .t .now) (a .path-at .now) (a .path-len .now) i)) (S .listing) (numbering (a .t .now) (a .name-at .now) (a .name-len .now) (a .signal .now) (a .category .now) (a .path-at .now) (a .path-len .now) (a .l) S A few) (clear 32) in
+    let P = c .before .before .before .before .before .before .before .before .before .before .by-nodes .ensures .1 (tableOf (a .t .now)) (λ i. fields 58 (stretch (a .t .now) (a .path-at .now) (a .path-len .now) i)) (S .listing) (numbering (a .t .now) (a .name-at .now) (a .name-len .now) (a .signal .now) (a .category .now) (a .path-at .now) (a .path-len .now) (a .l) S A few) (clear 32) in
     let m = c .before .before .before .before .of-nodes in
-    means-accepted (a .t .now) (a .name-at .now) (a .name-len .now) (a .signal .now) (a .category .now) (a .path-at .now) (a .path-len .now) (a .l) S A few P (c .before .before .before .before .before .before .before .before .before .if2 .taken) (m .result .shared) (m .ensures .0) (m .result .inner) (m .ensures .1)
+    means-accepted (a .t .now) (a .name-at .now) (a .name-len .now) (a .signal .now) (a .category .now) (a .path-at .now) (a .path-len .now) (a .l) S A few P (c .before .before .before .before .before .before .before .before .before .if2 .taken) (m .result .shared) (shared-in _ _ _ _ _ (m .ensures .0)) (m .result .inner) (inner-in _ _ (m .ensures .1))
 
 refused-requires : tie.Need-refused-requires
 refused-requires c κs = search needs
@@ -43,7 +44,7 @@ returns-3 : tie.Need-returns-3
 returns-3 c = let a = c .before .before .before .before .before .before .before .before .before .before .before .before .before .args in
     let S = c .before .before .before .before .before .before .before .before .before .before .before .before .before .pre in
     let A = c .before .before .before .before .before .before .add-all .ensures (S .listing .few-urns) (refl, clear 64, clear 64, clear 64, clear 64) in
-    let P = c .before .before .by-nodes .ensures (tableOf (a .t .now)) (λ i. fields 58 (stretch (a .t .now) (a .path-at .now) (a .path-len .now) i)) (S .listing) (numbering (a .t .now) (a .name-at .now) (a .name-len .now) (a .signal .now) (a .category .now) (a .path-at .now) (a .path-len .now) (a .l) S A (c .before .before .before .before .before .if1 .left)) (clear 32) in
+    let P = c .before .before .by-nodes .ensures .1 (tableOf (a .t .now)) (λ i. fields 58 (stretch (a .t .now) (a .path-at .now) (a .path-len .now) i)) (S .listing) (numbering (a .t .now) (a .name-at .now) (a .name-len .now) (a .signal .now) (a .category .now) (a .path-at .now) (a .path-len .now) (a .l) S A (c .before .before .before .before .before .if1 .left)) (clear 32) in
     means-refused (a .t .now) (c .before .before .by-nodes .result) (c .refused .ensures) (placed-refused (a .t .now) (a .name-at .now) (a .name-len .now) (a .signal .now) (a .category .now) (a .path-at .now) (a .path-len .now) (a .l) S A (c .before .before .before .before .before .if1 .left) P) (c .before .if2 .left)
 
 pub placed-spec : {M : Type 1} → statement M

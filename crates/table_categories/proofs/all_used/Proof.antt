@@ -8,6 +8,7 @@ use Rattle.resolution.specs.Lists.{tabulate}
 use Rattle.text_bytes.specs.Text.{all}
 use Rattle.signal_places.specs.Tests.{any}
 use Rattle.signal_places.proofs.TestLaws.{all-start, all-next, all-fails, all-ends}
+use Rattle.table_categories.proofs.RoomLaws.{no-room, used-as}
 use borrow.Author.Needs.{needs}
 use Rattle.table_categories.proofs.all_used.Statement.{statement}
 use Rattle.table_categories.proofs.all_used.Tie as tie
@@ -19,7 +20,7 @@ abbrev μ-loop : tie.MeasureT-loop
 μ-loop category m n c₀ c = n - c
 
 returns : tie.Need-returns Inv-loop μ-loop
-returns c = λ h. absurd (omega arith)
+returns c = no-room (c .before .args .category .now) (c .before .args .m) (c .before .args .n) (c .if1 .taken)
 
 loop-holds : tie.Need-loop-holds Inv-loop μ-loop
 loop-holds c = (omega arith, all-start _ _)
@@ -37,10 +38,10 @@ loop-again : tie.Need-loop-again Inv-loop μ-loop
 loop-again c = (omega arith, all-next _ _ _ (c .before .before .before .loop .inv .1) (c .before .has-category .ensures) (c .if2 .taken))
 
 returns-2 : tie.Need-returns-2 Inv-loop μ-loop
-returns-2 c = λ _. all-fails _ _ _ _ (c .before .before .loop-test .taken) (c .before .has-category .ensures) (c .if2 .left)
+returns-2 c = let a = c .before .before .before .before .before .args in used-as (a .category .now) (a .m) (a .n) (omega (arith, c .before .before .before .before .if1 .left)) (all-fails _ _ _ _ (c .before .before .loop-test .taken) (c .before .has-category .ensures) (c .if2 .left))
 
 returns-3 : tie.Need-returns-3 Inv-loop μ-loop
-returns-3 c = λ _. all-ends _ _ _ _ (c .before .loop .inv .1) (c .before .loop .inv .0) (c .loop-test .left)
+returns-3 c = let a = c .before .before .before .args in used-as (a .category .now) (a .m) (a .n) (omega (arith, c .before .before .if1 .left)) (all-ends _ _ _ _ (c .before .loop .inv .1) (c .before .loop .inv .0) (c .loop-test .left))
 
 pub all-used-spec : {M : Type 1} → statement M
 all-used-spec =

@@ -9,20 +9,20 @@ use Rattle.resolution.specs.Lists.{tabulate}
 use Rattle.resolution.proofs.Lists.{tabulate-length}
 use Rattle.text_bytes.specs.Text.{all}
 use Rattle.text_bytes.proofs.Fields.{upTo-le}
-use Rattle.node_search.specs.Arrays.{stretch}
-use Rattle.table_categories.specs.Categories.{isListed}
-use Rattle.table_categories.specs.Categories.{Fits, Indexed}
+use Rattle.node_search.specs.Arrays.{stretch, textIn}
+use Rattle.table_categories.specs.Categories.{isListed, namesIn, Fits, Indexed}
+use Rattle.table_categories.proofs.RoomLaws.{no-list, listed-as}
 use Rattle.signal_places.proofs.TestLaws.{all-start, all-next, all-fails, all-ends}
 use Rattle.table_categories.proofs.Indexing.{Rest, rest-set, stretch-rest, part-inside, indexed-start, urn-listed, urn-strange, urn-put, indexed-end}
+use Rattle.node_search.proofs.TextLaws.{text-in}
 use borrow.Author.Needs.{needs}
 use Rattle.table_categories.proofs.index_urns.Statement.{statement}
 use Rattle.table_categories.proofs.index_urns.Tie as tie
 
 abbrev Inv-loop : tie.InvT-loop
 Inv-loop t n name-at name-len m at₀ len₀ category₀ i₀ at len category i =
-    (i ≤ m) × (Fits t n m category₀ → (length category ≡ 256) × (length at ≡ 256) × (length len ≡ 256)
-    × (all (isListed (tabulate (stretch t name-at name-len) n)) (tabulate (stretch t at₀ len₀) i) ≡ true)
-    × Indexed t (tabulate (stretch t name-at name-len) n) at₀ len₀ i category at len × Rest i at at₀ × Rest i len len₀)
+    (i ≤ m) × (length at ≡ 256) × (length len ≡ 256) × (all (isListed (namesIn t name-at name-len n)) (tabulate (stretch t at₀ len₀) i) ≡ true) × Rest i at at₀ × Rest i len len₀
+    × (Fits t n m category₀ → (length category ≡ 256) × Indexed t (namesIn t name-at name-len n) at₀ len₀ i category at len)
 
 abbrev μ-loop : tie.MeasureT-loop
 μ-loop t n name-at name-len m at₀ len₀ category₀ i₀ at len category i =
@@ -32,10 +32,11 @@ room-requires : tie.Need-room-requires Inv-loop μ-loop
 room-requires c κs = search needs
 
 returns : tie.Need-returns Inv-loop μ-loop
-returns c = (λ f. absurd (omega (arith, f .2)), λ f. absurd (omega (arith, f .2)))
+returns c = let a = c .before .before .before .before .before .args in
+    (no-list (namesIn (a .t .now) (a .name-at .now) (a .name-len .now) (a .n)) (a .t .now) (a .at .now) (a .len .now) (a .m) (omega arith), λ f. absurd (omega (arith, f .2)))
 
 loop-holds : tie.Need-loop-holds Inv-loop μ-loop
-loop-holds c = (omega arith, λ h. (h .3, c .before .room .ensures .1, c .before .room .ensures .2, all-start _ _, indexed-start _ _ _ _ _ _ _, record { same = λ _ _. refl }, record { same = λ _ _. refl }))
+loop-holds c = (omega arith, c .before .room .ensures .1, c .before .room .ensures .2, all-start _ _, record { same = λ _ _. refl }, record { same = λ _ _. refl }, λ h. (h .3, indexed-start _ _ _ _ _ _ _))
 
 urn-text-requires : tie.Need-urn-text-requires Inv-loop μ-loop
 urn-text-requires c κs = search needs
@@ -103,36 +104,40 @@ loop-less c = omega arith
 loop-again : tie.Need-loop-again Inv-loop μ-loop
 loop-again c = let l = c .before .before .before .before .before .before .before .before .before .before .before .before .before .before .loop in
     let a = c .before .before .before .before .before .before .before .before .before .before .before .before .before .before .before .before .before .before .before .before .args in
-    let names = tabulate (stretch (a .t .now) (a .name-at .now) (a .name-len .now)) (a .n) in (
+    let names = namesIn (a .t .now) (a .name-at .now) (a .name-len .now) (a .n) in
+    let v = l .inv in
+    let u = text-in _ _ _ _ _ (c .before .before .before .before .before .before .before .before .before .before .urn-text .ensures .0) (omega arith) ∙ stretch-rest (a .t .now) (v .4) (v .5) in
+    let d = c .before .before .before .before .before .before .before .before .before .find .ensures in
+    let g = c .before .before .before .before .before .before .before .name-index .ensures .0 in
+    let h : c .before .before .before .before .before .before .before .name-index .result < length names = omega (arith, c .before .before .before .before .before .before .if2 .taken, tabulate-length (textIn 8 (a .t .now) (a .name-at .now) (a .name-len .now)) (a .n)) in (
       omega arith,
+      length-set (l .at) (l .i) (c .before .short .result) ∙ v .1,
+      length-set (l .len) (l .i) (c .small2 .result) ∙ v .2,
+      all-next _ _ _ (v .3) (sym (urn-listed names d g u h)) refl,
+      rest-set (c .before .short .result) (v .4),
+      rest-set (c .small2 .result) (v .5),
       λ f.
-          let v = l .inv .1 f in
-          let u = c .before .before .before .before .before .before .before .before .before .before .urn-text .ensures .0 (omega arith) ∙ stretch-rest (a .t .now) (v .5) (v .6) in
-          let d = c .before .before .before .before .before .before .before .before .before .find .ensures in
-          let g = c .before .before .before .before .before .before .before .name-index .ensures .0 (f .1) in
+          let w = v .6 f in
           let o = c .before .before .before .before .before .path-start .ensures in
-          let q = c .before .before .wider .ensures .0 ∙ v .5 .same (l .i) (omega arith) in
-          let w = part-inside (a .t .now) (c .before .before .wider .result) (getD (a .len .now) (l .i) 0) (c .before .before .before .before .before .path-start .result) (u ∙ at-stretch (a .t .now) (a .at .now) (a .len .now) (l .i) q) (o .0) (f .0) (c .before .before .wider .ensures .1) in
-          let h : c .before .before .before .before .before .before .before .name-index .result < length names = omega (arith, c .before .before .before .before .before .before .if2 .taken, tabulate-length (stretch (a .t .now) (a .name-at .now) (a .name-len .now)) (a .n)) in (
-            length-set (l .category) (l .i) (c .before .before .before .before .small .result) ∙ v .0,
-            length-set (l .at) (l .i) (c .before .short .result) ∙ v .1,
-            length-set (l .len) (l .i) (c .small2 .result) ∙ v .2,
-            all-next _ _ _ (v .3) (sym (urn-listed names d g u h)) refl,
-            urn-put (a .t .now) names (a .at .now) (a .len .now) (l .i) (l .category) (l .at) (l .len) (v .4) (omega (arith, v .0)) (omega (arith, v .1)) (omega (arith, v .2))
-                d g u h o (one-byte (c .before .before .before .before .small .ensures) (omega (arith, c .before .before .before .before .before .before .if2 .taken, f .1))) q (two-bytes (c .before .short .ensures) w) (one-byte (c .small2 .ensures) (omega (arith, c .before .before .before .before .before .before .before .before .before .before .urn-text .ensures .1))),
-            rest-set (c .before .short .result) (v .5),
-            rest-set (c .small2 .result) (v .6),
+          let q = c .before .before .wider .ensures .0 ∙ v .4 .same (l .i) (omega arith) in
+          let p = part-inside (a .t .now) (c .before .before .wider .result) (getD (a .len .now) (l .i) 0) (c .before .before .before .before .before .path-start .result) (u ∙ at-stretch (a .t .now) (a .at .now) (a .len .now) (l .i) q) (o .0) (f .0) (c .before .before .wider .ensures .1) in (
+            length-set (l .category) (l .i) (c .before .before .before .before .small .result) ∙ w .0,
+            urn-put (a .t .now) names (a .at .now) (a .len .now) (l .i) (l .category) (l .at) (l .len) (w .1) (omega (arith, w .0)) (omega (arith, v .1)) (omega (arith, v .2))
+                d g u h o (one-byte (c .before .before .before .before .small .ensures) (omega (arith, c .before .before .before .before .before .before .if2 .taken, f .1))) q (two-bytes (c .before .short .ensures) p) (one-byte (c .small2 .ensures) (omega (arith, c .before .before .before .before .before .before .before .before .before .before .urn-text .ensures .1))),
           ),
     )
 
 returns-2 : tie.Need-returns-2 Inv-loop μ-loop
 returns-2 c = let a = c .before .before .before .before .before .before .before .before .before .before .before .before .before .before .args in
-    let names = tabulate (stretch (a .t .now) (a .name-at .now) (a .name-len .now)) (a .n) in
-    let h : length names ≤ c .before .name-index .result = omega (arith, c .if2 .left, tabulate-length (stretch (a .t .now) (a .name-at .now) (a .name-len .now)) (a .n)) in
-    (λ f. let v = c .before .before .before .before .before .before .before .before .loop .inv .1 f in all-fails _ _ _ _ (c .before .before .before .before .before .before .before .loop-test .taken) (sym (urn-strange names (c .before .before .before .find .ensures) (c .before .name-index .ensures .0 (f .1)) (c .before .before .before .before .urn-text .ensures .0 (omega arith) ∙ stretch-rest (a .t .now) (v .5) (v .6)) h)) refl, λ f e. absurd (false≢true e))
+    let names = namesIn (a .t .now) (a .name-at .now) (a .name-len .now) (a .n) in
+    let v = c .before .before .before .before .before .before .before .before .loop .inv in
+    let h : length names ≤ c .before .name-index .result = omega (arith, c .if2 .left, tabulate-length (textIn 8 (a .t .now) (a .name-at .now) (a .name-len .now)) (a .n)) in
+    let u = text-in _ _ _ _ _ (c .before .before .before .before .urn-text .ensures .0) (omega arith) ∙ stretch-rest (a .t .now) (v .4) (v .5) in
+    (listed-as names (a .t .now) (a .at .now) (a .len .now) (a .m) (omega arith) (all-fails _ _ _ _ (c .before .before .before .before .before .before .before .loop-test .taken) (sym (urn-strange names (c .before .before .before .find .ensures) (c .before .name-index .ensures .0) u h)) refl), λ f e. absurd (false≢true e))
 
 returns-3 : tie.Need-returns-3 Inv-loop μ-loop
-returns-3 c = (λ f. all-ends _ _ _ _ (c .before .loop .inv .1 f .3) (c .before .loop .inv .0) (c .loop-test .left), λ f _. indexed-end (c .before .loop .i) _ (c .before .loop .inv .1 f .4) (c .before .loop .inv .0) (c .loop-test .left))
+returns-3 c = let a = c .before .before .before .before .before .before .before .args in
+    (listed-as (namesIn (a .t .now) (a .name-at .now) (a .name-len .now) (a .n)) (a .t .now) (a .at .now) (a .len .now) (a .m) (omega arith) (all-ends _ _ _ _ (c .before .loop .inv .3) (c .before .loop .inv .0) (c .loop-test .left)), λ f _. indexed-end (c .before .loop .i) _ (c .before .loop .inv .6 f .1) (c .before .loop .inv .0) (c .loop-test .left))
 
 pub index-urns-spec : {M : Type 1} → statement M
 index-urns-spec =

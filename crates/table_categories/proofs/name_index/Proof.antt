@@ -4,20 +4,20 @@ use mathlib.Core.Path.{_≡_, ap, _∙_}
 use mathlib.Core.Bool.{false}
 use Rattle.resolution.specs.Lists.{tabulate, memberBy}
 use Rattle.resolution.specs.Names.{sameName}
-use Rattle.node_search.specs.Arrays.{stretch}
+use Rattle.node_search.specs.Arrays.{textIn}
 use Rattle.table_sections.proofs.Tabulated.{index-start, index-hit, index-next, index-none}
 use borrow.Author.Needs.{needs}
 use Rattle.table_categories.proofs.name_index.Statement.{statement}
 use Rattle.table_categories.proofs.name_index.Tie as tie
 
 abbrev Inv-loop : tie.InvT-loop
-Inv-loop t s n at len i₀ i = (i ≤ n) × (n ≤ 8 → memberBy sameName s (tabulate (stretch t at len) i) ≡ false)
+Inv-loop t s n at len i₀ i = (i ≤ n) × (memberBy sameName s (tabulate (textIn 8 t at len) i) ≡ false)
 
 abbrev μ-loop : tie.MeasureT-loop
 μ-loop t s n at len i₀ i = n - i
 
 loop-holds : tie.Need-loop-holds Inv-loop μ-loop
-loop-holds c = (omega arith, λ _. index-start _ _ _)
+loop-holds c = (omega arith, index-start _ _ _)
 
 name-text-requires : tie.Need-name-text-requires Inv-loop μ-loop
 name-text-requires c κs = search needs
@@ -26,7 +26,7 @@ same-requires : tie.Need-same-requires Inv-loop μ-loop
 same-requires c κs = search needs
 
 returns : tie.Need-returns Inv-loop μ-loop
-returns c = (λ h. index-hit _ _ _ _ _ (c .before .before .before .before .loop .inv .1 h) (c .before .before .before .loop-test .taken) (c .before .same .ensures ∙ ap (sameName (c .before .before .before .before .before .before .before .args .s .now)) (c .before .before .name-text .ensures .0 (omega arith))) (c .if1 .taken), omega arith)
+returns c = (index-hit _ _ _ _ _ (c .before .before .before .before .loop .inv .1) (c .before .before .before .loop-test .taken) (c .before .same .ensures ∙ ap (sameName (c .before .before .before .before .before .before .before .args .s .now)) (c .before .before .name-text .ensures .0)) (c .if1 .taken), omega arith)
 
 add-i : tie.Need-add-i Inv-loop μ-loop
 add-i c = search needs
@@ -35,10 +35,10 @@ loop-less : tie.Need-loop-less Inv-loop μ-loop
 loop-less c = omega arith
 
 loop-again : tie.Need-loop-again Inv-loop μ-loop
-loop-again c = (omega arith, λ h. index-next _ _ _ _ (c .before .before .before .before .before .before .before .args .n) (c .before .before .before .before .loop .inv .1 h) (c .before .same .ensures ∙ ap (sameName (c .before .before .before .before .before .before .before .args .s .now)) (c .before .before .name-text .ensures .0 (omega arith))) (c .if1 .left))
+loop-again c = (omega arith, index-next _ _ _ _ (c .before .before .before .before .before .before .before .args .n) (c .before .before .before .before .loop .inv .1) (c .before .same .ensures ∙ ap (sameName (c .before .before .before .before .before .before .before .args .s .now)) (c .before .before .name-text .ensures .0)) (c .if1 .left))
 
 returns-2 : tie.Need-returns-2 Inv-loop μ-loop
-returns-2 c = (λ h. index-none _ _ _ _ _ (c .before .loop .inv .1 h) (c .before .loop .inv .0) (c .loop-test .left), omega arith)
+returns-2 c = (index-none _ _ _ _ _ (c .before .loop .inv .1) (c .before .loop .inv .0) (c .loop-test .left), omega arith)
 
 pub name-index-spec : {M : Type 1} → statement M
 name-index-spec =

@@ -4,7 +4,7 @@ use mathlib.Core.Path.{_≡_}
 use mathlib.Core.Bool.{true}
 use Rattle.resolution.specs.Lists.{tabulate}
 use Rattle.resolution.specs.Names.{sameName}
-use Rattle.node_search.specs.Arrays.{stretch}
+use Rattle.node_search.specs.Arrays.{textIn}
 use Rattle.signal_places.specs.Tests.{noTwo}
 use Rattle.signal_places.proofs.TestLaws.{two-start, two-ends}
 use Rattle.table_categories.proofs.NameLaws.{name-twice, name-once}
@@ -13,13 +13,13 @@ use Rattle.table_categories.proofs.names_distinct.Statement.{statement}
 use Rattle.table_categories.proofs.names_distinct.Tie as tie
 
 abbrev Inv-loop : tie.InvT-loop
-Inv-loop t n at len i₀ i = (i ≤ n) × (n ≤ 8 → noTwo sameName (tabulate (stretch t at len) i) ≡ true)
+Inv-loop t n at len i₀ i = (i ≤ n) × (noTwo sameName (tabulate (textIn 8 t at len) i) ≡ true)
 
 abbrev μ-loop : tie.MeasureT-loop
 μ-loop t n at len i₀ i = n - i
 
 loop-holds : tie.Need-loop-holds Inv-loop μ-loop
-loop-holds c = (omega arith, λ _. two-start _ _)
+loop-holds c = (omega arith, two-start _ _)
 
 name-text-requires : tie.Need-name-text-requires Inv-loop μ-loop
 name-text-requires c κs = search needs
@@ -28,7 +28,7 @@ name-index-requires : tie.Need-name-index-requires Inv-loop μ-loop
 name-index-requires c κs = search needs
 
 returns : tie.Need-returns Inv-loop μ-loop
-returns c = λ h. name-twice _ _ _ (c .before .before .name-text .ensures .0 (omega arith)) (c .before .name-index .ensures .0 (omega arith)) (c .before .before .before .loop-test .taken) (c .if1 .taken)
+returns c = name-twice _ _ _ (c .before .before .name-text .ensures .0) (c .before .name-index .ensures .0) (c .before .before .before .loop-test .taken) (c .if1 .taken)
 
 add-i : tie.Need-add-i Inv-loop μ-loop
 add-i c = search needs
@@ -37,10 +37,10 @@ loop-less : tie.Need-loop-less Inv-loop μ-loop
 loop-less c = omega arith
 
 loop-again : tie.Need-loop-again Inv-loop μ-loop
-loop-again c = (omega arith, λ h. name-once _ _ (c .before .before .before .before .before .before .args .n) (c .before .before .name-text .ensures .0 (omega arith)) (c .before .name-index .ensures .0 (omega arith)) (c .before .before .before .before .loop .inv .1 h) (c .if1 .left))
+loop-again c = (omega arith, name-once _ _ (c .before .before .before .before .before .before .args .n) (c .before .before .name-text .ensures .0) (c .before .name-index .ensures .0) (c .before .before .before .before .loop .inv .1) (c .if1 .left))
 
 returns-2 : tie.Need-returns-2 Inv-loop μ-loop
-returns-2 c = λ h. two-ends _ _ _ _ (c .before .loop .inv .1 h) (c .before .loop .inv .0) (c .loop-test .left)
+returns-2 c = two-ends _ _ _ _ (c .before .loop .inv .1) (c .before .loop .inv .0) (c .loop-test .left)
 
 pub names-distinct-spec : {M : Type 1} → statement M
 names-distinct-spec =

@@ -1,6 +1,7 @@
 use mathlib.Core.Path.{sym, _∙_}
 use Rattle.text_bytes.proofs.Turns.{ends-other}
 use Rattle.table_nodes.proofs.NodeArrays.{node-same, node-other}
+use Rattle.node_search.proofs.TextLaws.{text-in}
 use borrow.Author.Needs.{needs}
 use Rattle.table_nodes.proofs.node_is.Statement.{statement}
 use Rattle.table_nodes.proofs.node_is.Tie as tie
@@ -15,13 +16,13 @@ ends-differ-requires : tie.Need-ends-differ-requires
 ends-differ-requires c κs = search needs
 
 returns : tie.Need-returns
-returns c = let a = c .before .before .before .before .before .before .before .args in node-same (a .t .now) (a .cats .now) (a .at .now) (a .len .now) (a .i) (a .c) (a .s .now) (c .before .before .before .if1 .taken) (ends-other (a .s .now) _ (sym (c .before .ends-differ .ensures) ∙ c .if2 .taken)) (c .before .before .node-text .ensures .0 (c .before .before .before .before .before .before .before .pre))
+returns c = let a = c .before .before .before .before .before .before .before .args in node-same (a .t .now) (a .cats .now) (a .at .now) (a .len .now) (a .i) (a .c) (a .s .now) (c .before .before .before .if1 .taken) (ends-other (a .s .now) _ (sym (c .before .ends-differ .ensures) ∙ c .if2 .taken)) (text-in _ _ _ _ _ (c .before .before .node-text .ensures .0) (c .before .before .before .before .before .before .before .pre))
 
 same-requires : tie.Need-same-requires
 same-requires c κs = search needs
 
 returns-2 : tie.Need-returns-2
-returns-2 c = let a = c .before .before .before .before .before .before .before .before .args in node-same (a .t .now) (a .cats .now) (a .at .now) (a .len .now) (a .i) (a .c) (a .s .now) (c .before .before .before .before .if1 .taken) (c .same .ensures) (c .before .before .before .node-text .ensures .0 (c .before .before .before .before .before .before .before .before .pre))
+returns-2 c = let a = c .before .before .before .before .before .before .before .before .args in node-same (a .t .now) (a .cats .now) (a .at .now) (a .len .now) (a .i) (a .c) (a .s .now) (c .before .before .before .before .if1 .taken) (c .same .ensures) (text-in _ _ _ _ _ (c .before .before .before .node-text .ensures .0) (c .before .before .before .before .before .before .before .before .pre))
 
 returns-3 : tie.Need-returns-3
 returns-3 c = let a = c .before .before .before .before .args in node-other (a .t .now) (a .cats .now) (a .at .now) (a .len .now) (a .i) (a .c) (a .s .now) (c .if1 .left)

@@ -3,6 +3,7 @@ use Rattle.table_categories.specs.Categories.{Fits}
 use mathlib.Core.Path.{refl}
 use Rattle.table_sections.proofs.Padding.{clear}
 use Rattle.tree_writer.proofs.Numbering.{held, short, all-listed, numbers-stored}
+use Rattle.table_categories.proofs.RoomLaws.{listed-in, indexed-in}
 use borrow.Author.Needs.{needs}
 use Rattle.tree_writer.proofs.stored_numbers.Statement.{statement}
 use Rattle.tree_writer.proofs.stored_numbers.Tie as tie
@@ -23,7 +24,7 @@ returns c = let a = c .before .before .before .before .before .before .before .b
     let R = c .before .before .before .before .before .before .before .before .before .before .before .before .before .before .before .read .ensures (clear 8) (clear 8) (refl, refl, g .2) in
     let h = held (a .t .now) _ _ _ _ _ l R (g .0) in
     let f : Fits (a .t .now) (l .categories) (l .urns) (replicate 256 0) = (short (a .t .now) _ _ _ _ _ l R (g .0), h .few-categories, h .few-urns, refl) in
-    let X = c .before .before .before .before .before .before .before .before .before .index-urns .ensures .1 f (all-listed (a .t .now) _ _ _ _ _ l R (g .0) (c .before .before .before .before .before .before .before .before .before .index-urns .ensures .0 f)) in
+    let X = indexed-in _ _ _ _ _ _ _ (f .1) (c .before .before .before .before .before .before .before .before .before .index-urns .ensures .1 f (all-listed (a .t .now) _ _ _ _ _ l R (g .0) (listed-in _ _ _ _ _ _ _ (f .1) (c .before .before .before .before .before .before .before .before .before .index-urns .ensures .0) (f .2)))) in
     (numbers-stored (a .t .now) _ _ _ _ (c .before .before .before .before .before .before .before .before .before .before .before .before .before .before .before .read .last .1 .1 .1 .1 .1 .0) l R (g .0) X (c .add-all .ensures (h .few-urns) (g .1, clear 64, clear 64, clear 64, clear 64)), h .few-urns)
 
 pub stored-numbers-spec : {M : Type 1} → statement M

@@ -7,6 +7,7 @@ use Rattle.table_sections.proofs.Padding.{one-byte}
 use Rattle.table_forms.specs.Bytes.{each, textBytes}
 use Rattle.form_bytes.specs.Laid.{Puts}
 use Rattle.form_bytes.proofs.Laying.{each-start, each-next, section-from}
+use Rattle.node_search.proofs.TextLaws.{text-in}
 use borrow.Author.Needs.{needs}
 use Rattle.form_bytes.proofs.sections.names.Statement.{statement}
 use Rattle.form_bytes.proofs.sections.names.Tie as tie
@@ -45,7 +46,7 @@ loop-again : tie.Need-loop-again Inv-loop μ-loop
 loop-again c = let l = c .before .before .before .before .before .before .loop .inv in
     let w = c .before .before .before .name-text .ensures in
     let G = c .before .before .text .ensures (omega (arith, l .1)) (w .1) in
-    (omega arith, omega (arith, l .1, G .end, w .1), each-next textBytes (stretch (c .before .before .before .before .before .before .before .before .before .before .before .before .before .before .before .args .t .now) (c .before .before .before .before .before .before .before .before .before .before .before .before .before .before .before .args .name-at .now) (c .before .before .before .before .before .before .before .before .before .before .before .before .before .before .before .args .name-len .now)) (c .before .before .before .before .before .before .loop .i) (l .2) G (ap textBytes (w .0 (omega arith))))
+    (omega arith, omega (arith, l .1, G .end, w .1), each-next textBytes (stretch (c .before .before .before .before .before .before .before .before .before .before .before .before .before .before .before .args .t .now) (c .before .before .before .before .before .before .before .before .before .before .before .before .before .before .before .args .name-at .now) (c .before .before .before .before .before .before .before .before .before .before .before .before .before .before .before .args .name-len .now)) (c .before .before .before .before .before .before .loop .i) (l .2) G (ap textBytes (text-in _ _ _ _ _ (w .0) (omega arith))))
 
 same-length : tie.Need-same-length Inv-loop μ-loop
 same-length c = c .before .loop .inv .2 .long ∙ c .before .before .before .before .byte .ensures (omega arith) .long

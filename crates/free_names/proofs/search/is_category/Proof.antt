@@ -2,6 +2,7 @@ use Prim.Native.Nat.{_-_}
 use mathlib.Core.Path.{refl}
 use native.Mathlib.Omega.{arith}
 use Rattle.free_names.proofs.SearchLaws.{CategorySoFar, category-here, category-on, category-none}
+use Rattle.node_search.proofs.TextLaws.{text-in}
 use borrow.Author.Needs.{needs}
 use Rattle.free_names.proofs.search.is_category.Statement.{statement}
 use Rattle.free_names.proofs.search.is_category.Tie as tie
@@ -22,7 +23,7 @@ same-requires : tie.Need-same-requires Inv-loop μ-loop
 same-requires c κs = search needs
 
 returns : tie.Need-returns Inv-loop μ-loop
-returns c = category-here _ _ _ _ _ _ (c .before .before .before .before .loop .inv) (c .before .before .before .loop-test .taken) (c .before .before .name-text .ensures .0) (c .before .same .ensures) (c .if1 .taken)
+returns c = category-here _ _ _ _ _ _ (c .before .before .before .before .loop .inv) (c .before .before .before .loop-test .taken) (text-in _ _ _ _ _ (c .before .before .name-text .ensures .0)) (c .before .same .ensures) (c .if1 .taken)
 
 add-i : tie.Need-add-i Inv-loop μ-loop
 add-i c = search needs
@@ -31,7 +32,7 @@ loop-less : tie.Need-loop-less Inv-loop μ-loop
 loop-less c = omega (arith, c .before .before .before .loop-test .taken)
 
 loop-again : tie.Need-loop-again Inv-loop μ-loop
-loop-again c = category-on _ _ _ _ _ _ (c .before .before .before .before .loop .inv) (c .before .before .before .loop-test .taken) (c .before .before .name-text .ensures .0) (c .before .same .ensures) (c .if1 .left)
+loop-again c = category-on _ _ _ _ _ _ (c .before .before .before .before .loop .inv) (c .before .before .before .loop-test .taken) (text-in _ _ _ _ _ (c .before .before .name-text .ensures .0)) (c .before .same .ensures) (c .if1 .left)
 
 returns-2 : tie.Need-returns-2 Inv-loop μ-loop
 returns-2 c = category-none _ _ _ _ _ _ (c .before .loop .inv) (c .loop-test .left)

@@ -1,6 +1,7 @@
 use mathlib.Core.Path.{ap, _∙_}
 use Rattle.text_bytes.specs.Text.{fields}
 use Rattle.free_names.proofs.SearchLaws.{node-same, node-other}
+use Rattle.node_search.proofs.TextLaws.{text-in}
 use borrow.Author.Needs.{needs}
 use Rattle.free_names.proofs.search.node_is.Statement.{statement}
 use Rattle.free_names.proofs.search.node_is.Tie as tie
@@ -15,7 +16,7 @@ made-of-requires : tie.Need-made-of-requires
 made-of-requires c κs = search needs
 
 returns : tie.Need-returns
-returns c = λ u e f. node-same _ _ _ u e (c .before .before .if1 .taken) (ap (fields 58) (c .before .node-text .ensures .0 (c .before .before .before .before .before .before .before .pre)) ∙ f) (c .made-of .ensures)
+returns c = λ u e f. node-same _ _ _ u e (c .before .before .if1 .taken) (ap (fields 58) (text-in _ _ _ _ _ (c .before .node-text .ensures .0) (c .before .before .before .before .before .before .before .pre)) ∙ f) (c .made-of .ensures)
 
 returns-2 : tie.Need-returns-2
 returns-2 c = λ u e f. node-other _ _ u e (c .if1 .left)

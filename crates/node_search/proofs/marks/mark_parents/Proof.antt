@@ -34,8 +34,11 @@ loop-again : tie.Need-loop-again Inv-loop μ-loop
 loop-again c = (omega arith, c .mark .ensures .0, λ k h. marks-more (c .before .before .before .before .before .args .parents .now) (c .before .before .before .before .loop .i) k (c .before .before .before .before .loop .inv .2 k h) (c .mark .ensures .1 k h))
 
 returns : tie.Need-returns Inv-loop μ-loop
-returns c = λ k h. let e : c .before .loop .i ≡ c .before .before .args .n = omega (arith, c .loop-test .left, c .before .loop .inv .0) in
-    c .before .loop .inv .2 k h ∙ ap (λ (i : ℕ). not (childless (c .before .before .args .parents .now) (k + 1) i)) e
+returns c = (
+  c .before .loop .inv .1,
+  λ k h. let e : c .before .loop .i ≡ c .before .before .args .n = omega (arith, c .loop-test .left, c .before .loop .inv .0) in
+      c .before .loop .inv .2 k h ∙ ap (λ (i : ℕ). not (childless (c .before .before .args .parents .now) (k + 1) i)) e,
+)
 
 pub mark-parents-spec : {M : Type 1} → statement M
 mark-parents-spec =

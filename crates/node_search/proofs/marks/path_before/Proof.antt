@@ -3,6 +3,7 @@ use Prim.Native.Nat.{_≤_}
 use mathlib.Core.Path.{_≡_, refl}
 use Rattle.node_search.specs.Arrays.{lastPath}
 use Rattle.node_search.proofs.MarkLaws.{before-found, before-more, before-none}
+use Rattle.node_search.proofs.TextLaws.{text-in}
 use borrow.Author.Needs.{needs}
 use Rattle.node_search.proofs.marks.path_before.Statement.{statement}
 use Rattle.node_search.proofs.marks.path_before.Tie as tie
@@ -26,7 +27,7 @@ node-text-requires : tie.Need-node-text-requires Inv-loop μ-loop
 node-text-requires c κs = search needs
 
 returns : tie.Need-returns Inv-loop μ-loop
-returns c = let a = c .before .before .before .before .before .before .args in before-found (a .t .now) (a .category .now) (a .at .now) (a .len .now) (a .c) (a .i) (c .before .before .before .before .loop .j) (c .before .before .before .before .loop .inv .1) (c .before .before .before .loop-test .taken) (c .before .if1 .taken) (c .node-text .ensures .0 (omega (arith, c .before .before .before .before .before .before .pre)))
+returns c = let a = c .before .before .before .before .before .before .args in before-found (a .t .now) (a .category .now) (a .at .now) (a .len .now) (a .c) (a .i) (c .before .before .before .before .loop .j) (c .before .before .before .before .loop .inv .1) (c .before .before .before .loop-test .taken) (c .before .if1 .taken) (text-in _ _ _ _ _ (c .node-text .ensures .0) (omega (arith, c .before .before .before .before .before .before .pre)))
 
 loop-less : tie.Need-loop-less Inv-loop μ-loop
 loop-less c = omega arith

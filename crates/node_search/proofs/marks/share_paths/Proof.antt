@@ -1,22 +1,24 @@
 use native.Mathlib.Omega.{arith}
-use Prim.Native.Nat.{_-_, _≤_}
+use Prim.Native.Nat.{ℕ, _-_, _≤_}
 use mathlib.Core.Path.{_≡_, _∙_}
-use lib.ListN.{length, length-set}
+use lib.ListN.{length, getD, length-set}
+use lib.Seq.{getD-set-other}
 use Rattle.text_bytes.proofs.Turns.{common-le}
 use Rattle.node_search.specs.Arrays.{SharedIn}
 use Rattle.node_search.proofs.MarkLaws.{shared-more}
+use Rattle.node_search.proofs.TextLaws.{text-in}
 use borrow.Author.Needs.{needs}
 use Rattle.node_search.proofs.marks.share_paths.Statement.{statement}
 use Rattle.node_search.proofs.marks.share_paths.Tie as tie
 
 abbrev Inv-loop : tie.InvT-loop
-Inv-loop t n cats at len shared₀ i₀ shared i = (i ≤ n) × (length shared ≡ 64) × SharedIn t cats at len shared i
+Inv-loop t n cats at len shared₀ i₀ shared i = (i ≤ n) × (length shared ≡ 64) × SharedIn t cats at len shared i × ((k : ℕ) → i ≤ k → getD shared k 0 ≡ 0)
 
 abbrev μ-loop : tie.MeasureT-loop
 μ-loop t n cats at len shared₀ i₀ shared i = n - i
 
 loop-holds : tie.Need-loop-holds Inv-loop μ-loop
-loop-holds c = (omega arith, c .before .pre .1, λ j h. absurd (omega arith))
+loop-holds c = (omega arith, c .before .pre .1, (λ j h. absurd (omega arith)), λ k _. c .before .pre .2 k)
 
 element-copy-out-path-before : tie.Need-element-copy-out-path-before Inv-loop μ-loop
 element-copy-out-path-before c = search needs
@@ -45,10 +47,10 @@ loop-less c = omega arith
 loop-again : tie.Need-loop-again Inv-loop μ-loop
 loop-again c = let a = c .before .before .before .before .before .before .before .before .args in
     let l = c .before .before .before .before .before .before .loop in
-    (omega arith, length-set (l .shared) (l .i) (c .small .result) ∙ l .inv .1, shared-more (a .t .now) (a .category .now) (a .at .now) (a .len .now) (l .shared) (l .i) (l .inv .2) (omega (arith, l .inv .1, c .before .before .before .before .before .before .before .before .pre .0)) (c .before .before .before .path-before .ensures) (c .before .before .node-text .ensures .0 (omega (arith, c .before .before .before .before .before .before .before .before .pre .0))) (c .before .common-from .ensures) (c .small .ensures))
+    (omega arith, length-set (l .shared) (l .i) (c .small .result) ∙ l .inv .1, shared-more (a .t .now) (a .category .now) (a .at .now) (a .len .now) (l .shared) (l .i) (l .inv .2) (omega (arith, l .inv .1, c .before .before .before .before .before .before .before .before .pre .0)) (c .before .before .before .path-before .ensures) (text-in _ _ _ _ _ (c .before .before .node-text .ensures .0) (omega (arith, c .before .before .before .before .before .before .before .before .pre .0))) (c .before .common-from .ensures) (c .small .ensures), λ k h. getD-set-other (l .shared) (l .i) k (c .small .result) 0 (λ q. omega arith) ∙ l .inv .3 k (omega arith))
 
 returns : tie.Need-returns Inv-loop μ-loop
-returns c = λ j h. c .before .loop .inv .2 j (omega (arith, c .loop-test .left))
+returns c = ((c .before .loop .inv .1, λ k h. c .before .loop .inv .3 k (omega (arith, c .before .loop .inv .0))), λ j h. c .before .loop .inv .2 j (omega (arith, c .loop-test .left)))
 
 pub share-paths-spec : {M : Type 1} → statement M
 share-paths-spec =

@@ -6,6 +6,7 @@ use native.Mathlib.Nat.{sub-zero}
 use Rattle.resolution.specs.Names.{sameName}
 use Rattle.node_search.specs.Search.{findName}
 use Rattle.node_search.proofs.UseLaws.{name-found, name-more, name-none}
+use Rattle.node_search.proofs.TextLaws.{text-in}
 use borrow.Author.Needs.{needs}
 use Rattle.node_search.proofs.uses.find_name.Statement.{statement}
 use Rattle.node_search.proofs.uses.find_name.Tie as tie
@@ -30,7 +31,7 @@ returns : tie.Need-returns Inv-loop μ-loop
 returns c = let a = c .before .before .before .before .before .before .before .args in
     let l = c .before .before .before .before .loop in
     name-found (a .t .now) (lowered (a .s .now)) (a .name-at .now) (a .name-len .now) (a .n) (l .i) (l .inv .1) (c .before .before .before .loop-test .taken)
-    (c .before .same-lowered .ensures ∙ ap (sameName (lowered (a .s .now))) (c .before .before .name-text .ensures .0 (omega (arith, c .before .before .before .before .before .before .before .pre))))
+    (c .before .same-lowered .ensures ∙ ap (sameName (lowered (a .s .now))) (text-in _ _ _ _ _ (c .before .before .name-text .ensures .0) (omega (arith, c .before .before .before .before .before .before .before .pre))))
     (c .if1 .taken)
 
 add-i : tie.Need-add-i Inv-loop μ-loop
@@ -44,7 +45,7 @@ loop-again c = let a = c .before .before .before .before .before .before .before
     let l = c .before .before .before .before .loop in (
       omega arith,
       name-more (a .t .now) (lowered (a .s .now)) (a .name-at .now) (a .name-len .now) (a .n) (l .i) (l .inv .1) (c .before .before .before .loop-test .taken)
-          (c .before .same-lowered .ensures ∙ ap (sameName (lowered (a .s .now))) (c .before .before .name-text .ensures .0 (omega (arith, c .before .before .before .before .before .before .before .pre))))
+          (c .before .same-lowered .ensures ∙ ap (sameName (lowered (a .s .now))) (text-in _ _ _ _ _ (c .before .before .name-text .ensures .0) (omega (arith, c .before .before .before .before .before .before .before .pre))))
           (c .if1 .left),
     )
 

@@ -1,8 +1,11 @@
 use Rattle.text_bytes.specs.Text.{lowered}
+use Rattle.text_bytes.specs.Words.{commonNext}
+use Rattle.text_bytes.proofs.Cases.{taken-small}
 use native.Mathlib.Omega.{arith}
-use mathlib.Core.Path.{ap}
+use mathlib.Core.Path.{ap, _∙_}
 use Rattle.node_search.specs.declared.uses.Search.{Search}
 use Rattle.node_search.proofs.UseLaws.{look-counted, look-departs, departs-same, look-met}
+use Rattle.node_search.proofs.TextLaws.{text-in}
 use borrow.Author.Needs.{needs}
 use Rattle.node_search.proofs.uses.look.Statement.{statement}
 use Rattle.node_search.proofs.uses.look.Tie as tie
@@ -26,7 +29,7 @@ counted-requires-2 c κs = let a = c .before .before .before .before .before .be
 
 returns-2 : tie.Need-returns-2
 returns-2 c = let a = c .before .before .before .before .before .before .before .before .args in
-    let d = look-departs (a .t .now) (a .at .now) (a .len .now) (a .inner .now) (lowered (a .w .now)) (a .i) (a .l) (a .s) (c .before .before .before .before .if1 .left) (c .before .before .before .node-text .ensures .0 (c .before .before .before .before .before .before .before .before .pre .0)) (c .before .before .departs .ensures) (c .before .if2 .taken) (c .before .before .before .node-text .ensures .1) (c .counted2 .ensures) in
+    let d = look-departs (a .t .now) (a .at .now) (a .len .now) (a .inner .now) (lowered (a .w .now)) (a .i) (a .l) (a .s) (c .before .before .before .before .if1 .left) (text-in _ _ _ _ _ (c .before .before .before .node-text .ensures .0) (c .before .before .before .before .before .before .before .before .pre .0)) (c .before .before .departs .ensures) (c .before .if2 .taken) (c .before .before .before .node-text .ensures .1) (c .counted2 .ensures) in
     (d .0, omega (arith, d .1, c .before .before .before .before .before .before .before .before .pre, ap (λ (s : Search). s .compared) (c .counted2 .ensures)))
 
 common-lowered-next-requires : tie.Need-common-lowered-next-requires
@@ -46,7 +49,7 @@ met-requires c κs = search needs
 
 returns-3 : tie.Need-returns-3
 returns-3 c = let a = c .before .before .before .before .before .before .before .before .before .before .args in
-    (look-met (a .t .now) (a .at .now) (a .len .now) (a .inner .now) (lowered (a .w .now)) (a .i) (a .l) (a .s) (c .before .before .before .before .before .before .if1 .left) (c .before .before .before .before .before .node-text .ensures .0 (c .before .before .before .before .before .before .before .before .before .before .pre .0)) (c .before .before .common-lowered-next .ensures (c .before .before .before .before .before .before .before .before .before .before .pre .3)) (c .met .ensures .0), omega (arith, c .met .ensures .1, c .before .before .before .before .before .before .before .before .before .before .pre))
+    (look-met (a .t .now) (a .at .now) (a .len .now) (a .inner .now) (lowered (a .w .now)) (a .i) (a .l) (a .s) (c .before .before .before .before .before .before .if1 .left) (text-in _ _ _ _ _ (c .before .before .before .before .before .node-text .ensures .0) (c .before .before .before .before .before .before .before .before .before .before .pre .0)) (c .before .before .common-lowered-next .ensures ∙ ap (λ u. commonNext (c .before .before .before .before .before .node-text .result .now) u (a .s .same) (a .l)) (taken-small (a .w .now) (a .small) (c .before .before .before .before .before .before .before .before .before .before .pre .3))) (c .met .ensures .0), omega (arith, c .met .ensures .1, c .before .before .before .before .before .before .before .before .before .before .pre))
 
 pub look-spec : {M : Type 1} → statement M
 look-spec =

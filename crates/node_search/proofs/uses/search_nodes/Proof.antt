@@ -1,4 +1,5 @@
 use Rattle.text_bytes.specs.Text.{lowered}
+use Rattle.text_bytes.proofs.Cases.{test-as-is}
 use native.Mathlib.Omega.{arith}
 use Prim.Native.Nat.{ℕ, _+_, _*_, _-_, _≤_}
 use mathlib.Core.Path.{_≡_, refl, ap, sym, subst}
@@ -36,7 +37,7 @@ wide-requires : tie.Need-wide-requires Inv-loop μ-loop
 wide-requires c κs = search needs
 
 look-requires : tie.Need-look-requires Inv-loop μ-loop
-look-requires c κs = (omega (arith, c .before .before .before .before .before .before .before .before .before .pre), omega (arith, c .wide .ensures .1), c .before .before .before .before .before .loop .inv .1, c .before .before .before .before .before .before .is-lowered .ensures)
+look-requires c κs = (omega (arith, c .before .before .before .before .before .before .before .before .before .pre), omega (arith, c .wide .ensures .1), c .before .before .before .before .before .loop .inv .1, test-as-is (c .before .before .before .before .before .before .before .before .before .args .w .now) (c .before .before .before .before .before .before .is-lowered .ensures))
 
 returns : tie.Need-returns Inv-loop μ-loop
 returns c = let a = c .before .before .before .before .before .before .before .before .before .before .before .args in

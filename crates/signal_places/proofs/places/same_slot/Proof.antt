@@ -1,5 +1,6 @@
 use native.Mathlib.Omega.{arith}
 use Rattle.signal_places.proofs.RowLaws.{slot-first, slot-second, slot-both}
+use Rattle.node_search.proofs.TextLaws.{text-in}
 use borrow.Author.Needs.{needs}
 use Rattle.signal_places.proofs.places.same_slot.Statement.{statement}
 use Rattle.signal_places.proofs.places.same_slot.Tie as tie
@@ -26,7 +27,7 @@ same-requires : tie.Need-same-requires
 same-requires c κs = search needs
 
 returns-3 : tie.Need-returns-3
-returns-3 c = slot-both _ _ _ _ _ (c .before .before .before .before .if1 .left) (c .before .before .before .if2 .left) (c .same .ensures) (c .before .before .urn-text .ensures .0 (omega arith)) (c .before .urn-text2 .ensures .0 (omega arith))
+returns-3 c = slot-both _ _ _ _ _ (c .before .before .before .before .if1 .left) (c .before .before .before .if2 .left) (c .same .ensures) (text-in _ _ _ _ _ (c .before .before .urn-text .ensures .0) (omega arith)) (text-in _ _ _ _ _ (c .before .urn-text2 .ensures .0) (omega arith))
 
 pub same-slot-spec : {M : Type 1} → statement M
 same-slot-spec =

@@ -1,5 +1,5 @@
 use native.Mathlib.Omega.{arith}
-use mathlib.Core.Path.{refl}
+use Rattle.signal_places.proofs.FilledLaws.{silent-from, silent-true}
 use borrow.Author.Needs.{needs}
 use Rattle.signal_places.proofs.signals.silent.Statement.{statement}
 use Rattle.signal_places.proofs.signals.silent.Tie as tie
@@ -8,10 +8,10 @@ element-copy-out-result : tie.Need-element-copy-out-result
 element-copy-out-result c = search needs
 
 returns : tie.Need-returns
-returns c = (λ e. absurd (omega (arith, c .before .if1 .taken)), λ _. refl)
+returns c = silent-from _ _ (c .before .if1 .taken)
 
 returns-2 : tie.Need-returns-2
-returns-2 c = (λ _. refl, λ e. absurd (omega (arith, c .if1 .left)))
+returns-2 c = silent-true _ _ (c .if1 .left)
 
 pub silent-spec : {M : Type 1} → statement M
 silent-spec = tie.close (tie.spec element-copy-out-result returns returns-2)

@@ -1,6 +1,7 @@
 use native.Mathlib.Omega.{arith}
 use mathlib.Core.Path.{_∙_}
 use Rattle.signal_writer.proofs.Ancestry.{last-low, last-high, last-some}
+use Rattle.node_search.proofs.TextLaws.{text-in}
 use borrow.Author.Needs.{needs}
 use Rattle.signal_writer.proofs.paths.last_of.Statement.{statement}
 use Rattle.signal_writer.proofs.paths.last_of.Tie as tie
@@ -21,7 +22,7 @@ node-text-requires : tie.Need-node-text-requires
 node-text-requires c κs = search needs
 
 returns-3 : tie.Need-returns-3
-returns-3 c = (c .node-text .ensures .0 (omega arith) ∙ last-some _ _ _ _ (c .before .before .if1 .left) (c .before .if2 .left), c .node-text .ensures .1)
+returns-3 c = (text-in _ _ _ _ _ (c .node-text .ensures .0) (omega arith) ∙ last-some _ _ _ _ (c .before .before .if1 .left) (c .before .if2 .left), c .node-text .ensures .1)
 
 pub last-of-spec : {M : Type 1} → statement M
 last-of-spec =

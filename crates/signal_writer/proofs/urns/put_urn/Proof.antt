@@ -2,6 +2,7 @@ use Rattle.table_sections.proofs.Padding.{one-byte}
 use native.Mathlib.Omega.{arith}
 use Rattle.signal_writer.proofs.Ancestry.{puts-urn}
 use mathlib.Core.Path.{_∙_}
+use Rattle.node_search.proofs.TextLaws.{text-in}
 use borrow.Author.Needs.{needs}
 use Rattle.signal_writer.proofs.urns.put_urn.Statement.{statement}
 use Rattle.signal_writer.proofs.urns.put_urn.Tie as tie
@@ -58,7 +59,7 @@ returns c = let a = c .before .before .before .before .before .before .before .b
     let w = c .before .before .before .before .before .before .before .name-text .ensures in
     let F = c .before .before .before .before .before .before .before .before .before .before .before .byte .ensures (omega (arith, g .5)) in
     let H = c .before .before .before .before .before .before .all .ensures (omega (arith, w .1, F .end, g .5)) in
-    (puts-urn (a .t .now) (a .name-at .now) (a .name-len .now) (a .category .now) (a .parent .now) (a .at .now) (a .len .now) (a .size .now) (a .depth .now) (a .k) (one-byte (c .before .before .before .before .before .before .before .before .before .before .before .before .small .ensures) (omega (arith, g .3))) (c .before .before .before .before .before .before .before .before .before .before .before .before .before .before .wide .ensures .0) (w .0 (omega (arith, c .before .before .before .before .before .before .before .before .before .before .before .before .before .before .wide .ensures .0, g .2))) F H (c .before .before .put-path .ensures .0), omega (arith, F .end, H .end, w .1, c .before .before .put-path .ensures .1))
+    (puts-urn (a .t .now) (a .name-at .now) (a .name-len .now) (a .category .now) (a .parent .now) (a .at .now) (a .len .now) (a .size .now) (a .depth .now) (a .k) (one-byte (c .before .before .before .before .before .before .before .before .before .before .before .before .small .ensures) (omega (arith, g .3))) (c .before .before .before .before .before .before .before .before .before .before .before .before .before .before .wide .ensures .0) (text-in _ _ _ _ _ (w .0) (omega (arith, c .before .before .before .before .before .before .before .before .before .before .before .before .before .before .wide .ensures .0, g .2))) F H (c .before .before .put-path .ensures .0), omega (arith, F .end, H .end, w .1, c .before .before .put-path .ensures .1))
 
 pub put-urn-spec : {M : Type 1} → statement M
 put-urn-spec =

@@ -7,6 +7,7 @@ use Rattle.text_bytes.specs.Text.{all}
 use Rattle.alert_urn.specs.Urn.{urnOk}
 use Rattle.node_search.specs.Arrays.{stretch}
 use Rattle.signal_places.proofs.TestLaws.{all-start, all-next, all-fails, all-ends}
+use Rattle.node_search.proofs.TextLaws.{text-in}
 use borrow.Author.Needs.{needs}
 use Rattle.stored_table.proofs.forms.urns_formed.Statement.{statement}
 use Rattle.stored_table.proofs.forms.urns_formed.Tie as tie
@@ -33,10 +34,10 @@ loop-less : tie.Need-loop-less Inv-loop μ-loop
 loop-less c = omega arith
 
 loop-again : tie.Need-loop-again Inv-loop μ-loop
-loop-again c = (omega arith, all-next _ _ _ (c .before .before .before .before .loop .inv .1) (c .before .urn-formed .ensures ∙ ap urnOk (c .before .before .urn-text .ensures .0 (omega arith))) (c .if1 .taken))
+loop-again c = (omega arith, all-next _ _ _ (c .before .before .before .before .loop .inv .1) (c .before .urn-formed .ensures ∙ ap urnOk (text-in _ _ _ _ _ (c .before .before .urn-text .ensures .0) (omega arith))) (c .if1 .taken))
 
 returns : tie.Need-returns Inv-loop μ-loop
-returns c = all-fails _ _ _ _ (c .before .before .before .loop-test .taken) (c .before .urn-formed .ensures ∙ ap urnOk (c .before .before .urn-text .ensures .0 (omega arith))) (c .if1 .left)
+returns c = all-fails _ _ _ _ (c .before .before .before .loop-test .taken) (c .before .urn-formed .ensures ∙ ap urnOk (text-in _ _ _ _ _ (c .before .before .urn-text .ensures .0) (omega arith))) (c .if1 .left)
 
 returns-2 : tie.Need-returns-2 Inv-loop μ-loop
 returns-2 c = all-ends _ _ _ _ (c .before .loop .inv .1) (c .before .loop .inv .0) (c .loop-test .left)

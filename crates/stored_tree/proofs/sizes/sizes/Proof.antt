@@ -5,6 +5,7 @@ use lib.ListN.{length, length-set, getD}
 use Rattle.node_search.specs.Arrays.{stretch}
 use Rattle.stored_tree.specs.Stages.{FromParent}
 use Rattle.stored_tree.proofs.Filling.{Bounded, stretch-le, base-le, bound-more, from-more}
+use Rattle.node_search.proofs.TextLaws.{text-in}
 use borrow.Author.Needs.{needs}
 use Rattle.stored_tree.proofs.sizes.sizes.Statement.{statement}
 use Rattle.stored_tree.proofs.sizes.sizes.Tie as tie
@@ -41,15 +42,15 @@ above-requires c κs = omega (arith, c .before .before .before .before .before .
 
 add-size : tie.Need-add-size Inv-loop μ-loop
 add-size c = let a = c .before .before .before .before .before .before .before .before .before .before .before .args in
-    let n = ap length (c .before .before .before .name-text .ensures .0 (omega (arith, c .before .before .before .before .wide2 .ensures .0, c .before .before .before .before .before .before .before .before .before .before .before .pre .3 .few _ (c .before .before .before .before .before .before .before .before .loop-test .taken)))) in
+    let n = ap length (text-in _ _ _ _ _ (c .before .before .before .name-text .ensures .0) (omega (arith, c .before .before .before .before .wide2 .ensures .0, c .before .before .before .before .before .before .before .before .before .before .before .pre .3 .few _ (c .before .before .before .before .before .before .before .before .loop-test .taken)))) in
     let m = stretch-le (a .t .now) (a .name-at .now) (a .name-len .now) (c .before .before .before .before .wide2 .result) in
     let b = base-le (a .parent .now) (a .category .now) (c .before .before .before .before .before .before .before .before .before .loop .out) (a .n) (c .before .before .before .before .before .before .before .before .before .loop .i) (c .before .before .before .before .before .before .before .before .before .before .before .pre .3) (c .before .before .before .before .before .before .before .before .loop-test .taken) (c .before .before .before .before .before .before .before .before .before .loop .inv .3) (c .before .before .before .before .before .before .wide .ensures .0) (c .above .ensures) (omega (arith, n, m, c .before .before .before .before .before .before .before .before .before .before .before .pre .2)) in omega (arith, b)
 
 add-size-2 : tie.Need-add-size-2 Inv-loop μ-loop
 add-size-2 c = let a = c .before .before .before .before .before .before .before .before .before .before .before .args in
-    let n = ap length (c .before .before .before .name-text .ensures .0 (omega (arith, c .before .before .before .before .wide2 .ensures .0, c .before .before .before .before .before .before .before .before .before .before .before .pre .3 .few _ (c .before .before .before .before .before .before .before .before .loop-test .taken)))) in
+    let n = ap length (text-in _ _ _ _ _ (c .before .before .before .name-text .ensures .0) (omega (arith, c .before .before .before .before .wide2 .ensures .0, c .before .before .before .before .before .before .before .before .before .before .before .pre .3 .few _ (c .before .before .before .before .before .before .before .before .loop-test .taken)))) in
     let m = stretch-le (a .t .now) (a .name-at .now) (a .name-len .now) (c .before .before .before .before .wide2 .result) in
-    let l = ap length (c .before .before .node-text .ensures .0 (omega arith)) in
+    let l = ap length (text-in _ _ _ _ _ (c .before .before .node-text .ensures .0) (omega arith)) in
     let k = stretch-le (a .t .now) (a .at .now) (a .len .now) (c .before .before .before .before .before .before .before .before .before .loop .i) in
     let b = base-le (a .parent .now) (a .category .now) (c .before .before .before .before .before .before .before .before .before .loop .out) (a .n) (c .before .before .before .before .before .before .before .before .before .loop .i) (c .before .before .before .before .before .before .before .before .before .before .before .pre .3) (c .before .before .before .before .before .before .before .before .loop-test .taken) (c .before .before .before .before .before .before .before .before .before .loop .inv .3) (c .before .before .before .before .before .before .wide .ensures .0) (c .above .ensures) (omega (arith, n, m, c .before .before .before .before .before .before .before .before .before .before .before .pre .2)) in omega (arith, b, l, k, c .before .before .before .before .before .before .before .before .before .before .before .pre .2)
 
@@ -70,9 +71,9 @@ loop-again c = let a = c .before .before .before .before .before .before .before
     let out = c .before .before .before .before .before .before .before .before .before .loop .out in
     let i = c .before .before .before .before .before .before .before .before .before .loop .i in
     let y : i < length out = omega arith in
-    let n = ap length (c .before .before .before .name-text .ensures .0 (omega (arith, c .before .before .before .before .wide2 .ensures .0, c .before .before .before .before .before .before .before .before .before .before .before .pre .3 .few _ (c .before .before .before .before .before .before .before .before .loop-test .taken)))) in
+    let n = ap length (text-in _ _ _ _ _ (c .before .before .before .name-text .ensures .0) (omega (arith, c .before .before .before .before .wide2 .ensures .0, c .before .before .before .before .before .before .before .before .before .before .before .pre .3 .few _ (c .before .before .before .before .before .before .before .before .loop-test .taken)))) in
     let m = stretch-le (a .t .now) (a .name-at .now) (a .name-len .now) (c .before .before .before .before .wide2 .result) in
-    let l = ap length (c .before .before .node-text .ensures .0 (omega arith)) in
+    let l = ap length (text-in _ _ _ _ _ (c .before .before .node-text .ensures .0) (omega arith)) in
     let k = stretch-le (a .t .now) (a .at .now) (a .len .now) i in
     let more : ℕ → ℕ = λ i. suc (length (stretch (a .t .now) (a .at .now) (a .len .now) i)) in (
       omega arith,

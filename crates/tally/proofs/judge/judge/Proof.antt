@@ -1,9 +1,10 @@
-use mathlib.Core.Path.{sym, subst}
+use mathlib.Core.Path.{sym, subst, _∙_}
 use Prim.Native.Nat.{_≤_}
 use native.Mathlib.Omega.{arith}
 use Rattle.entry_run.specs.declared.Resolution.{Resolution}
 use Rattle.tally.proofs.PlainLaws.{plain-few}
 use Rattle.tally.proofs.JudgeLaws.{few-counts, few-records, enough-records, judges-few, judges-plain}
+use Rattle.resolver.proofs.ByTableLaws.{plain-means}
 use borrow.Author.Needs.{needs}
 use Rattle.tally.proofs.judge.judge.Statement.{statement}
 use Rattle.tally.proofs.judge.judge.Tie as tie
@@ -27,13 +28,13 @@ plain-requires : tie.Need-plain-requires
 plain-requires c κs = search needs
 
 counted-requires : tie.Need-counted-requires
-counted-requires c κs = (subst (λ (r : Resolution). r .refusal ≤ 12) (sym (c .before .plain .ensures (c .before .before .before .before .decode .ensures))) (plain-few _ _), omega arith)
+counted-requires c κs = (subst (λ (r : Resolution). r .refusal ≤ 12) (sym (c .before .plain .ensures ∙ plain-means _ _ _ (c .before .before .before .before .decode .ensures))) (plain-few _ _), omega arith)
 
 same-length : tie.Need-same-length
 same-length c = search needs
 
 returns-3 : tie.Need-returns-3
-returns-3 c = judges-plain _ _ _ _ _ _ _ (enough-records _ _ (c .before .before .before .before .before .before .before .decode .ensures) _ _ (omega arith) (c .before .before .before .before .before .if2 .left)) (c .before .before .before .before .plain .ensures (c .before .before .before .before .before .before .before .decode .ensures)) (c .before .before .counted .ensures)
+returns-3 c = judges-plain _ _ _ _ _ _ _ (enough-records _ _ (c .before .before .before .before .before .before .before .decode .ensures) _ _ (omega arith) (c .before .before .before .before .before .if2 .left)) (c .before .before .before .before .plain .ensures ∙ plain-means _ _ _ (c .before .before .before .before .before .before .before .decode .ensures)) (c .before .before .counted .ensures)
 
 pub judge-spec : {M : Type 1} → statement M
 judge-spec =

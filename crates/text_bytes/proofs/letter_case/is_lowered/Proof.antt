@@ -1,10 +1,9 @@
 use native.Mathlib.Omega.{arith}
 use Prim.Native.Nat.{ℕ, _≤_, _<_, _-_}
 use mathlib.Core.Path.{_≡_}
-use mathlib.Core.Bool.{false≢true}
 use lib.ListN.{length, getD}
 use Rattle.text_bytes.specs.Text.{lower}
-use Rattle.text_bytes.proofs.Cases.{lowered-as-is, as-is-next}
+use Rattle.text_bytes.proofs.Cases.{as-is-next, no-capital, has-capital}
 use borrow.Author.Needs.{needs}
 use Rattle.text_bytes.proofs.letter_case.is_lowered.Statement.{statement}
 use Rattle.text_bytes.proofs.letter_case.is_lowered.Tie as tie
@@ -25,7 +24,8 @@ in-range-requires : tie.Need-in-range-requires Inv-loop μ-loop
 in-range-requires c κs = search needs
 
 returns : tie.Need-returns Inv-loop μ-loop
-returns c = λ e. absurd (false≢true e)
+returns c = let s = c .before .before .before .before .before .before .args .s .now in
+    has-capital s (c .before .before .before .before .loop .i) (omega (arith, c .before .before .before .loop-test .taken)) (c .before .in-range .ensures) (c .if1 .taken)
 
 add-i : tie.Need-add-i Inv-loop μ-loop
 add-i c = search needs
@@ -37,7 +37,7 @@ loop-again : tie.Need-loop-again Inv-loop μ-loop
 loop-again c = let l = c .before .before .before .before .loop in (omega arith, as-is-next (c .before .before .before .before .before .before .args .s .now) (l .i) (l .inv .1) (c .before .in-range .ensures) (c .if1 .left))
 
 returns-2 : tie.Need-returns-2 Inv-loop μ-loop
-returns-2 c = λ _. lowered-as-is (c .before .before .before .args .s .now) (λ k h. c .before .loop .inv .1 k (omega arith))
+returns-2 c = no-capital (c .before .before .before .args .s .now) (λ k h. c .before .loop .inv .1 k (omega arith))
 
 pub is-lowered-spec : {M : Type 1} → statement M
 is-lowered-spec =

@@ -1,5 +1,6 @@
 use native.Mathlib.Omega.{arith}
 use Rattle.tree_nodes.proofs.Tests.{not-category, not-parent, by-name}
+use Rattle.node_search.proofs.TextLaws.{text-in}
 use borrow.Author.Needs.{needs}
 use Rattle.tree_nodes.proofs.repeats.alike.Statement.{statement}
 use Rattle.tree_nodes.proofs.repeats.alike.Tie as tie
@@ -26,7 +27,7 @@ same-requires : tie.Need-same-requires
 same-requires c κs = search needs
 
 returns : tie.Need-returns
-returns c = let a = c .before .before .before .before .before .before .before .before .before .before .args in by-name (a .t .now) (a .category .now) (a .parent .now) (a .at .now) (a .len .now) (a .i) (a .j) (c .before .before .before .before .before .before .if1 .taken) (c .before .before .before .if2 .taken) (c .same .ensures) (c .before .before .node-text .ensures .0 (omega arith)) (c .before .node-text2 .ensures .0 (omega arith))
+returns c = let a = c .before .before .before .before .before .before .before .before .before .before .args in by-name (a .t .now) (a .category .now) (a .parent .now) (a .at .now) (a .len .now) (a .i) (a .j) (c .before .before .before .before .before .before .if1 .taken) (c .before .before .before .if2 .taken) (c .same .ensures) (text-in _ _ _ _ _ (c .before .before .node-text .ensures .0) (omega arith)) (text-in _ _ _ _ _ (c .before .node-text2 .ensures .0) (omega arith))
 
 returns-2 : tie.Need-returns-2
 returns-2 c = let a = c .before .before .before .before .before .before .before .args in not-parent (a .t .now) (a .category .now) (a .parent .now) (a .at .now) (a .len .now) (a .i) (a .j) (c .before .before .before .if1 .taken) (c .if2 .left)
