@@ -1,7 +1,7 @@
 -- The value's number comes first, then the table's, then the resolver's own.
 use Prim.Native.Nat.{ℕ, zero, suc, _<_}
 use mathlib.Core.Path.{_≡_, refl, sym, subst, _∙_}
-use mathlib.Core.Logic.{_↔_, _⊎_, inl, inr}
+use mathlib.Core.Logic.{_↔_, inl, inr}
 use mathlib.Core.Bool.{Bool, true, false, cond, true≢false}
 use mathlib.Core.List.{List}
 use native.Mathlib.Omega.{arith}
@@ -13,7 +13,6 @@ use Rattle.alert_info.specs.Claims.{Given}
 use Rattle.alert_info.proofs.Agree.{refused-exactly as value-exactly}
 use Rattle.machine_image.specs.Refusals.{formOf}
 use Rattle.stored_table.specs.Tables.{tableRefusal, tableOf}
-use Rattle.stored_table.specs.Claims.{TableGiven}
 use Rattle.stored_table.proofs.Exactly.{refused-exactly as table-exactly}
 use Rattle.signal_table.proofs.FormRight.{form-to-right, right-to-form}
 use Rattle.small_image.specs.Small.{smallForm}

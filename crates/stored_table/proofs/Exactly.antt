@@ -1,13 +1,12 @@
 -- Each of the numbers 4 to 12 is given exactly where it is due, and the smallest of those that are due.
-use Prim.Native.Nat.{ℕ, zero, suc, _≤_, _<_}
+use Prim.Native.Nat.{ℕ, suc, _≤_, _<_}
 use mathlib.Core.Path.{_≡_, refl, ap, sym, _∙_, subst}
-use mathlib.Core.Logic.{_↔_}
-use mathlib.Core.Bool.{Bool, true, false, cond, not, _&&_, and-eq-true-iff, true≢false, false≢true}
+use mathlib.Core.Bool.{Bool, true, false, cond, _&&_, and-eq-true-iff, true≢false, false≢true}
 use mathlib.Core.List.{List, [], _∷_, List·Memᴰ, List·Memᴰ·head, List·Memᴰ·tail, List·Memᴰ·cases-cons, List·Memᴰ·not-nil}
 use mathlib.Core.Logic.{_⊎_, inl, inr}
 use native.Mathlib.Omega.{arith}
 use lib.ListN.{length, getD}
-use lib.Dec.{leb, ltb}
+use lib.Dec.{ltb}
 use borrow.Author.Tests.{leb-true, leb-false, ltb-true, ltb-false, eq-eqb, eqb-true}
 use Rattle.text_bytes.specs.Text.{all}
 use Rattle.text_bytes.proofs.Fields.{byTest}
@@ -17,10 +16,9 @@ use Rattle.resolution.specs.Table.{Urn, urn, Table, rowOf, sameRow}
 use Rattle.resolution.specs.Nodes.{nodes}
 use Rattle.resolution.proofs.Lists.{member-of, member-to}
 use Rattle.resolution.proofs.Names.{name-exact, row-exact}
-use Rattle.table_sections.specs.Stored.{Read, fault, got, Stored, stored, sections}
+use Rattle.table_sections.specs.Stored.{Read, fault, got, Stored, stored}
 use Rattle.signal_places.specs.Verdict.{sameCat, noUrn, samePlaces}
 use Rattle.stored_table.specs.Tables.{any, noTwo, formed, uses, isListed, listed, tableIn, single, zeroSilent, distinct, fewNodes, verdict, judged, judgedRead, tableRefusal}
-use Rattle.stored_table.specs.Bytes.{Every}
 use Rattle.stored_table.specs.Claims.{TableStops, Misformed, of-name, of-urn, Mislisted, twice, unused, unlisted, TwoOfOne, ZeroSays, AlikePlaces, ManyNodes, Holding, Due, four, five-six, seven, eight, nine, ten, eleven, twelve, TableGiven, accepted, first, TableRefusedExactly}
 use Rattle.stored_table.proofs.Accepting.{all-mem, any-mem, two-at}
 use Rattle.stored_table.proofs.NameForms.{name-to, name-of, urn-to, urn-of}

@@ -1,12 +1,11 @@
 -- Where the reading of a table stops, with 5 or 6, is where the bytes stop.
 use Prim.Native.Nat.{ℕ, zero, suc, _+_, _-_, _≤_, _<_}
-use mathlib.Core.Path.{_≡_, refl, ap, ap₂, sym, _∙_, subst}
+use mathlib.Core.Path.{_≡_, refl, ap, sym, _∙_, subst}
 use mathlib.Core.Bool.{true, false, cond, false≢true}
-use mathlib.Core.List.{List, [], _∷_, _++_, append-assoc, List·Memᴰ, List·Memᴰ·head, List·Memᴰ·tail, List·Memᴰ·not-nil}
+use mathlib.Core.List.{List, [], _∷_, _++_, append-assoc, List·Memᴰ·head, List·Memᴰ·tail, List·Memᴰ·not-nil}
 use mathlib.Core.Logic.{_⊎_, inl, inr}
-use native.Mathlib.Numerals.{add-one}
 use native.Mathlib.Omega.{arith}
-use lib.ListN.{length, getD, take, drop, length-append, length-drop, drop-of-length-le}
+use lib.ListN.{length, getD, take, drop, length-drop, drop-of-length-le}
 use lib.Seq.{drop-cons}
 use lib.Dec.{leb, ltb}
 use borrow.Author.Tests.{le-leb, lt-ltb, ltb-true, ltb-false, leb-true, leb-false}
@@ -14,7 +13,7 @@ use Rattle.ascii.specs.Ascii.{within}
 use Rattle.text_bytes.proofs.Fields.{byTest}
 use Rattle.table_sections.specs.Stored.{Read, fault, got, andThen, byteIn, text, times, counted, signal, Stored, storedFrom, stored}
 use Rattle.table_sections.proofs.Readings.{byte-low, byte-high, byte-none, text-fault, text-short}
-use Rattle.stored_table.specs.Bytes.{each, section, textBytes, storedBytes, Every, FitsByte, FitsText, FitsMany, FitsNames, FitsSignals, FitsStored}
+use Rattle.stored_table.specs.Bytes.{each, section, textBytes, storedBytes, Every, FitsText, FitsMany, FitsNames}
 use Rattle.stored_table.specs.Claims.{ByteStops, ended, outside, TextStops, at-length, cut, ManyStops, at-count, later, NamesStop, SignalStops, SignalsStop, TableStops, in-names, in-signals, goes-on}
 use Rattle.stored_table.proofs.Writing.{every-cons, Coded, next, inside, here, never, byte-coded, text-coded, counted-coded, names-coded, urns-coded}
 

@@ -1,6 +1,6 @@
 -- Each of the numbers 4 to 12 is given exactly where it is due, and the smallest of those that are due.
 -- The proofs are in proofs/Exactly.antt.
-use Prim.Native.Nat.{ℕ, _≤_, _<_}
+use Prim.Native.Nat.{ℕ, _<_}
 use mathlib.Core.Path.{_≡_}
 use mathlib.Core.Logic.{_↔_}
 use mathlib.Core.List.{List, [], _∷_, _++_, List·Memᴰ}
@@ -45,7 +45,7 @@ pub data TableStops (k : ℕ) (t : List ℕ) : Type 0 where
   in-signals : (ns : List Name) (r : List ℕ) → FitsNames ns → t ≡ section textBytes ns ++ r → SignalsStop k r → TableStops k t
   goes-on : (s : Stored) (b : ℕ) (r : List ℕ) → k ≡ 5 → FitsStored s → t ≡ storedBytes s ++ b ∷ r → TableStops k t
 
--- 7: a name, or a URN of a signal, has not its form
+-- 7: a name, or a URN of a signal, does not have its form
 pub data Misformed (s : Stored) : Type 0 where
   of-name : (x : Name) → List·Memᴰ x (s .names) → (NameForm x → ⊥) → Misformed s
   of-urn : (sig : List (List ℕ)) → List·Memᴰ sig (s .signals) → (u : List ℕ) → List·Memᴰ u sig → (UrnForm u → ⊥) → Misformed s
