@@ -31,7 +31,7 @@ abbrev noNode : Node
 noNode = record { category = 0; parent = 0; last = [] }
 
 -- a test that fails at some element, or below some number
-all-not : {A : Type 0} (p : A → Bool) (xs : List A) (d : A) → all p xs ≡ false → (i : ℕ) × (i < length xs) × (p (getD xs i d) ≡ false)
+pub all-not : {A : Type 0} (p : A → Bool) (xs : List A) (d : A) → all p xs ≡ false → (i : ℕ) × (i < length xs) × (p (getD xs i d) ≡ false)
 unfolding all
 all-not p [] d e = absurd (true≢false e)
 all-not {A} p (x ∷ xs) d e = byTest (p x) (λ h. go h (λ f. all-not p xs d f)) (λ h. (0, omega arith, h))
@@ -49,7 +49,7 @@ unfolding any
 any-yes p [] d e = absurd (false≢true e)
 any-yes {A} p (x ∷ xs) d e = byTest (p x) (λ h. (0, omega arith, h)) (λ h. let w = any-yes p xs d (rw h at e) in (suc (w .0), omega (arith, w .1), w .2))
 
-two-not : {A : Type 0} (q : A → A → Bool) (xs : List A) (d : A) → noTwo q xs ≡ false
+pub two-not : {A : Type 0} (q : A → A → Bool) (xs : List A) (d : A) → noTwo q xs ≡ false
     → (i : ℕ) × (j : ℕ) × (i < j) × (j < length xs) × (q (getD xs i d) (getD xs j d) ≡ true)
 unfolding noTwo
 two-not q [] d e = absurd (true≢false e)
