@@ -17,7 +17,7 @@ ghost use Rattle.stored_table.specs.Tables.{tableOf, categoryNames};
 ghost use Rattle.stored_table.specs.Decoded.{Holds};
 ghost use Rattle.free_names.specs.FirstFree.{zName, foreign as foreignOf, strange as strangeOf};
 
-// One of the names: z and one or two digits.
+// One of the names: z and one or two digits. Which bytes stand past its length is open.
 pub struct FreeName {
     pub bytes: [u8; 3],
     pub len: usize,
@@ -43,7 +43,8 @@ pub(crate) fn z_name(k: usize) -> FreeName
     }
 }
 
-// The first of the names that is no category of the table t, decoded as d.
+// The first of the names that is no category of the table t, decoded as d. Which of the names it is where d is not t, decoded, is open;
+// it has at most 3 bytes.
 pub fn foreign(t: &[u8], d: Decoded) -> FreeName
     ensures { λ r. ⌜ (Holds (now (t .entry)) (tableOf (now (t .entry))) d → take (r .len) (r .bytes) ≡ foreignOf (categoryNames (now (t .entry)))) ⌝ }
     ensures short { λ r. ⌜ (r .len ≤ length (r .bytes)) × (r .len ≤ 3) ⌝ }
@@ -53,7 +54,7 @@ pub fn foreign(t: &[u8], d: Decoded) -> FreeName
     z_name(k)
 }
 
-// The first of the names that makes no node of the table t, decoded as d, in category c under the path p.
+// The first of the names that makes no node of the table t, decoded as d, in category c under the path p. The same is open.
 pub fn strange(t: &[u8], d: Decoded, c: u8, p: &[u8]) -> FreeName
     ensures { λ r. ⌜
         (Holds (now (t .entry)) (tableOf (now (t .entry))) d
