@@ -9,13 +9,11 @@ mod numbers;
 pub mod states;
 
 ghost use mathlib.Core.Path.{_≡_};
-ghost use mathlib.Core.Bool.{cond};
-ghost use mathlib.Core.Option.{some, none};
 ghost use lib.ListN.{length};
-ghost use Rattle.machine_classes.specs.Refine.{blocks};
-ghost use Rattle.machine_classes.specs.Test.{fits, proposed};
+ghost use Rattle.machine_classes.specs.Refine.{blocks, classes};
+ghost use Rattle.machine_classes.specs.Test.{allReached, fits};
 ghost use Rattle.class_rounds.specs.Stored.{storedMachine, Stored};
-ghost use Rattle.class_check.specs.Check.{storedFits, storedProposed};
+ghost use Rattle.class_check.specs.Check.{storedFits, proposes, classesIn};
 
 // The proposal fits, where x has for each state the first one that behaves as it does.
 fn fits(rows: &[u8], p: &[u8], x: &mut [u8], y: &mut [u8], n: usize, head: usize, k: usize) -> bool
@@ -83,7 +81,7 @@ fn number(
     requires { ⌜
         Stored (now rows) n head k × (length (now out) ≡ n) × (now x ≡ blocks (storedMachine (now rows) n head k)) × (length (now y) ≡ n)
         ⌝ }
-    ensures { λ r. ⌜ proposed (storedMachine (now (rows .entry)) n head k) ≡ cond r (some (now (out .exit))) none ⌝ }
+    ensures { λ r. ⌜ (r ≡ allReached (storedMachine (now (rows .entry)) n head k) (classes (storedMachine (now (rows .entry)) n head k))) × (now (out .exit) ≡ classes (storedMachine (now (rows .entry)) n head k)) ⌝ }
 {
     numbers::number(x, out, n);
     let count = states::discover(rows, x, y, n, head, k);
@@ -101,7 +99,7 @@ fn propose_in(
     k: usize,
 ) -> bool
     requires { ⌜ (length (now out) ≡ n) × (length (now x) ≡ n) × (length (now y) ≡ n) ⌝ }
-    ensures { λ r. ⌜ storedProposed (now (rows .entry)) n head k ≡ cond r (some (now (out .exit))) none ⌝ }
+    ensures { λ r. ⌜ (r ≡ proposes (now (rows .entry)) n head k (now (out .entry))) × (now (out .exit) ≡ classesIn (now (rows .entry)) n head k (now (out .entry))) ⌝ }
 {
     if !class_rounds::first_alike(rows, x, y, n, head, k) {
         return false;
@@ -109,10 +107,10 @@ fn propose_in(
     number(rows, out, x, y, n, head, k)
 }
 
-// Whether some proposal fits the machine of n states in the rows, and then the one with classes numbered by their first
-// states, in a part of n bytes.
+// Whether some proposal fits the machine of n states in the rows. A part of n bytes has the classes then, numbered by their
+// first states; it has these also where one of them is not reached, and stays as it is if there is no machine.
 pub fn propose(rows: &[u8], out: &mut [u8], n: usize, head: usize, k: usize) -> bool
-    ensures { λ r. ⌜ (length (now (out .entry)) ≡ n → storedProposed (now (rows .entry)) n head k ≡ cond r (some (now (out .exit))) none) ⌝ }
+    ensures { λ r. ⌜ (r ≡ proposes (now (rows .entry)) n head k (now (out .entry))) × (now (out .exit) ≡ classesIn (now (rows .entry)) n head k (now (out .entry))) ⌝ }
 {
     if 256 < n {
         return false;

@@ -1,16 +1,16 @@
 -- Laws of laying bytes over the front of a buffer, and of the loops that do so.
-use Prim.Native.Nat.{ℕ, suc, zero, _+_, _-_, _≤_, _<_}
+use Prim.Native.Nat.{ℕ, suc, zero, _+_, _-_, _%_, _≤_, _<_, max}
 use mathlib.Core.Path.{_≡_, refl, ap, ap₂, sym, _∙_, subst}
 use mathlib.Core.Logic.{_≢_}
-use mathlib.Core.Bool.{Bool, true, false, cond}
-use mathlib.Core.List.{List, [], _∷_, _++_, map, append-assoc, append-nil}
+use mathlib.Core.Bool.{Bool, true, false, cond, _&&_}
+use mathlib.Core.List.{List, [], _∷_, _++_, map, foldl, foldl-append, append-assoc, append-nil}
 use native.Mathlib.Nat.{zero-add}
 use native.Mathlib.Numerals.{add-one}
 use native.Mathlib.Omega.{arith}
 use lib.ListN.{length, length-set, getD, set, take, drop, replicate, length-append, length-drop, length-take, drop-of-length-le, List·getD-eq-default}
 use lib.Seq.{take-all, take-nil, take-suc, drop-cons, set-at, take-append-le, take-at, length-take-le}
-use lib.Dec.{eqb, ltb}
-use borrow.Author.Tests.{eq-eqb, ne-eqb, ltb-true, ltb-false}
+use lib.Dec.{eqb, leb, ltb}
+use borrow.Author.Tests.{eq-eqb, ne-eqb, ltb-true, ltb-false, leb-true, leb-false, lt-ltb, le-ltb, le-leb, lt-leb}
 use borrow.Rule.Slice.PartMut.{putMid}
 use Rattle.resolution.specs.Lists.{tabulate}
 use Rattle.resolution.proofs.Lists.{mem-at, tabulate-length, tabulate-same}
@@ -18,11 +18,12 @@ use Rattle.text_bytes.proofs.Fields.{byTest}
 use Rattle.table_sections.specs.Held.{Tagged, tag, taggedFrom}
 use Rattle.table_sections.proofs.Tabulated.{tab-suc, tab-same-end}
 use Rattle.signal_places.proofs.Flat.{tab-list}
+use Rattle.node_search.specs.Arrays.{stretch}
 use Rattle.tree_sections.specs.Held.{numberAt}
 use Rattle.table_forms.specs.Bytes.{each, section, textBytes}
-use Rattle.table_forms.specs.Conversion.{converted}
+use Rattle.table_forms.specs.Conversion.{filled, converted}
 use Rattle.table_forms.proofs.Writing.{Every}
-use Rattle.form_bytes.specs.Laid.{answer, laid, Puts, ofSignal, Eight}
+use Rattle.form_bytes.specs.Laid.{answer, finished, Spot, spot, putByte, putAll, Wrote, laid, Puts, ofSignal, countOf, namesAt, Eight}
 use Rattle.form_bytes.specs.declared.Converted.{Converted as Answer}
 
 pub laid-nil : (b : List ℕ) → b ≡ laid [] b
@@ -92,6 +93,102 @@ puts-all w i h F = puts-same (take-all i w h) F
 pub puts-text : {x y z : List ℕ} {a r s k : ℕ} (w : List ℕ) → k ≡ length w → Puts x y a (k ∷ []) r → Puts y z r w s → Puts x z a (textBytes w) s
 puts-text w e F G = puts-same (ap (λ n. n ∷ w) e) (puts-join F G)
 
+-- a byte past the end changes nothing
+set-past : (l : List ℕ) (i v : ℕ) → length l ≤ i → set l i v ≡ l
+set-past [] i v h = refl
+set-past (x ∷ l) zero v h = absurd (omega arith)
+set-past (x ∷ l) (suc i) v h = ap (λ (r : List ℕ). x ∷ r) (set-past l i v (omega arith))
+
+module _ (old : List ℕ) (at v : ℕ) where
+  step-on : at < max (length old) 1000000000 → putByte (spot old at) v ≡ spot (set old at v) (at + 1)
+  step-on h = ap (λ (b : Bool). spot (set old at v) (cond b (at + 1) at)) (lt-ltb at (max (length old) 1000000000) h)
+
+  pub byte-in : at < length old → Wrote old (set old at v) at (v ∷ []) (at + 1)
+  unfolding putAll
+  byte-in h = record { is = sym (step-on (omega arith)) }
+
+  pub byte-past : length old ≤ at → at < 1000000000 → Wrote old old at (v ∷ []) (at + 1)
+  unfolding putAll
+  byte-past h l = record { is = ap (λ (b : List ℕ). spot b (at + 1)) (sym (set-past old at v h)) ∙ sym (step-on (omega arith)) }
+
+  pub byte-stays : length old ≤ at → 1000000000 ≤ at → Wrote old old at (v ∷ []) at
+  unfolding putAll
+  byte-stays h l = record {
+    is = ap (λ (b : List ℕ). spot b at) (sym (set-past old at v h))
+        ∙ sym (ap (λ (b : Bool). spot (set old at v) (cond b (at + 1) at)) (le-ltb at (max (length old) 1000000000) (omega arith)));
+  }
+
+  one-puts : at < 1000000000 → Puts old (set old at v) at (v ∷ []) (at + 1)
+  one-puts l =
+      byTest (ltb at (length old)) (λ h. put-in old at v (ltb-true at (length old) h))
+      (λ h. let k = ltb-false at (length old) h in subst (λ (b : List ℕ). Puts old b at (v ∷ []) (at + 1)) (sym (set-past old at v k)) (put-out old at v k))
+
+puts-fold : (bytes old : List ℕ) (at : ℕ) → at + length bytes ≤ 1000000000 → Puts old (putAll (spot old at) bytes .buffer) at bytes (putAll (spot old at) bytes .at)
+unfolding putAll
+puts-fold [] old at h = puts-none old at
+puts-fold (v ∷ bytes) old at h =
+    subst (λ (z : Spot). Puts old (foldl putByte z bytes .buffer) at (v ∷ bytes) (foldl putByte z bytes .at)) (sym (step-on old at v (omega arith)))
+    (puts-join (one-puts old at v (omega arith)) (puts-fold bytes (set old at v) (at + 1) (omega arith)))
+
+-- bytes that do not go past 1,000,000,000 are laid behind what was laid
+pub puts-of : {old new : List ℕ} {at r : ℕ} {bytes : List ℕ} → Wrote old new at bytes r → at + length bytes ≤ 1000000000 → Puts old new at bytes r
+puts-of {old} {new} {at} {r} {bytes} w h = subst (λ (z : Spot). Puts old (z .buffer) at bytes (z .at)) (sym (w .is)) (puts-fold bytes old at h)
+
+-- the position after them is no further than their number
+step-most : (s : Spot) (v : ℕ) → (s .at ≤ putByte s v .at) × (putByte s v .at ≤ s .at + 1)
+step-most s v = go (ltb (s .at) (max (length (s .buffer)) 1000000000))
+  where
+    go : (b : Bool) → (s .at ≤ cond b (s .at + 1) (s .at)) × (cond b (s .at + 1) (s .at) ≤ s .at + 1)
+    go true = (omega arith, omega arith)
+    go false = (omega arith, omega arith)
+
+at-most : (bytes : List ℕ) (s : Spot) → (s .at ≤ putAll s bytes .at) × (putAll s bytes .at ≤ s .at + length bytes)
+unfolding putAll
+at-most [] s = (omega arith, omega arith)
+at-most (v ∷ bytes) s = let w = at-most bytes (putByte s v) in let u = step-most s v in (omega (arith, w .0, u .0), omega (arith, w .1, u .1))
+
+pub wrote-most : {old new : List ℕ} {at r : ℕ} {bytes : List ℕ} → Wrote old new at bytes r → r ≤ at + length bytes
+wrote-most {old} {new} {at} {r} {bytes} w = omega (arith, at-most bytes (spot old at), ap (λ (z : Spot). z .at) (w .is))
+
+-- and where it is less than 1,000,000,000 none of them went past that
+far : (bytes : List ℕ) (old : List ℕ) (at : ℕ) → 1000000000 < at + length bytes → 1000000000 ≤ putAll (spot old at) bytes .at
+unfolding putAll
+far [] old at h = omega arith
+far (v ∷ bytes) old at h =
+    byTest (ltb at 1000000000)
+    (λ b. let l = ltb-true at 1000000000 b in
+    subst (λ (z : Spot). 1000000000 ≤ foldl putByte z bytes .at) (sym (step-on old at v (omega arith))) (far bytes (set old at v) (at + 1) (omega arith)))
+    (λ b. omega (arith, ltb-false at 1000000000 b, at-most bytes (putByte (spot old at) v), step-most (spot old at) v))
+
+pub wrote-none : (x : List ℕ) (a : ℕ) → Wrote x x a [] a
+unfolding putAll
+wrote-none x a = record { is = refl }
+
+pub wrote-join : {x y z : List ℕ} {a r s : ℕ} {xs ys : List ℕ} → Wrote x y a xs r → Wrote y z r ys s → Wrote x z a (xs ++ ys) s
+unfolding putAll
+wrote-join {x} {y} {z} {a} {r} {s} {xs} {ys} F G =
+    record { is = G .is ∙ ap (λ (q : Spot). foldl putByte q ys) (F .is) ∙ sym (foldl-append putByte (spot x a) xs ys) }
+
+pub wrote-same : {x y : List ℕ} {a r : ℕ} {xs ys : List ℕ} → xs ≡ ys → Wrote x y a xs r → Wrote x y a ys r
+wrote-same {x} {y} {a} {r} e F = subst (λ (w : List ℕ). Wrote x y a w r) e F
+
+-- one byte more of a list, and all of them
+pub wrote-more : {x y z : List ℕ} {a r s : ℕ} (w : List ℕ) (i : ℕ) → i < length w → Wrote x y a (take i w) r → Wrote y z r (getD w i 0 ∷ []) s → Wrote x z a (take (i + 1) w) s
+wrote-more w i h F G = wrote-same (sym (ap (λ n. take n w) (add-one i) ∙ take-suc w i 0 h)) (wrote-join F G)
+
+pub wrote-all : {x y : List ℕ} {a r : ℕ} (w : List ℕ) (i : ℕ) → length w ≤ i → Wrote x y a (take i w) r → Wrote x y a w r
+wrote-all w i h F = wrote-same (take-all i w h) F
+
+-- a text after its length, and one whose length is one byte
+pub wrote-text : {x y z : List ℕ} {a r s k : ℕ} (w : List ℕ) → k ≡ length w % 256 → Wrote x y a (k ∷ []) r → Wrote y z r w s → Wrote x z a (length w % 256 ∷ w) s
+wrote-text w e F G = wrote-same (ap (λ n. n ∷ w) e) (wrote-join F G)
+
+pub text-as : {x y : List ℕ} {a r : ℕ} (w : List ℕ) → Wrote x y a (length w % 256 ∷ w) r → length w ≤ 255 → Wrote x y a (textBytes w) r
+text-as w F h = wrote-same (ap (λ n. n ∷ w) (omega arith)) F
+
+pub puts-text-of : {x y : List ℕ} {a r : ℕ} (w : List ℕ) → Wrote x y a (length w % 256 ∷ w) r → a < 900000000 → length w ≤ 255 → Puts x y a (textBytes w) r
+puts-text-of w F h l = puts-of (text-as w F l) (omega arith)
+
 -- things, one more
 pub each-join : {A : Type 0} (w : A → List ℕ) (xs ys : List A) → each w (xs ++ ys) ≡ each w xs ++ each w ys
 unfolding each
@@ -119,6 +216,45 @@ module _ {A : Type 0} (w : A → List ℕ) (f : ℕ → A) where
 
   pub each-end : {x y : List ℕ} {a r : ℕ} (i n : ℕ) → i ≤ n → n ≤ i → Puts x y a (each w (tabulate f i)) r → Puts x y a (each w (tabulate f n)) r
   each-end i n h k F = puts-same (ap (each w) (tab-same-end f i n h k)) F
+
+-- the same for positions that may stay
+module _ {A : Type 0} (w : A → List ℕ) (f : ℕ → A) where
+  pub wrote-start : (x : List ℕ) (a : ℕ) → Wrote x x a (each w (tabulate f 0)) a
+  wrote-start x a = wrote-same (sym (each-none w f)) (wrote-none x a)
+
+  pub wrote-next : {x y z : List ℕ} {a r s : ℕ} {bytes : List ℕ} (i : ℕ) → Wrote x y a (each w (tabulate f i)) r → Wrote y z r bytes s → bytes ≡ w (f i)
+      → Wrote x z a (each w (tabulate f (i + 1))) s
+  wrote-next i F G e = wrote-same (ap (λ (l : List ℕ). each w (tabulate f i) ++ l) e ∙ sym (each-more w f i)) (wrote-join F G)
+
+  wrote-section : {x y z : List ℕ} {a r s k : ℕ} (i n : ℕ) → k ≡ n → i ≤ n → n ≤ i → Wrote x y a (k ∷ []) r → Wrote y z r (each w (tabulate f i)) s
+      → Wrote x z a (section w (tabulate f n)) s
+  wrote-section i n e h l F G =
+      wrote-same (ap₂ (λ (m : ℕ) (t : List A). m ∷ each w t) (e ∙ sym (tabulate-length f n)) (tab-same-end f i n h l)) (wrote-join F G)
+
+-- the names of the categories
+module _ (t nameAt nameLen : List ℕ) (n : ℕ) where
+  abbrev of-names : List ℕ
+  of-names = section textBytes (tabulate (stretch t nameAt nameLen) n)
+
+  pub names-over : (x : List ℕ) → 8 < n → spot x 0 ≡ namesAt t nameAt nameLen n x
+  unfolding namesAt
+  names-over x h = sym (ap (λ (b : Bool). cond b (putAll (spot x 0) of-names) (spot x 0)) (lt-leb n 8 h))
+
+  names-in : (x : List ℕ) → n ≤ 8 → namesAt t nameAt nameLen n x ≡ putAll (spot x 0) of-names
+  unfolding namesAt
+  names-in x h = ap (λ (b : Bool). cond b (putAll (spot x 0) of-names) (spot x 0)) (le-leb n 8 h)
+
+  pub names-all : {x y z : List ℕ} {r s k : ℕ} (i : ℕ) → n ≤ 8 → k ≡ n → i ≤ n → n ≤ i → Wrote x y 0 (k ∷ []) r
+      → Wrote y z r (each textBytes (tabulate (stretch t nameAt nameLen) i)) s → spot z s ≡ namesAt t nameAt nameLen n x
+  names-all {x} i m e h l F G = wrote-section textBytes (stretch t nameAt nameLen) i n e h l F G .is ∙ sym (names-in x m)
+
+  -- at most 8 of them are laid
+  pub names-put : (x y : List ℕ) (r : ℕ) → spot y r ≡ namesAt t nameAt nameLen n x → n ≤ 8 → r ≤ 4000 → Puts x y 0 of-names r
+  names-put x y r e h l =
+      let f : Wrote x y 0 of-names r = record { is = e ∙ names-in x h } in
+      byTest (leb (0 + length of-names) 1000000000)
+      (λ b. puts-of f (leb-true (0 + length of-names) 1000000000 b))
+      (λ b. absurd (omega (arith, far of-names x 0 (leb-false (0 + length of-names) 1000000000 b), ap (λ (z : Spot). z .at) (f .is))))
 
 -- the things of one signal
 of-join : {A : Type 0} (s : ℕ) (xs ys : List (Tagged A)) → ofSignal s (xs ++ ys) ≡ ofSignal s xs ++ ofSignal s ys
@@ -154,30 +290,66 @@ module _ {A : Type 0} (s : ℕ) (f : ℕ → Tagged A) where
   pub counted-end : {n : ℕ} (i m : ℕ) → i ≤ m → m ≤ i → n ≡ length (ofSignal s (tabulate f i)) → n ≡ length (ofSignal s (tabulate f m))
   counted-end i m h k v = v ∙ ap (λ (l : List (Tagged A)). length (ofSignal s l)) (tab-same-end f i m h k)
 
+-- how many numbers a signal has
+module _ (signal number : List ℕ) (m s : ℕ) where
+  pub count-over : 256 < m → 0 ≡ countOf signal number m s
+  unfolding countOf
+  count-over h = sym (ap (λ (b : Bool). cond b (length (ofSignal s (tabulate (numberAt signal number) m))) 0) (lt-leb m 256 h))
+
+  count-in : m ≤ 256 → countOf signal number m s ≡ length (ofSignal s (tabulate (numberAt signal number) m))
+  unfolding countOf
+  count-in h = ap (λ (b : Bool). cond b (length (ofSignal s (tabulate (numberAt signal number) m))) 0) (le-leb m 256 h)
+
+  pub count-all : {n : ℕ} → m ≤ 256 → n ≡ length (ofSignal s (tabulate (numberAt signal number) m)) → n ≡ countOf signal number m s
+  count-all h e = e ∙ sym (count-in h)
+
+  pub count-is : {n : ℕ} → n ≡ countOf signal number m s → m ≤ 256 → n ≡ length (ofSignal s (tabulate (numberAt signal number) m))
+  count-is e h = e ∙ count-in h
+
 -- where the form ends
-finish-law : (form b old z : List ℕ) (n : ℕ) → length form ≡ n → old ≡ laid form b → n ≤ length b → length old ≡ length b
-    → z ≡ replicate (length (take (length old - n) (drop n old))) 0 → putMid n (length old - n) old z ≡ form ++ replicate (length b - n) 0
-finish-law form b old z n l e h o g =
-    let q : old ≡ form ++ drop (length form) b = e ∙ laid-fits form b (omega arith) in
-    let u : length (drop n old) ≡ length b - n = length-drop n old ∙ ap (λ k. k - n) o in
-    let v : z ≡ replicate (length b - n) 0 = g ∙ ap (λ k. replicate k 0) (length-take-le (length old - n) (drop n old) (omega (arith, u, o)) ∙ ap (λ k. k - n) o) in
-    ap (λ (w : List ℕ). take n old ++ (z ++ w)) (drop-of-length-le (drop n old) {i = length old - n} (omega (arith, u, o)))
-    ∙ ap (λ (w : List ℕ). take n old ++ w) (append-nil z)
-    ∙ ap₂ _++_ (ap (take n) q ∙ take-at form (drop (length form) b) n l) v
+finish-part : (old z : List ℕ) (n : ℕ) → n ≤ length old → z ≡ replicate (length (take (length old - n) (drop n old))) 0
+    → putMid n (length old - n) old z ≡ take n old ++ replicate (length old - length (take n old)) 0
+finish-part old z n h g =
+    let u : length (drop n old) ≡ length old - n = length-drop n old in
+    let v : z ≡ replicate (length old - n) 0 = g ∙ ap (λ k. replicate k 0) (length-take-le (length old - n) (drop n old) (omega (arith, u))) in
+    ap (λ (w : List ℕ). take n old ++ (z ++ w)) (drop-of-length-le (drop n old) {i = length old - n} (omega (arith, u)))
+    ∙ ap (λ (w : List ℕ). take n old ++ w) (append-nil z ∙ v ∙ ap (λ k. replicate (length old - k) 0) (sym (length-take-le n old h)))
 
-pub finish-fits : (form b old z : List ℕ) (n : ℕ) {fits : Bool} → fits ≡ true → length form ≡ n → length b ≡ length old → old ≡ laid form b → n ≤ length old
-    → z ≡ replicate (length (take (length old - n) (drop n old))) 0
-    → (_≡_ {A = Answer} (record { refusal = 0; len = n }) (answer (converted 0 fits form (length b)))) × (putMid n (length old - n) old z ≡ converted 0 fits form (length b) .buffer)
-unfolding converted
-finish-fits form b old z n {fits} t l o e h g =
-    subst (λ (f : Bool). (_≡_ {A = Answer} (record { refusal = 0; len = n }) (answer (converted 0 f form (length b)))) × (putMid n (length old - n) old z ≡ converted 0 f form (length b) .buffer)) (sym t)
-    (ap (λ (k : ℕ). record { refusal = 0; len = k }) (sym l), finish-law form b old z n l e (omega arith) (sym o) g ∙ ap (λ k. form ++ replicate (length b - k) 0) (sym l))
+-- what `finish` answers, by what it finds
+module _ (old : List ℕ) (n : ℕ) {fits : Bool} where
+  pub finish-fits : (z : List ℕ) → fits ≡ true → n ≤ length old → z ≡ replicate (length (take (length old - n) (drop n old))) 0
+      → (_≡_ {A = Answer} (record { refusal = 0; len = n }) (answer (finished old n fits))) × (putMid n (length old - n) old z ≡ finished old n fits .buffer)
+  unfolding finished converted
+  finish-fits z t h g =
+      rw (t, le-leb n (length old) h)
+      (ap (λ (k : ℕ). record { refusal = 0; len = k }) (sym (length-take-le n old h)), finish-part old z n h g)
 
-pub finish-not : (form b old new : List ℕ) {r : Answer} {fits : Bool} → fits ≡ false → length b ≡ length old → r ≡ record { refusal = 22; len = 0 } → new ≡ replicate (length old) 0
+  pub finish-over : {r : Answer} {new : List ℕ} → fits ≡ true → length old < n → r ≡ record { refusal = 22; len = 0 } → new ≡ replicate (length old) 0
+      → (r ≡ answer (finished old n fits)) × (new ≡ finished old n fits .buffer)
+  unfolding finished converted
+  finish-over t h e g = rw (t, lt-leb n (length old) h) (e, g)
+
+  pub finish-not : {r : Answer} {new : List ℕ} → fits ≡ false → r ≡ record { refusal = 22; len = 0 } → new ≡ replicate (length old) 0
+      → (r ≡ answer (finished old n fits)) × (new ≡ finished old n fits .buffer)
+  unfolding finished converted
+  finish-not t e g = rw t (e, g)
+
+-- and where a form has been laid, as far as there is room
+finished-laid : (form b old : List ℕ) (n : ℕ) (fits : Bool) → (fits ≡ true → n ≤ length b) → length form ≡ n → length b ≡ length old → old ≡ laid form b
+    → finished old n fits ≡ converted 0 fits form (length b)
+unfolding finished converted
+finished-laid form b old n false g l o e = ap (λ k. record { refusal = 22; len = 0; buffer = replicate k 0 }) (sym o)
+finished-laid form b old n true g l o e =
+    let h : n ≤ length old = omega (arith, g refl) in
+    let q : take n old ≡ form = ap (take n) (e ∙ laid-fits form b (omega (arith, g refl))) ∙ take-at form (drop (length form) b) n l in
+    rw (le-leb n (length old) h) (ap₂ (λ (w : List ℕ) (k : ℕ). filled w k) q (sym o))
+
+pub finish-laid : (old new : List ℕ) (n : ℕ) (fits : Bool) {r : Answer} → (r ≡ answer (finished old n fits)) × (new ≡ finished old n fits .buffer)
+    → (form b : List ℕ) → (fits ≡ true → n ≤ length b) → length form ≡ n → length b ≡ length old → old ≡ laid form b
     → (r ≡ answer (converted 0 fits form (length b))) × (new ≡ converted 0 fits form (length b) .buffer)
-unfolding converted
-finish-not form b old new {r} {fits} t o e g =
-    subst (λ (f : Bool). (r ≡ answer (converted 0 f form (length b))) × (new ≡ converted 0 f form (length b) .buffer)) (sym t) (e, g ∙ ap (λ k. replicate k 0) (sym o))
+finish-laid old new n fits w form b g l o e =
+    let q = finished-laid form b old n fits g l o e in
+    (w .0 ∙ ap answer q, w .1 ∙ ap (λ c. c .buffer) q)
 
 -- a count, and what it counts
 pub section-from : {A : Type 0} (w : A → List ℕ) (f : ℕ → A) {x y z : List ℕ} {a r s k : ℕ} (i n : ℕ) → k ≡ n → i ≤ n → n ≤ i → Puts x y a (k ∷ []) r → Puts y z r (each w (tabulate f i)) s

@@ -8,12 +8,8 @@ pub mod put;
 pub mod sections;
 
 ghost use mathlib.Core.Path.{_≡_};
-ghost use mathlib.Core.Bool.{true};
-ghost use mathlib.Core.List.{List};
-ghost use Prim.Native.Nat.{ℕ, _≤_};
 ghost use lib.ListN.{length, replicate};
-ghost use Rattle.table_forms.specs.Conversion.{converted};
-ghost use Rattle.form_bytes.specs.Laid.{answer, laid};
+ghost use Rattle.form_bytes.specs.Laid.{answer, finished};
 
 // What a conversion answers: its refusal number, and the form's length, 0 if refused.
 #[repr(C)]
@@ -41,10 +37,10 @@ pub fn refuse(buf: &mut [u8], refusal: u8) -> Converted
     Converted { refusal, len: 0 }
 }
 
-// A form of n bytes has been laid, as far as there is room: zeros after it if it fits, else 22.
+// The first n bytes of the buffer are a form: zeros after them if it fits, else 22.
 pub fn finish(buf: &mut [u8], n: usize, fits: bool) -> Converted
-    ensures { λ r. ⌜ ((form b : List ℕ) → (fits ≡ true → n ≤ length b) → length form ≡ n → length b ≡ length (now (buf .entry)) → now (buf .entry) ≡ laid form b
-        → (r ≡ answer (converted 0 fits form (length b))) × (now (buf .exit) ≡ converted 0 fits form (length b) .buffer)) ⌝ }
+    ensures { λ r. ⌜ r ≡ answer (finished (now (buf .entry)) n fits) ⌝ }
+    ensures { λ _. ⌜ now (buf .exit) ≡ finished (now (buf .entry)) n fits .buffer ⌝ }
 {
     if fits {
         let room = buf.len();

@@ -1,14 +1,13 @@
 use table_sections::bytes::small;
-ghost use mathlib.Core.Path.{_≡_};
 ghost use mathlib.Core.List.{[], _∷_};
-ghost use Prim.Native.Nat.{_+_, _≤_, _<_};
+ghost use Prim.Native.Nat.{_%_};
 ghost use lib.ListN.{length};
-ghost use Rattle.table_forms.specs.Bytes.{textBytes};
-ghost use Rattle.form_bytes.specs.Laid.{Puts};
+ghost use Rattle.form_bytes.specs.Laid.{Wrote};
 
-// One byte at a position, if it is in the buffer: the position after it.
+// One byte at a position, if it is in the buffer: the position after it, or the same where it is past the buffer's end and
+// 1,000,000,000.
 pub fn byte(buf: &mut [u8], at: usize, v: u8) -> usize
-    ensures { λ r. ⌜ (at < 1000000000 → Puts (now (buf .entry)) (now (buf .exit)) at (v ∷ []) r) ⌝ }
+    ensures { λ r. ⌜ Wrote (now (buf .entry)) (now (buf .exit)) at (v ∷ []) r ⌝ }
 {
     if at < buf.len() {
         buf[at] = v;
@@ -22,7 +21,7 @@ pub fn byte(buf: &mut [u8], at: usize, v: u8) -> usize
 
 // All bytes of s.
 pub fn all(buf: &mut [u8], at: usize, s: &[u8]) -> usize
-    ensures { λ r. ⌜ (at + length (now (s .entry)) < 1000000000 → Puts (now (buf .entry)) (now (buf .exit)) at (now (s .entry)) r) ⌝ }
+    ensures { λ r. ⌜ Wrote (now (buf .entry)) (now (buf .exit)) at (now (s .entry)) r ⌝ }
 {
     let mut i = 0;
     let mut p = at;
@@ -33,9 +32,9 @@ pub fn all(buf: &mut [u8], at: usize, s: &[u8]) -> usize
     p
 }
 
-// A text after its length.
+// A text after its length, of which the last byte is written.
 pub fn text(buf: &mut [u8], at: usize, s: &[u8]) -> usize
-    ensures { λ r. ⌜ (at < 900000000 → length (now (s .entry)) ≤ 255 → Puts (now (buf .entry)) (now (buf .exit)) at (textBytes (now (s .entry))) r) ⌝ }
+    ensures { λ r. ⌜ Wrote (now (buf .entry)) (now (buf .exit)) at (length (now (s .entry)) % 256 ∷ now (s .entry)) r ⌝ }
 {
     let p = byte(buf, at, small(s.len()));
     all(buf, p, s)

@@ -4,17 +4,12 @@ use table_sections::bytes::small;
 use text_bytes::cut::wide;
 ghost use mathlib.Core.Path.{_≡_};
 ghost use Prim.Native.Nat.{_≤_};
-ghost use lib.ListN.{length};
-ghost use Rattle.resolution.specs.Lists.{tabulate};
-ghost use Rattle.node_search.specs.Arrays.{stretch};
-ghost use Rattle.table_forms.specs.Bytes.{textBytes, section};
-ghost use Rattle.tree_sections.specs.Held.{numberAt};
-ghost use Rattle.form_bytes.specs.Laid.{Puts, ofSignal};
+ghost use Rattle.form_bytes.specs.Laid.{spot, countOf, namesAt};
 
-// The section of the categories, at the front.
+// The section of the categories, at the front; nothing for over 8.
 pub fn names(t: &[u8], n: usize, name_at: &[u16; 8], name_len: &[u8; 8], buf: &mut [u8]) -> usize
-    ensures { λ r. ⌜ (n ≤ 8 → Puts (now (buf .entry)) (now (buf .exit)) 0 (section textBytes (tabulate (stretch (now (t .entry)) (now («name_at» .entry)) (now («name_len» .entry))) n)) r) ⌝ }
-    ensures few { λ r. ⌜ (n ≤ 8 → r ≤ 4000) ⌝ }
+    ensures { λ r. ⌜ spot (now (buf .exit)) r ≡ namesAt (now (t .entry)) (now («name_at» .entry)) (now («name_len» .entry)) n (now (buf .entry)) ⌝ }
+    ensures few { λ r. ⌜ r ≤ 4000 ⌝ }
 {
     if 8 < n {
         return 0;
@@ -28,9 +23,9 @@ pub fn names(t: &[u8], n: usize, name_at: &[u16; 8], name_len: &[u8; 8], buf: &m
     p
 }
 
-// How many of the first m are of signal s.
+// How many of the first m are of signal s; 0 for over 256.
 pub fn count_of(m: usize, signal: &[u8; 256], s: usize, number: &[u8; 256]) -> usize
-    ensures { λ r. ⌜ (m ≤ 256 → r ≡ length (ofSignal s (tabulate (numberAt (now (signal .entry)) (now (number .entry))) m))) ⌝ }
+    ensures { λ r. ⌜ r ≡ countOf (now (signal .entry)) (now (number .entry)) m s ⌝ }
 {
     if 256 < m {
         return 0;

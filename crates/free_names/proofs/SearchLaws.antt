@@ -9,7 +9,7 @@ use lib.Dec.{eqb}
 use lib.ListN.{length, getD, take, drop, drop-of-length-le}
 use lib.Seq.{drop-cons}
 use borrow.Author.Tests.{eq-eqb, ne-eqb}
-use Rattle.resolution.specs.Lists.{memberBy}
+use Rattle.resolution.specs.Lists.{memberBy, tabulate}
 use Rattle.resolution.specs.Names.{Name, Parts, sameName, sameParts}
 use Rattle.resolution.specs.Table.{Urn, urn, Table}
 use Rattle.resolution.specs.Nodes.{sameUrn, nodes, nodeAt, isNode}
@@ -18,7 +18,9 @@ use Rattle.node_search.specs.Arrays.{stretch, NamesIn, NodesIn}
 use Rattle.text_bytes.proofs.Fields.{byTest, same-fields, fields-join}
 use Rattle.free_names.specs.FirstFree.{zName, firstFree, nameTaken, partTaken, foreign, strange}
 use Rattle.free_names.proofs.NameLaws.{z-alone}
-use Rattle.text_bytes.proofs.Lesser.{min-le}
+use Rattle.resolution.proofs.Lists.{tabulate-length, tabulate-at, tabulate-same}
+use Rattle.signal_places.proofs.Flat.{tab-list}
+use Rattle.free_names.specs.Held.{heldNames, heldUrn, heldUrns, UrnsIn}
 
 -- a member, looked for from the i-th element on
 module _ {A : Type 0} (f : A → A → Bool) (z : A) (l : List A) (d : A) (i : ℕ) (inv : memberBy f z l ≡ memberBy f z (drop i l)) where
@@ -72,21 +74,21 @@ module _ (t at len : List ℕ) (n : ℕ) (z : Name) (i : ℕ) (inv : CategorySoF
 
 -- a node, looked for among those that the arrays hold
 abbrev pub NodeSoFar : (t category at len : List ℕ) → ℕ → Urn → ℕ → Type 0
-NodeSoFar t category at len n u j = (T : Table) → NodesIn t category at len n T → memberBy sameUrn u (nodes T) ≡ memberBy sameUrn u (drop j (nodes T))
+NodeSoFar t category at len n u j = (ns : List Urn) → UrnsIn t category at len n ns → memberBy sameUrn u ns ≡ memberBy sameUrn u (drop j ns)
 
 module _ (t category at len : List ℕ) (n : ℕ) (u : Urn) (j : ℕ) (inv : NodeSoFar t category at len n u j) where
   module _ {b : Bool} (h : j < n) (e : (v : Urn) → getD category j 0 ≡ v .cat → fields 58 (stretch t at len j) ≡ v .path → b ≡ sameUrn u v) where
-    urn-there : (T : Table) → NodesIn t category at len n T → b ≡ sameUrn u (nodeAt (nodes T) j)
-    urn-there T m = e (nodeAt (nodes T) j) (m .cat-at j h) (m .path-at j h)
+    urn-there : (ns : List Urn) → UrnsIn t category at len n ns → b ≡ sameUrn u (nodeAt ns j)
+    urn-there ns m = e (nodeAt ns j) (m .cat-at j h) (m .path-at j h)
 
-    pub node-here : b ≡ true → (T : Table) → NodesIn t category at len n T → true ≡ memberBy sameUrn u (nodes T)
-    node-here q T m = member-here sameUrn u (nodes T) (urn 0 []) j (inv T m) (omega (arith, m .all-nodes)) (urn-there T m) q
+    pub node-here : b ≡ true → (ns : List Urn) → UrnsIn t category at len n ns → true ≡ memberBy sameUrn u ns
+    node-here q ns m = member-here sameUrn u ns (urn 0 []) j (inv ns m) (omega (arith, m .all-nodes)) (urn-there ns m) q
 
     pub node-on : b ≡ false → NodeSoFar t category at len n u (j + 1)
-    node-on q T m = member-on sameUrn u (nodes T) (urn 0 []) j (inv T m) (omega (arith, m .all-nodes)) (urn-there T m) q
+    node-on q ns m = member-on sameUrn u ns (urn 0 []) j (inv ns m) (omega (arith, m .all-nodes)) (urn-there ns m) q
 
-  pub node-none : n ≤ j → (T : Table) → NodesIn t category at len n T → false ≡ memberBy sameUrn u (nodes T)
-  node-none h T m = member-none sameUrn u (nodes T) (urn 0 []) j (inv T m) (omega (arith, m .all-nodes))
+  pub node-none : n ≤ j → (ns : List Urn) → UrnsIn t category at len n ns → false ≡ memberBy sameUrn u ns
+  node-none h ns m = member-none sameUrn u ns (urn 0 []) j (inv ns m) (omega (arith, m .all-nodes))
 
 -- the first free name, looked for from the k-th on
 abbrev pub NameSoFar : (t at len : List ℕ) → ℕ → ℕ → Type 0
@@ -105,19 +107,19 @@ module _ (t at len : List ℕ) (n k : ℕ) (inv : NameSoFar t at len n k) where
 
 -- the first free part
 abbrev pub PartSoFar : (t category at len : List ℕ) → ℕ → Urn → ℕ → Type 0
-PartSoFar t category at len n u k = (T : Table) → NodesIn t category at len n T
-    → firstFree (partTaken (nodes T) u) (length (nodes T)) 0 ≡ firstFree (partTaken (nodes T) u) (length (nodes T) - k) k
+PartSoFar t category at len n u k = (ns : List Urn) → UrnsIn t category at len n ns
+    → firstFree (partTaken ns u) (length ns) 0 ≡ firstFree (partTaken ns u) (length ns - k) k
 
 module _ (t category at len : List ℕ) (n : ℕ) (u : Urn) (k : ℕ) (inv : PartSoFar t category at len n u k) where
-  module _ {b : Bool} (h : k < n) (e : (T : Table) → NodesIn t category at len n T → b ≡ partTaken (nodes T) u k) where
+  module _ {b : Bool} (h : k < n) (e : (ns : List Urn) → UrnsIn t category at len n ns → b ≡ partTaken ns u k) where
     pub part-on : b ≡ true → PartSoFar t category at len n u (k + 1)
-    part-on q T m = free-on (partTaken (nodes T) u) (length (nodes T)) k (inv T m) (omega (arith, m .all-nodes)) (e T m) q
+    part-on q ns m = free-on (partTaken ns u) (length ns) k (inv ns m) (omega (arith, m .all-nodes)) (e ns m) q
 
-    pub part-first : b ≡ false → (T : Table) → NodesIn t category at len n T → k ≡ firstFree (partTaken (nodes T) u) (length (nodes T)) 0
-    part-first q T m = free-here (partTaken (nodes T) u) (length (nodes T)) k (inv T m) (omega (arith, m .all-nodes)) (e T m) q
+    pub part-first : b ≡ false → (ns : List Urn) → UrnsIn t category at len n ns → k ≡ firstFree (partTaken ns u) (length ns) 0
+    part-first q ns m = free-here (partTaken ns u) (length ns) k (inv ns m) (omega (arith, m .all-nodes)) (e ns m) q
 
-  pub part-last : n ≤ k → (T : Table) → NodesIn t category at len n T → k ≡ firstFree (partTaken (nodes T) u) (length (nodes T)) 0
-  part-last h T m = free-end (partTaken (nodes T) u) (length (nodes T)) k (inv T m) (omega (arith, m .all-nodes))
+  pub part-last : n ≤ k → (ns : List Urn) → UrnsIn t category at len n ns → k ≡ firstFree (partTaken ns u) (length ns) 0
+  part-last h ns m = free-end (partTaken ns u) (length ns) k (inv ns m) (omega (arith, m .all-nodes))
 
 -- the k-th name, as the first bytes of an array
 pub front-name : (k n : ℕ) (bs : List ℕ) → take n bs ≡ zName k → take (n - 0) (drop 0 bs) ≡ zName k
@@ -182,16 +184,56 @@ part-same ns c k n p bs h e g =
     (ap (λ (z : List ℕ). fields 58 (p ++ 58 ∷ z)) (front-name k n bs e) ∙ fields-join 58 p (zName k) ∙ ap (λ (l : Parts). fields 58 p ++ l) (z-alone k h))
 
 -- the names that are answered
-pub foreign-name : (t at len : List ℕ) (m : ℕ) {k n : ℕ} {names : List Name} {l : List ℕ} → NamesIn t at len m names → n ≡ min m 8
-    → ((xs : List Name) → NamesIn t at len n xs → k ≡ firstFree (nameTaken xs) (length xs) 0) → l ≡ zName k → l ≡ foreign names
-unfolding foreign
-foreign-name t at len m {k} {n} {names} {l} h e f g =
-    let q : n ≡ m = e ∙ sym (min-le m 8 (h .few-names)) in
-    g ∙ ap zName (f names (subst (λ (j : ℕ). NamesIn t at len j names) (sym q) h))
+module _ (t at len : List ℕ) (m : ℕ) where
+  held-names : (names : List Name) → NamesIn t at len m names → heldNames t at len m ≡ names
+  unfolding heldNames
+  held-names names h =
+      let q : min m 8 ≡ length names = omega (arith, h .few-names, h .all-names) in
+      ap (tabulate (stretch t at len)) q ∙ tabulate-same (stretch t at len) (λ i. getD names i []) (length names) (λ i k. h .name-at i (omega (arith, h .all-names))) ∙ tab-list names []
 
-pub strange-name : (t category at len : List ℕ) (m : ℕ) (u : Urn) (T : Table) {k n : ℕ} {l : List ℕ} → NodesIn t category at len m T → n ≡ min m 64
-    → ((S : Table) → NodesIn t category at len n S → k ≡ firstFree (partTaken (nodes S) u) (length (nodes S)) 0) → l ≡ zName k → l ≡ strange (nodes T) u
-unfolding strange
-strange-name t category at len m u T {k} {n} {l} h e f g =
-    let q : n ≡ m = e ∙ sym (min-le m 64 (h .few-nodes)) in
-    g ∙ ap zName (f T (subst (λ (j : ℕ). NodesIn t category at len j T) (sym q) h))
+  names-held : NamesIn t at len (min m 8) (heldNames t at len m)
+  unfolding heldNames
+  names-held = record {
+    all-names = tabulate-length (stretch t at len) (min m 8);
+    few-names = omega arith;
+    name-at = λ i k. sym (tabulate-at (stretch t at len) (min m 8) i [] k);
+  }
+
+  pub foreign-name : {k n : ℕ} {l : List ℕ} → n ≡ min m 8 → ((xs : List Name) → NamesIn t at len n xs → k ≡ firstFree (nameTaken xs) (length xs) 0) → l ≡ zName k
+      → l ≡ foreign (heldNames t at len m)
+  unfolding foreign
+  foreign-name e f g = g ∙ ap zName (f (heldNames t at len m) (subst (λ (j : ℕ). NamesIn t at len j (heldNames t at len m)) (sym e) names-held))
+
+module _ (t category at len : List ℕ) (m : ℕ) where
+  held-urns : (T : Table) → NodesIn t category at len m T → heldUrns t category at len m ≡ nodes T
+  unfolding heldUrns
+  held-urns T h =
+      let q : min m 64 ≡ length (nodes T) = omega (arith, h .few-nodes, h .all-nodes) in
+      ap (tabulate (heldUrn t category at len)) q
+      ∙ tabulate-same (heldUrn t category at len) (nodeAt (nodes T)) (length (nodes T))
+      (λ i k. let j : i < m = omega (arith, h .all-nodes) in ap₂ urn (h .cat-at i j) (h .path-at i j))
+      ∙ tab-list (nodes T) (urn 0 [])
+
+  urns-held : UrnsIn t category at len (min m 64) (heldUrns t category at len m)
+  unfolding heldUrns
+  urns-held =
+      let e : (i : ℕ) → i < min m 64 → heldUrn t category at len i ≡ nodeAt (tabulate (heldUrn t category at len) (min m 64)) i =
+      λ i k. sym (tabulate-at (heldUrn t category at len) (min m 64) i (urn 0 []) k) in
+      record {
+        all-nodes = tabulate-length (heldUrn t category at len) (min m 64);
+        few-nodes = omega arith;
+        cat-at = λ i k. ap (λ (u : Urn). u .cat) (e i k);
+        path-at = λ i k. ap (λ (u : Urn). u .path) (e i k);
+      }
+
+  pub strange-name : (u : Urn) {k n : ℕ} {l : List ℕ} → n ≡ min m 64 → ((ns : List Urn) → UrnsIn t category at len n ns → k ≡ firstFree (partTaken ns u) (length ns) 0) → l ≡ zName k
+      → l ≡ strange (heldUrns t category at len m) u
+  unfolding strange
+  strange-name u e f g = g ∙ ap zName (f (heldUrns t category at len m) (subst (λ (j : ℕ). UrnsIn t category at len j (heldUrns t category at len m)) (sym e) urns-held))
+
+-- by a table's own arrays they are the table's
+pub foreign-held : (t at len : List ℕ) (m : ℕ) (names : List Name) {l : List ℕ} → l ≡ foreign (heldNames t at len m) → NamesIn t at len m names → l ≡ foreign names
+foreign-held t at len m names e h = e ∙ ap foreign (held-names t at len m names h)
+
+pub strange-held : (t category at len : List ℕ) (m : ℕ) (u : Urn) (T : Table) {l : List ℕ} → l ≡ strange (heldUrns t category at len m) u → NodesIn t category at len m T → l ≡ strange (nodes T) u
+strange-held t category at len m u T e h = e ∙ ap (λ (ns : List Urn). strange ns u) (held-urns t category at len m T h)

@@ -2,3 +2,5 @@
 pub mod FirstFree
 -- what is claimed of it
 pub mod Claims
+-- what only the code's inner promises use
+pub mod Held

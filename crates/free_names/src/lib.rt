@@ -11,13 +11,11 @@ ghost use mathlib.Core.Path.{_≡_};
 ghost use Prim.Native.Nat.{_≤_};
 ghost use lib.ListN.{length, take};
 ghost use Rattle.resolution.specs.Table.{urn};
-ghost use Rattle.resolution.specs.Nodes.{nodes};
 ghost use Rattle.text_bytes.specs.Text.{fields};
-ghost use Rattle.stored_table.specs.Tables.{tableOf, categoryNames};
-ghost use Rattle.stored_table.specs.Decoded.{Holds};
 ghost use Rattle.free_names.specs.FirstFree.{zName, foreign as foreignOf, strange as strangeOf};
+ghost use Rattle.free_names.specs.Held.{heldNames, heldUrns};
 
-// One of the names: z and one or two digits.
+// One of the names: z and one or two digits. Which bytes stand past its length is open.
 pub struct FreeName {
     pub bytes: [u8; 3],
     pub len: usize,
@@ -43,9 +41,9 @@ pub(crate) fn z_name(k: usize) -> FreeName
     }
 }
 
-// The first of the names that is no category of the table t, decoded as d.
+// The first of the names that is no category of the table decoded as d, whose names stand in t.
 pub fn foreign(t: &[u8], d: Decoded) -> FreeName
-    ensures { λ r. ⌜ (Holds (now (t .entry)) (tableOf (now (t .entry))) d → take (r .len) (r .bytes) ≡ foreignOf (categoryNames (now (t .entry)))) ⌝ }
+    ensures { λ r. ⌜ take (r .len) (r .bytes) ≡ foreignOf (heldNames (now (t .entry)) (d .«name_at») (d .«name_len») (d .categories)) ⌝ }
     ensures short { λ r. ⌜ (r .len ≤ length (r .bytes)) × (r .len ≤ 3) ⌝ }
 {
     let n = at_most(d.categories, 8);
@@ -53,11 +51,11 @@ pub fn foreign(t: &[u8], d: Decoded) -> FreeName
     z_name(k)
 }
 
-// The first of the names that makes no node of the table t, decoded as d, in category c under the path p.
+// The first of the names that makes no node of the table decoded as d, whose paths stand in t, in category c under the path p.
 pub fn strange(t: &[u8], d: Decoded, c: u8, p: &[u8]) -> FreeName
     ensures { λ r. ⌜
-        (Holds (now (t .entry)) (tableOf (now (t .entry))) d
-        → take (r .len) (r .bytes) ≡ strangeOf (nodes (tableOf (now (t .entry)))) (urn c (fields 58 (now (p .entry)))))
+        take (r .len) (r .bytes)
+        ≡ strangeOf (heldUrns (now (t .entry)) (d .category) (d .at) (d .len) (d .nodes)) (urn c (fields 58 (now (p .entry))))
         ⌝ }
     ensures short { λ r. ⌜ (r .len ≤ length (r .bytes)) × (r .len ≤ 3) ⌝ }
 {

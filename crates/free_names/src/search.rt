@@ -7,11 +7,12 @@ ghost use Prim.Native.Nat.{_≤_, _<_};
 ghost use lib.ListN.{length, getD};
 ghost use Rattle.resolution.specs.Lists.{memberBy};
 ghost use Rattle.resolution.specs.Names.{Name, sameName};
-ghost use Rattle.resolution.specs.Table.{Urn, urn, Table};
-ghost use Rattle.resolution.specs.Nodes.{sameUrn, nodes, isNode};
+ghost use Rattle.resolution.specs.Table.{Urn, urn};
+ghost use Rattle.resolution.specs.Nodes.{sameUrn, isNode};
 ghost use Rattle.text_bytes.specs.Text.{fields};
-ghost use Rattle.node_search.specs.Arrays.{stretch, NamesIn, NodesIn};
+ghost use Rattle.node_search.specs.Arrays.{stretch, NamesIn};
 ghost use Rattle.free_names.specs.FirstFree.{firstFree, nameTaken, partTaken};
+ghost use Rattle.free_names.specs.Held.{UrnsIn};
 
 // The text z is one of n categories.
 fn is_category(t: &[u8], at: &[u16; 8], len: &[u8; 8], n: usize, z: &[u8]) -> bool
@@ -113,8 +114,8 @@ fn is_node(
 ) -> bool
     requires { ⌜ n ≤ 64 ⌝ }
     ensures { λ r. ⌜
-        ((T : Table) → NodesIn (now (t .entry)) (now (category .entry)) (now (at .entry)) (now (len .entry)) n T
-        → r ≡ isNode (nodes T) c (fields 58 (now (p .entry) ++ 58 ∷ now (z .entry))))
+        ((ns : List Urn) → UrnsIn (now (t .entry)) (now (category .entry)) (now (at .entry)) (now (len .entry)) n ns
+        → r ≡ isNode ns c (fields 58 (now (p .entry) ++ 58 ∷ now (z .entry))))
         ⌝ }
 {
     let mut j = 0;
@@ -140,8 +141,8 @@ fn part_taken(
 ) -> bool
     requires { ⌜ (n ≤ 64) × (k ≤ 64) ⌝ }
     ensures { λ r. ⌜
-        ((T : Table) → NodesIn (now (t .entry)) (now (category .entry)) (now (at .entry)) (now (len .entry)) n T
-        → r ≡ partTaken (nodes T) (urn c (fields 58 (now (p .entry)))) k)
+        ((ns : List Urn) → UrnsIn (now (t .entry)) (now (category .entry)) (now (at .entry)) (now (len .entry)) n ns
+        → r ≡ partTaken ns (urn c (fields 58 (now (p .entry)))) k)
         ⌝ }
 {
     let z = z_name(k);
@@ -163,8 +164,8 @@ pub(crate) fn first_part<'a>(
 ) -> usize
     requires { ⌜ n ≤ 64 ⌝ }
     ensures { λ r. ⌜
-        ((T : Table) → NodesIn (now (t .entry)) (now (category .entry)) (now (at .entry)) (now (len .entry)) n T
-        → r ≡ firstFree (partTaken (nodes T) (urn c (fields 58 (now (p .entry))))) (length (nodes T)) 0)
+        ((ns : List Urn) → UrnsIn (now (t .entry)) (now (category .entry)) (now (at .entry)) (now (len .entry)) n ns
+        → r ≡ firstFree (partTaken ns (urn c (fields 58 (now (p .entry))))) (length ns) 0)
         ⌝ }
     ensures few { λ r. ⌜ r ≤ 64 ⌝ }
 {

@@ -1,7 +1,7 @@
 -- Laws of a conversion from the tree form: the ancestors of a node are its path, and the arrays say what the other form stores.
 use Prim.Native.Nat.{ℕ, suc, zero, _+_, _-_, _≤_, _<_}
 use mathlib.Core.Path.{_≡_, refl, ap, ap₂, sym, _∙_, subst}
-use mathlib.Core.Bool.{Bool, true, false, cond, _&&_, and-eq-true-iff}
+use mathlib.Core.Bool.{Bool, true, false, cond, _&&_}
 use mathlib.Core.List.{List, [], _∷_, _++_, map, append-assoc, append-nil, List·Memᴰ, List·Memᴰ·head, List·Memᴰ·tail}
 use native.Mathlib.Omega.{arith}
 use native.Mathlib.Numerals.{add-one}
@@ -25,7 +25,7 @@ use Rattle.table_forms.specs.Bytes.{each, section, textBytes, storedBytes}
 use Rattle.table_forms.specs.Meaning.{urnOf, urnsOf, tableOfTree, urnText, storedIn}
 use Rattle.table_forms.specs.Refusals.{treeRefusal}
 use Rattle.stored_tree.specs.Direct.{shortIn, fewParts, usedOnce, meant}
-use Rattle.table_forms.specs.Conversion.{oldForm, refused, converted, fromTree}
+use Rattle.table_forms.specs.Conversion.{oldForm, refused, converted, fromTree, fitsOld}
 use Rattle.tree_sections.specs.Held.{nodeFrom, numberAt, treeHeld, TreeHeld}
 use Rattle.stored_tree.specs.Stages.{Sizes, Depths, GrownAs}
 use Rattle.form_bytes.specs.Laid.{answer, laid, Puts, ofSignal, Eight}
@@ -34,7 +34,7 @@ use Rattle.tree_sections.specs.declared.Counts.{Counts}
 use Rattle.form_bytes.specs.declared.Converted.{Converted as Answer}
 use Rattle.table_forms.proofs.Writing.{Every}
 use Rattle.table_forms.proofs.Growing.{signal-number, after-length, is-grown}
-use Rattle.table_forms.proofs.Theorems.{tree-refusal, tree-passed, old-form}
+use Rattle.table_forms.proofs.Theorems.{tree-refusal, tree-passed, old-form, fits-old}
 use Rattle.stored_tree.proofs.Measures.{facts, short-by, few-by}
 use Rattle.stored_tree.proofs.Composed.{fits, grew, refusal-meant, count, node-is, known, parented, numbered-in, nodes-all, sizes-right, depths-right, numbers-are}
 use Rattle.form_bytes.proofs.Laying.{each-join, each-more, laid-nil, puts-join, signals-are, eight}
@@ -134,8 +134,8 @@ meant-zero names T e = go (shortIn names T) (fewParts T) refl refl e
     go true false p q e = absurd (omega arith)
     go false b p q e = absurd (omega arith)
 
-fits-room : (n room : ℕ) {f : Bool} → f ≡ (leb n 8192 && leb n room) → f ≡ true → n ≤ room
-fits-room n room e t = leb-true n room (and-eq-true-iff (leb n 8192) (leb n room) .0 (sym e ∙ t) .1)
+fits-room : (n room : ℕ) {f : Bool} → f ≡ fitsOld n room → f ≡ true → n ≤ room
+fits-room n room e t = fits-old n room (sym e ∙ t) .1
 
 -- a tree that is not refused has grown
 pub well-grown : (t nameAt nameLen category parent at len signal number : List ℕ) (r : Counts) → TreeHeld t nameAt nameLen category parent at len signal number r → treeRefusal t ≡ 0
@@ -269,15 +269,15 @@ module _ (t nameAt nameLen category parent at len signal number : List ℕ) (r :
           ∙ sym (old-form t x (G .read .next) (G .read .whole)))
           (puts-join P Q)
 
-      pub old-formed : treeRefusal t ≡ 0 → {u : List ℕ} {a : Answer} {fit : Bool} → fit ≡ (leb e 8192 && leb e (length v))
+      pub old-formed : treeRefusal t ≡ 0 → {u : List ℕ} {a : Answer} {fit : Bool} → fit ≡ fitsOld e (length v)
           → ((form c : List ℕ) → (fit ≡ true → e ≤ length c) → length form ≡ e → length c ≡ length v → v ≡ laid form c → (a ≡ answer (converted 0 fit form (length c))) × (u ≡ converted 0 fit form (length c) .buffer))
           → (a ≡ answer (fromTree t (length b))) × (u ≡ fromTree t (length b) .buffer)
       unfolding fromTree
       old-formed z {u} {a} {fit} f K =
           let l : length (oldForm t) ≡ e = sym (wrote .end ∙ zero-add (length (oldForm t))) in
           let k = K (oldForm t) b (λ w. omega (arith, fits-room e (length v) f w, wrote .long)) l (sym (wrote .long)) (wrote .goes-on [] b refl (laid-nil b)) in
-          let o : fit ≡ (leb (length (oldForm t)) 8192 && leb (length (oldForm t)) (length b)) = f ∙ ap₂ (λ (n m : ℕ). leb n 8192 && leb n m) (sym l) (wrote .long) in
-          let q : converted 0 fit (oldForm t) (length b) ≡ converted (treeRefusal t) (leb (length (oldForm t)) 8192 && leb (length (oldForm t)) (length b)) (oldForm t) (length b) = ap₂ (λ (j : ℕ) (g : Bool). converted j g (oldForm t) (length b)) (sym z) o in
+          let o : fit ≡ fitsOld (length (oldForm t)) (length b) = f ∙ ap₂ fitsOld (sym l) (wrote .long) in
+          let q : converted 0 fit (oldForm t) (length b) ≡ converted (treeRefusal t) (fitsOld (length (oldForm t)) (length b)) (oldForm t) (length b) = ap₂ (λ (j : ℕ) (g : Bool). converted j g (oldForm t) (length b)) (sym z) o in
           (k .0 ∙ ap answer q, k .1 ∙ ap (λ c. c .buffer) q)
 
   pub eight-read : Eight signal number (r .numbers)
@@ -301,6 +301,6 @@ pub not-from : (room : ℕ) {k : ℕ} {r : Answer} {v : List ℕ} → (k ≡ 0 �
     → (r ≡ answer (fromTree t room)) × (v ≡ fromTree t room .buffer)
 unfolding fromTree
 not-from room {k} n e f t q =
-    let b : Bool = leb (length (oldForm t)) 8192 && leb (length (oldForm t)) room in
+    let b : Bool = fitsOld (length (oldForm t)) room in
     let w = sym (converted-no k b (oldForm t) room n) ∙ ap (λ (j : ℕ). converted j b (oldForm t) room) q in
     (e ∙ ap answer w, f ∙ ap (λ c. c .buffer) w)

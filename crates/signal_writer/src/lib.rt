@@ -10,16 +10,14 @@ mod urns;
 use form_bytes::Converted;
 use tree_sections::Counts;
 ghost use mathlib.Core.Path.{_≡_};
-ghost use mathlib.Core.Bool.{_&&_};
 ghost use lib.ListN.{length};
-ghost use lib.Dec.{leb};
-ghost use Rattle.table_forms.specs.Conversion.{fromTree};
+ghost use Rattle.table_forms.specs.Conversion.{fromTree, fitsOld};
 ghost use Rattle.form_bytes.specs.Laid.{answer};
 ghost use Rattle.signal_writer.specs.Urns.{TreeAs};
 
 // n bytes are at most 8,192, and there is room for them.
 fn room_for(n: usize, room: usize) -> bool
-    ensures { λ r. ⌜ r ≡ (leb n 8192 && leb n room) ⌝ }
+    ensures { λ r. ⌜ r ≡ fitsOld n room ⌝ }
 {
     if n <= 8192 {
         return n <= room;

@@ -158,7 +158,7 @@ fn judged<'a>(
     l.fault
 }
 
-// A stored tree, decoded.
+// A stored tree, decoded. Of a refused tree only the number is said: which bytes the arrays have is open then.
 pub fn decode(t: &[u8]) -> Decoded
     ensures { λ r. ⌜ Means (now (t .entry)) r ⌝ }
 {

@@ -4,3 +4,4 @@ pub mod Growing
 pub mod Sound
 pub mod Theorems
 pub mod Examples
+pub mod Exactly

@@ -1,15 +1,16 @@
 -- The chief laws: there and back, both ways.
-use Prim.Native.Nat.{ℕ, _-_, _≤_}
+use Prim.Native.Nat.{ℕ, _-_, _≤_, _<_}
 use mathlib.Core.Path.{_≡_, refl, ap, sym, _∙_}
-use mathlib.Core.Logic.{_≢_}
-use mathlib.Core.Bool.{Bool, true, false, cond, _&&_, and-eq-true-iff}
+use mathlib.Core.Logic.{_⊎_, inl, inr, _≢_}
+use mathlib.Core.Bool.{Bool, true, false, cond, and-eq-true-iff}
 use mathlib.Core.List.{List}
 use native.Mathlib.Nat.{sub-zero}
 use native.Mathlib.Omega.{arith}
+use native.Mathlib.Decide.{decLt}
 use lib.ListN.{length, replicate, length-append, length-replicate}
 use lib.Seq.{take-append-seam, drop-append-seam}
 use lib.Dec.{eqb, leb, ltb}
-use borrow.Author.Tests.{le-ltb, leb-true, eq-eqb}
+use borrow.Author.Tests.{le-ltb, le-leb, lt-leb, leb-true, leb-false, eq-eqb, eqb-true}
 use Rattle.resolution.specs.Names.{sameName}
 use Rattle.text_bytes.specs.Text.{all}
 use Rattle.alert_urn.specs.Urn.{storedName, urnOk}
@@ -24,7 +25,7 @@ use Rattle.tree_sections.specs.Tree.{Tree, anyByte, node, signalsFrom, nodesFro
 use Rattle.table_forms.specs.Bytes.{treeBytes, storedBytes}
 use Rattle.table_forms.specs.Meaning.{tableOfTree, treeIn, storedIn, treeOf, storedOf}
 use Rattle.table_forms.specs.Refusals.{named, grown, short, treeJudged, treeJudgedRead, treeRefusal, treeTableRead, treeTable}
-use Rattle.table_forms.specs.Conversion.{treeFormRead, treeForm, oldFormRead, oldForm, refused, filled, converted, toTree, fromTree, made}
+use Rattle.table_forms.specs.Conversion.{treeFormRead, treeForm, oldFormRead, oldForm, refused, filled, converted, toTree, fromTree, fitsOld, made}
 use Rattle.table_forms.specs.Claims.{OldNewOld, NewOldNew, OldAndBack, NewAndBack, Kept, Cleared}
 use Rattle.table_forms.proofs.Writing.{FitsStored, stored-reads, stored-back, tree-reads, tree-back}
 use Rattle.table_forms.proofs.Texts.{table-again, stored-again}
@@ -168,6 +169,31 @@ new-old-new t e h =
         again : (x : Tree) → TreePassed x → tableIn (storedOf x) ≡ tableOfTree x → treeOf (storedOf x) ≡ x
         again x p k = ap (treeIn (x .names)) k ∙ tree-again x (p .grows)
 
+-- an old form that may be written has 8,192 bytes at most and fits the room, and any other does not
+module _ (n room : ℕ) where
+  pub fits-old : fitsOld n room ≡ true → (n ≤ 8192) × (n ≤ room)
+  unfolding fitsOld
+  fits-old e = let h = leb-true n _ e in (omega arith, omega arith)
+
+  pub fits-not : fitsOld n room ≡ false → (8192 < n) ⊎ (room < n)
+  unfolding fitsOld
+  fits-not e = let h = leb-false n _ e in go (decLt room n)
+    where
+      go : Dec (room < n) → (8192 < n) ⊎ (room < n)
+      go (yes r) = inr r
+      go (no r) = let h = leb-false n _ e in inl (omega arith)
+
+  pub old-fits : n ≤ 8192 → leb n room ≡ fitsOld n room
+  unfolding fitsOld
+  old-fits h =
+      byTest (leb n room)
+      (λ e. e ∙ sym (le-leb n _ (let k = leb-true n room e in omega arith)))
+      (λ e. e ∙ sym (lt-leb n _ (let k = leb-false n room e in omega arith)))
+
+  pub old-over : 8192 < n → false ≡ fitsOld n room
+  unfolding fitsOld
+  old-over h = sym (lt-leb n _ (omega arith))
+
 -- a conversion of what is not refused, unless refused with 22
 pub converted-fits : (k : ℕ) (fits : Bool) (bytes : List ℕ) (room : ℕ) → k ≡ 0 → converted k fits bytes room .refusal ≢ 22
     → (fits ≡ true) × (converted k fits bytes room .refusal ≡ 0) × (made (converted k fits bytes room) ≡ bytes)
@@ -208,8 +234,7 @@ to-tree-kept t room = converted-kept (tableRefusal t) (leb (length (treeForm t))
 pub from-tree-kept : (t : List ℕ) (room : ℕ) → Kept room (fromTree t room)
 unfolding fromTree
 from-tree-kept t room =
-    converted-kept (treeRefusal t) (leb (length (oldForm t)) 8192 && leb (length (oldForm t)) room) (oldForm t) room
-    (λ e. leb-true (length (oldForm t)) room (and-eq-true-iff (leb (length (oldForm t)) 8192) (leb (length (oldForm t)) room) .0 e .1))
+    converted-kept (treeRefusal t) (fitsOld (length (oldForm t)) room) (oldForm t) room (λ e. fits-old (length (oldForm t)) room e .1)
 
 pub to-tree-cleared : (t : List ℕ) (room : ℕ) → toTree t room .refusal ≢ 0 → Cleared room (toTree t room)
 unfolding toTree
@@ -217,7 +242,7 @@ to-tree-cleared t room n = converted-cleared (tableRefusal t) (leb (length (tree
 
 pub from-tree-cleared : (t : List ℕ) (room : ℕ) → fromTree t room .refusal ≢ 0 → Cleared room (fromTree t room)
 unfolding fromTree
-from-tree-cleared t room n = converted-cleared (treeRefusal t) (leb (length (oldForm t)) 8192 && leb (length (oldForm t)) room) (oldForm t) room n
+from-tree-cleared t room n = converted-cleared (treeRefusal t) (fitsOld (length (oldForm t)) room) (oldForm t) room n
 
 to-fits : (t : List ℕ) (room : ℕ) → tableRefusal t ≡ 0 → toTree t room .refusal ≢ 22 → (toTree t room .refusal ≡ 0) × (made (toTree t room) ≡ treeForm t)
 unfolding toTree
@@ -227,9 +252,8 @@ from-fits : (t : List ℕ) (room : ℕ) → treeRefusal t ≡ 0 → fromTree t r
     → (length (oldForm t) ≤ 8192) × (fromTree t room .refusal ≡ 0) × (made (fromTree t room) ≡ oldForm t)
 unfolding fromTree
 from-fits t room e n =
-    let c = converted-fits (treeRefusal t) (leb (length (oldForm t)) 8192 && leb (length (oldForm t)) room) (oldForm t) room e n in
-    let b = and-eq-true-iff (leb (length (oldForm t)) 8192) (leb (length (oldForm t)) room) .0 (c .0) in
-    (leb-true (length (oldForm t)) 8192 (b .0), c .1, c .2)
+    let c = converted-fits (treeRefusal t) (fitsOld (length (oldForm t)) room) (oldForm t) room e n in
+    (fits-old (length (oldForm t)) room (c .0) .0, c .1, c .2)
 
 -- from the old form to the new one and back: the same bytes
 pub old-and-back : (t : List ℕ) (room room₂ : ℕ) → OldAndBack t room room₂

@@ -1,7 +1,7 @@
 -- What holds of the conversions.
-use Prim.Native.Nat.{ℕ, _-_, _≤_}
+use Prim.Native.Nat.{ℕ, _-_, _≤_, _<_}
 use mathlib.Core.Path.{_≡_}
-use mathlib.Core.Logic.{_≢_}
+use mathlib.Core.Logic.{_⊎_, _↔_, _≢_}
 use mathlib.Core.List.{List}
 use lib.ListN.{length, drop, replicate}
 use Rattle.stored_table.specs.Tables.{tableRefusal, tableOf}
@@ -49,3 +49,20 @@ pub record Kept (room : ℕ) (c : Converted) : Type 0 where
 pub record Cleared (room : ℕ) (c : Converted) : Type 0 where
   pub none : c .len ≡ 0
   pub zeros : c .buffer ≡ replicate room 0
+
+-- a conversion of what has the number k by itself, into this form, there being no room for it if NoRoom
+pub record Converts (k : ℕ) (form : List ℕ) (NoRoom : Type 0) (c : Converted) : Type 0 where
+  -- the number of what is converted comes first
+  pub own-number : k ≢ 0 → c .refusal ≡ k
+  -- then 22, exactly if there is no room
+  pub no-room : (c .refusal ≡ 22) ↔ ((k ≡ 0) × NoRoom)
+  -- else the form is made
+  pub form-made : k ≡ 0 → (NoRoom → ⊥) → (c .refusal ≡ 0) × (made c ≡ form)
+
+-- old to new: 22 where the tree form is longer than the buffer
+abbrev pub ToTree22 : Type 0
+ToTree22 = (t : List ℕ) (room : ℕ) → Converts (tableRefusal t) (treeForm t) (room < length (treeForm t)) (toTree t room)
+
+-- new to old: 22 where the old form has over 8,192 bytes, or is longer than the buffer
+abbrev pub FromTree22 : Type 0
+FromTree22 = (t : List ℕ) (room : ℕ) → Converts (treeRefusal t) (oldForm t) ((8192 < length (oldForm t)) ⊎ (room < length (oldForm t))) (fromTree t room)

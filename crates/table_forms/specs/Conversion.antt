@@ -1,6 +1,6 @@
 -- The conversions of bytes, into a buffer. Refusal 22.
-use Prim.Native.Nat.{ℕ, _-_}
-use mathlib.Core.Bool.{Bool, cond, _&&_}
+use Prim.Native.Nat.{ℕ, _-_, min}
+use mathlib.Core.Bool.{Bool, cond}
 use mathlib.Core.List.{List, [], _++_}
 use lib.ListN.{length, take, replicate}
 use lib.Dec.{leb, eqb}
@@ -51,9 +51,13 @@ converted k fits bytes room = cond (eqb k 0) (cond fits (filled bytes room) (ref
 unfoldable pub toTree : List ℕ → ℕ → Converted
 toTree t room = converted (tableRefusal t) (leb (length (treeForm t)) room) (treeForm t) room
 
--- new to old, which may have 8,192 bytes at most
+-- an old form of n bytes may be written: it has 8,192 bytes at most, and there is room for it
+unfoldable pub fitsOld : ℕ → ℕ → Bool
+fitsOld n room = leb n (min 8192 room)
+
+-- new to old
 unfoldable pub fromTree : List ℕ → ℕ → Converted
-fromTree t room = converted (treeRefusal t) (leb (length (oldForm t)) 8192 && leb (length (oldForm t)) room) (oldForm t) room
+fromTree t room = converted (treeRefusal t) (fitsOld (length (oldForm t)) room) (oldForm t) room
 
 -- the bytes that a conversion made
 abbrev pub made : Converted → List ℕ

@@ -5,3 +5,4 @@ pub mod JudgeLaws
 pub mod TallyLaws
 pub mod MonthLaws
 pub mod Env
+pub mod Numbers

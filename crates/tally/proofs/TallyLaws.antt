@@ -5,8 +5,8 @@ use native.Mathlib.Omega.{arith}
 use mathlib.Core.Bool.{Bool, true, false, not, cond}
 use mathlib.Core.List.{List}
 use lib.Dec.{ltb, eqb}
-use lib.ListN.{length, getD, set, take, length-set, length-take}
-use lib.Seq.{getD-set-other, getD-take, take-set-lt}
+use lib.ListN.{length, getD, set, take, drop, length-set, length-take}
+use lib.Seq.{getD-set-other, getD-take, take-set-lt, drop-set-lt}
 use borrow.Author.Tests.{lt-ltb, le-ltb, eq-eqb, ne-eqb, eqb-true, eqb-false, ltb-false}
 use Rattle.stored_table.specs.Tables.{tableRefusal, tableOf}
 use Rattle.entry_run.specs.declared.Resolution.{Resolution}
@@ -174,14 +174,18 @@ module _ (t : List ℕ) (xs : List Tally) (n : ℕ) (c v : List ℕ) (r : Resolu
   placed-on : s ≡ placeOf r (length (take n xs))
   placed-on = subst (λ (m : ℕ). s ≡ placeOf r m) few-of f
 
-  pub first-past : k ≤ s → Tallied t (take n xs) c v r (take n xs) c′
-  first-past h = tallied-at t (take n xs) c v r s r (take n xs) c′ judged-on placed-on (add-past (take n xs) s r (subst (λ (m : ℕ). m ≤ s) few-of h))
+  pub first-past : k ≤ s → Tallied t (take n xs) c v r (take n xs) c′ × (drop n xs ≡ drop n xs)
+  first-past h = (on-first, refl)
+    where
+      on-first : Tallied t (take n xs) c v r (take n xs) c′
+      on-first = tallied-at t (take n xs) c v r s r (take n xs) c′ judged-on placed-on (add-past (take n xs) s r (subst (λ (m : ℕ). m ≤ s) few-of h))
 
-  pub first-within : s < k → (a : Added) → a ≡ addedOf (getD xs s none) r → Tallied t (take n xs) c v (a .answer) (take n (set xs s (a .after))) c′
+  pub first-within : s < k → (a : Added) → a ≡ addedOf (getD xs s none) r
+      → Tallied t (take n xs) c v (a .answer) (take n (set xs s (a .after))) c′ × (drop n (set xs s (a .after)) ≡ drop n xs)
   first-within h a g =
       let below : s < n = omega (arith, h, e) in
       let put = add-within (take n xs) s r (subst (λ (m : ℕ). s < m) few-of h) a (g ∙ ap (λ (x : Tally). addedOf x r) (sym (getD-take n xs s none below))) in
-      tallied-at t (take n xs) c v r s (a .answer) (take n (set xs s (a .after))) c′ judged-on placed-on (put .0, take-set-lt n xs s (a .after) below ∙ put .1)
+      (tallied-at t (take n xs) c v r s (a .answer) (take n (set xs s (a .after))) c′ judged-on placed-on (put .0, take-set-lt n xs s (a .after) below ∙ put .1), drop-set-lt n xs s (a .after) below)
 
 -- what stays
 module _ (t : List ℕ) (l : List Tally) (c v : List ℕ) where

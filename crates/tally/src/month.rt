@@ -5,7 +5,7 @@ use crate::judge;
 use crate::records;
 use entry_run::Resolution;
 ghost use mathlib.Core.Path.{_≡_};
-ghost use lib.ListN.{take};
+ghost use lib.ListN.{take, drop};
 ghost use Rattle.tally.specs.Tally.{needed as neededOf, Tallied};
 
 // The answer to a value, and the records after it. A well-formed table has at most 32 signals.
@@ -22,9 +22,12 @@ pub fn needed(t: &[u8]) -> usize
     d.signals
 }
 
-// The value v on the first n records: answer, records and counts are those of `tally_value`.
+// The value v on the first n records: answer, records and counts are those of `tally_value`, and the records past them stay.
 pub fn value(t: &[u8], records: [Tally; 32], n: usize, refusals: &mut [u32], v: &[u8]) -> Counted
-    ensures { λ r. ⌜ Tallied (now (t .entry)) (take n records) (now (refusals .entry)) (now (v .entry)) (r .answer) (take n (r .records)) (now (refusals .exit)) ⌝ }
+    ensures { λ r. ⌜
+        Tallied (now (t .entry)) (take n records) (now (refusals .entry)) (now (v .entry)) (r .answer) (take n (r .records)) (now (refusals .exit))
+        × (drop n (r .records) ≡ drop n records)
+        ⌝ }
 {
     let k = text_bytes::compare::at_most(n, 32);
     let r = judge::judge(t, k, refusals, v);

@@ -7,12 +7,14 @@ use mathlib.Core.List.{List, [], _∷_, foldl, List·Memᴰ·head, List·Memᴰ�
 use native.Mathlib.Omega.{arith}
 use lib.ListN.{length, getD}
 use lib.Dec.{eqb, leb, ltb}
-use borrow.Author.Tests.{ne-eqb, le-leb, leb-true, leb-false}
+use borrow.Author.Tests.{ne-eqb, le-leb, lt-leb, leb-true, leb-false}
 use Rattle.resolution.specs.Lists.{tabulate, allBelow as forall}
 use Rattle.resolution.specs.Names.{Name}
 use Rattle.resolution.proofs.Lists.{tabulate-at, tabulate-length}
 use Rattle.ascii.specs.Ascii.{within}
 use Rattle.text_bytes.specs.Text.{all}
+use Rattle.alert_urn.specs.Urn.{storedName}
+use Rattle.node_search.specs.Arrays.{stretch}
 use Rattle.text_bytes.proofs.Fields.{byTest}
 use Rattle.signal_places.specs.Tests.{noTwo}
 use Rattle.table_sections.specs.Held.{joined}
@@ -23,7 +25,7 @@ use Rattle.tree_sections.specs.Tree.{Node, nodeOf, Tree}
 use Rattle.table_forms.specs.Refusals.{numbered, parented, allParented, grown}
 use Rattle.tree_nodes.specs.Scan.{sameNode, linked, reached, isCount, scanned}
 use Rattle.tree_sections.specs.Held.{nodeFrom}
-use Rattle.tree_nodes.specs.Tests.{underAt, linkedBy, stepBy, grownBy}
+use Rattle.tree_nodes.specs.Tests.{underAt, linkedBy, stepBy, grownBy, lastsFormed, grownIn, Judges}
 use Rattle.table_forms.proofs.Writing.{Every}
 use Rattle.table_forms.proofs.Growing.{suc-zero}
 use Rattle.tree_nodes.proofs.Scanning.{grown-scanned}
@@ -141,3 +143,37 @@ module _ (t category parent at len number : List ℕ) (categories nodes numbers 
       grown-scanned x ∙ ap₂ (λ (a b : Bool). a && (b && scanned x)) numbered-is (sym (parents-are t category parent at len nodes))
       ∙ in-row (all (λ y. ltb y categories) (tabulate (λ i. getD category i 0) nodes)) (all (within 1 nodes) (tabulate (λ i. getD number i 0) numbers))
       (all (underAt category parent) (tabulate (λ i. i) nodes)) (scanned x) _ scanned-is
+
+-- within the arrays' lengths the tests are those of the tree, and past them they fail
+module _ (t category parent at len number : List ℕ) (categories nodes numbers : ℕ) where
+  pub grown-within : {b : Bool} → nodes ≤ 64 → numbers ≤ 256 → b ≡ grownBy t category parent at len number categories nodes numbers
+      → b ≡ grownIn t category parent at len number categories nodes numbers
+  unfolding grownIn
+  grown-within h l e = e ∙ sym (simp (le-leb nodes 64 h, le-leb numbers 256 l))
+
+  pub over-nodes : 64 < nodes → false ≡ grownIn t category parent at len number categories nodes numbers
+  unfolding grownIn
+  over-nodes h = sym (simp (lt-leb nodes 64 h))
+
+  pub over-numbers : nodes ≤ 64 → 256 < numbers → false ≡ grownIn t category parent at len number categories nodes numbers
+  unfolding grownIn
+  over-numbers h l = sym (simp (le-leb nodes 64 h, lt-leb numbers 256 l))
+
+  pub judges-in : {r : Bool} → r ≡ grownIn t category parent at len number categories nodes numbers → Judges t category parent at len number categories nodes numbers r
+  unfolding grownIn
+  judges-in e names ss k h l these =
+      e ∙ simp (le-leb nodes 64 h, le-leb numbers 256 l) (sym (grown-by t category parent at len number categories nodes numbers names ss k h these))
+
+-- the same of the last names
+module _ (t at len : List ℕ) (n : ℕ) where
+  pub lasts-over : 64 < n → false ≡ lastsFormed t at len n
+  unfolding lastsFormed
+  lasts-over h = sym (simp (lt-leb n 64 h))
+
+  pub lasts-within : {b : Bool} → n ≤ 64 → b ≡ all storedName (tabulate (stretch t at len) n) → b ≡ lastsFormed t at len n
+  unfolding lastsFormed
+  lasts-within h e = e ∙ sym (simp (le-leb n 64 h))
+
+  pub lasts-in : {r : Bool} → r ≡ lastsFormed t at len n → n ≤ 64 → r ≡ all storedName (tabulate (stretch t at len) n)
+  unfolding lastsFormed
+  lasts-in e h = e ∙ simp (le-leb n 64 h)

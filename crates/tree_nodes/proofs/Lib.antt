@@ -1,3 +1,4 @@
 pub mod Scanning
 pub mod Tests
 pub mod ByArrays
+pub mod Reasons

@@ -9,6 +9,8 @@ use Rattle.resolution.specs.Lists.{tabulate}
 use Rattle.resolution.specs.Names.{Name}
 use Rattle.ascii.specs.Ascii.{within}
 use Rattle.text_bytes.specs.Text.{all}
+use Rattle.alert_urn.specs.Urn.{storedName}
+use Rattle.node_search.specs.Arrays.{stretch}
 use Rattle.table_sections.specs.Held.{joined}
 use Rattle.signal_places.specs.Tests.{noTwo}
 use Rattle.tree_sections.specs.Held.{nodeFrom}
@@ -36,6 +38,15 @@ grownBy t category parent at len number categories nodes numbers =
     && (all (underAt category parent) (tabulate (λ i. i) nodes)
     && (noTwo sameNode (tabulate (nodeFrom t category parent at len) nodes)
     && eqb (foldl (stepBy parent) 0 (tabulate (λ i. getD number i 0) numbers)) nodes)))
+
+-- every last name has its form, and there are at most 64
+unfoldable pub lastsFormed : (t at len : List ℕ) → ℕ → Bool
+lastsFormed t at len n = leb n 64 && all storedName (tabulate (stretch t at len) n)
+
+-- the tests of 21 by arrays of 64 nodes and 256 numbers; they fail for more
+unfoldable pub grownIn : (t category parent at len number : List ℕ) → ℕ → ℕ → ℕ → Bool
+grownIn t category parent at len number categories nodes numbers =
+    leb nodes 64 && (leb numbers 256 && grownBy t category parent at len number categories nodes numbers)
 
 -- r says whether the tree that the arrays hold is not refused with 21, whatever its categories are called
 abbrev pub Judges : (t category parent at len number : List ℕ) (categories nodes numbers : ℕ) → Bool → Type 0

@@ -13,7 +13,7 @@ pub mod texts;
 
 ghost use mathlib.Core.Path.{_≡_};
 ghost use Prim.Native.Nat.{_≤_};
-ghost use Rattle.tree_nodes.specs.Tests.{grownBy, Judges};
+ghost use Rattle.tree_nodes.specs.Tests.{grownBy, grownIn};
 
 // The tests of 21, in this order.
 fn grows(
@@ -45,7 +45,7 @@ fn grows(
     false
 }
 
-// Whether the tree that the arrays hold is not refused with 21.
+// Whether the tree that the arrays hold is not refused with 21; false for over 64 nodes or 256 numbers.
 pub fn grown(
     t: &[u8],
     categories: usize,
@@ -57,7 +57,7 @@ pub fn grown(
     len: &[u8; 64],
     number: &[u8; 256],
 ) -> bool
-    ensures { λ r. ⌜ Judges (now (t .entry)) (now (category .entry)) (now (parent .entry)) (now (at .entry)) (now (len .entry)) (now (number .entry)) categories nodes numbers r ⌝ }
+    ensures { λ r. ⌜ r ≡ grownIn (now (t .entry)) (now (category .entry)) (now (parent .entry)) (now (at .entry)) (now (len .entry)) (now (number .entry)) categories nodes numbers ⌝ }
 {
     if 64 < nodes {
         return false;

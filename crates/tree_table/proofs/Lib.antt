@@ -1,1 +1,2 @@
 pub mod TreeNumbers
+pub mod Order

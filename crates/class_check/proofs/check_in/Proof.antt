@@ -1,8 +1,10 @@
+use mathlib.Core.Path.{_∙_}
 use lib.ListN.{length}
 use borrow.Author.Tests.{not-true, not-false}
-use Rattle.class_rounds.specs.Stored.{isStored}
+use Rattle.machine_classes.specs.Refine.{blocks}
+use Rattle.class_rounds.specs.Stored.{storedMachine, isStored}
 use Rattle.class_rounds.proofs.TestLaws.{stored-of}
-use Rattle.class_check.proofs.CheckLaws.{rows-fits, fits-yes, alike-is}
+use Rattle.class_check.proofs.CheckLaws.{rows-fits, fits-yes, alike-is, taken}
 use borrow.Author.Needs.{needs}
 use Rattle.class_check.proofs.check_in.Statement.{statement}
 use Rattle.class_check.proofs.check_in.Tie as tie
@@ -24,7 +26,7 @@ fits-requires : tie.Need-fits-requires
 fits-requires c κs = let a = c .before .before .before .before .before .before .before .before .before .before .before .before .before .before .args in
     let t = not-false _ (c .before .before .if1 .left) in
     let s = alike-is (isStored (a .rows .now) (a .n) (a .head) (a .k)) _ _ (length (a .x .now)) (length (a .y .now)) (a .n) (c .before .before .before .before .before .before .before .before .before .before .before .before .before .before .pre .1) (c .before .before .before .before .before .before .before .before .before .before .before .before .before .before .pre .2) (c .before .before .before .before .before .before .before .first-alike .ensures .0) t in
-    (stored-of (a .rows .now) (a .n) (a .head) (a .k) s, c .before .before .before .before .before .before .before .before .before .before .before .before .before .before .pre .0, c .before .before .before .before .before .before .before .first-alike .ensures .1 t .0, c .before .before .before .before .before .before .before .first-alike .ensures .1 t .1)
+    (stored-of (a .rows .now) (a .n) (a .head) (a .k) s, c .before .before .before .before .before .before .before .before .before .before .before .before .before .before .pre .0, taken (c .before .before .before .before .before .before .before .first-alike .result) (blocks (storedMachine (a .rows .now) (a .n) (a .head) (a .k))) (a .x .now) (c .before .before .before .before .before .before .before .first-alike .ensures .1 .0) t, c .before .before .before .before .before .before .before .first-alike .ensures .1 .1 ∙ c .before .before .before .before .before .before .before .before .before .before .before .before .before .before .pre .2)
 
 same-length-3 : tie.Need-same-length-3
 same-length-3 c = search needs

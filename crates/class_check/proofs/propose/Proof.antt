@@ -1,15 +1,15 @@
 use lib.ListN.{length-take}
 use native.Mathlib.Omega.{arith}
-use Rattle.class_check.proofs.CheckLaws.{many-proposed}
+use Rattle.class_check.proofs.CheckLaws.{many-proposed, other-proposed}
 use borrow.Author.Needs.{needs}
 use Rattle.class_check.proofs.propose.Statement.{statement}
 use Rattle.class_check.proofs.propose.Tie as tie
 
 returns : tie.Need-returns
-returns c = let a = c .before .before .before .args in λ e. many-proposed (a .rows .now) (a .n) (a .head) (a .k) (c .if1 .taken)
+returns c = let a = c .before .before .before .args in many-proposed (a .rows .now) (a .n) (a .head) (a .k) (a .out .now) (c .if1 .taken)
 
 returns-2 : tie.Need-returns-2
-returns-2 c = λ e. absurd (c .if2 .taken e)
+returns-2 c = other-proposed _ _ _ _ _ (c .if2 .taken)
 
 sub-propose-in : tie.Need-sub-propose-in
 sub-propose-in c = search needs
@@ -36,7 +36,7 @@ same-length : tie.Need-same-length
 same-length c = search needs
 
 returns-3 : tie.Need-returns-3
-returns-3 c = λ e. c .before .before .before .before .propose-in .ensures
+returns-3 c = c .before .before .before .before .propose-in .ensures
 
 pub propose-spec : {M : Type 1} → statement M
 propose-spec =

@@ -1,8 +1,10 @@
+use mathlib.Core.Path.{_∙_}
 use lib.ListN.{length}
 use borrow.Author.Tests.{not-true, not-false}
-use Rattle.class_rounds.specs.Stored.{isStored}
+use Rattle.machine_classes.specs.Refine.{blocks}
+use Rattle.class_rounds.specs.Stored.{storedMachine, isStored}
 use Rattle.class_rounds.proofs.TestLaws.{stored-of}
-use Rattle.class_check.proofs.CheckLaws.{rows-proposed, proposed-yes, alike-is}
+use Rattle.class_check.proofs.CheckLaws.{rows-proposed, proposed-yes, alike-is, taken}
 use borrow.Author.Needs.{needs}
 use Rattle.class_check.proofs.propose_in.Statement.{statement}
 use Rattle.class_check.proofs.propose_in.Tie as tie
@@ -18,13 +20,13 @@ same-length-2 c = search needs
 
 returns : tie.Need-returns
 returns c = let a = c .before .before .before .before .before .before .before .before .before .before .before .before .args in
-    rows-proposed (a .rows .now) (a .n) (a .head) (a .k) (alike-is (isStored (a .rows .now) (a .n) (a .head) (a .k)) _ _ (length (a .x .now)) (length (a .y .now)) (a .n) (c .before .before .before .before .before .before .before .before .before .before .before .before .pre .1) (c .before .before .before .before .before .before .before .before .before .before .before .before .pre .2) (c .before .before .before .before .before .first-alike .ensures .0) (not-true _ (c .if1 .taken)))
+    rows-proposed (a .rows .now) (a .n) (a .head) (a .k) (a .out .now) (alike-is (isStored (a .rows .now) (a .n) (a .head) (a .k)) _ _ (length (a .x .now)) (length (a .y .now)) (a .n) (c .before .before .before .before .before .before .before .before .before .before .before .before .pre .1) (c .before .before .before .before .before .before .before .before .before .before .before .before .pre .2) (c .before .before .before .before .before .first-alike .ensures .0) (not-true _ (c .if1 .taken)))
 
 number-requires : tie.Need-number-requires
 number-requires c κs = let a = c .before .before .before .before .before .before .before .before .before .before .before .before .before .before .before .args in
     let t = not-false _ (c .before .before .before .if1 .left) in
     let s = alike-is (isStored (a .rows .now) (a .n) (a .head) (a .k)) _ _ (length (a .x .now)) (length (a .y .now)) (a .n) (c .before .before .before .before .before .before .before .before .before .before .before .before .before .before .before .pre .1) (c .before .before .before .before .before .before .before .before .before .before .before .before .before .before .before .pre .2) (c .before .before .before .before .before .before .before .before .first-alike .ensures .0) t in
-    (stored-of (a .rows .now) (a .n) (a .head) (a .k) s, c .before .before .before .before .before .before .before .before .before .before .before .before .before .before .before .pre .0, c .before .before .before .before .before .before .before .before .first-alike .ensures .1 t .0, c .before .before .before .before .before .before .before .before .first-alike .ensures .1 t .1)
+    (stored-of (a .rows .now) (a .n) (a .head) (a .k) s, c .before .before .before .before .before .before .before .before .before .before .before .before .before .before .before .pre .0, taken (c .before .before .before .before .before .before .before .before .first-alike .result) (blocks (storedMachine (a .rows .now) (a .n) (a .head) (a .k))) (a .x .now) (c .before .before .before .before .before .before .before .before .first-alike .ensures .1 .0) t, c .before .before .before .before .before .before .before .before .first-alike .ensures .1 .1 ∙ c .before .before .before .before .before .before .before .before .before .before .before .before .before .before .before .pre .2)
 
 same-length-3 : tie.Need-same-length-3
 same-length-3 c = search needs
@@ -37,7 +39,7 @@ same-length-5 c = search needs
 
 returns-2 : tie.Need-returns-2
 returns-2 c = let a = c .before .before .before .before .before .before .before .before .before .before .before .before .before .before .before .before .before .before .before .before .before .before .args in
-    proposed-yes (a .rows .now) (a .n) (a .head) (a .k) _ (alike-is (isStored (a .rows .now) (a .n) (a .head) (a .k)) _ _ (length (a .x .now)) (length (a .y .now)) (a .n) (c .before .before .before .before .before .before .before .before .before .before .before .before .before .before .before .before .before .before .before .before .before .before .pre .1) (c .before .before .before .before .before .before .before .before .before .before .before .before .before .before .before .before .before .before .before .before .before .before .pre .2) (c .before .before .before .before .before .before .before .before .before .before .before .before .before .before .before .first-alike .ensures .0) (not-false _ (c .before .before .before .before .before .before .before .before .before .before .if1 .left))) (c .before .before .before .before .before .before .number .ensures)
+    proposed-yes (a .rows .now) (a .n) (a .head) (a .k) (a .out .now) _ _ (c .before .before .before .before .before .before .before .before .before .before .before .before .before .before .before .before .before .before .before .before .before .before .pre .0) (alike-is (isStored (a .rows .now) (a .n) (a .head) (a .k)) _ _ (length (a .x .now)) (length (a .y .now)) (a .n) (c .before .before .before .before .before .before .before .before .before .before .before .before .before .before .before .before .before .before .before .before .before .before .pre .1) (c .before .before .before .before .before .before .before .before .before .before .before .before .before .before .before .before .before .before .before .before .before .before .pre .2) (c .before .before .before .before .before .before .before .before .before .before .before .before .before .before .before .first-alike .ensures .0) (not-false _ (c .before .before .before .before .before .before .before .before .before .before .if1 .left))) (c .before .before .before .before .before .before .number .ensures)
 
 pub propose-in-spec : {M : Type 1} → statement M
 propose-in-spec =

@@ -1,5 +1,4 @@
-use native.Mathlib.Omega.{arith}
-use Rattle.form_bytes.proofs.Laying.{finish-fits, finish-not}
+use Rattle.form_bytes.proofs.Laying.{finish-fits, finish-over, finish-not}
 use borrow.Author.Needs.{needs}
 use Rattle.form_bytes.proofs.finish.Statement.{statement}
 use Rattle.form_bytes.proofs.finish.Tie as tie
@@ -17,7 +16,7 @@ same-length : tie.Need-same-length
 same-length c = search needs
 
 returns : tie.Need-returns
-returns c = λ form b g l o e. finish-fits form b (c .before .before .before .before .before .before .before .args .buf .now) (c .before .before .clear .last .0) (c .before .before .before .before .before .before .before .args .n) (c .before .before .before .before .before .if1 .taken) l o e (c .before .before .before .before .if2 .taken) (c .before .before .clear .ensures)
+returns c = finish-fits (c .before .before .before .before .before .before .before .args .buf .now) (c .before .before .before .before .before .before .before .args .n) (c .before .before .clear .last .0) (c .before .before .before .before .before .if1 .taken) (c .before .before .before .before .if2 .taken) (c .before .before .clear .ensures)
 
 refuse-requires : tie.Need-refuse-requires
 refuse-requires c κs = search needs
@@ -26,7 +25,7 @@ same-length-2 : tie.Need-same-length-2
 same-length-2 c = search needs
 
 returns-2 : tie.Need-returns-2
-returns-2 c = λ form b g l o e. absurd (omega (arith, g (c .before .before .before .before .before .if1 .taken), o, c .before .before .before .before .if2 .left))
+returns-2 c = finish-over (c .before .before .before .before .before .before .before .args .buf .now) (c .before .before .before .before .before .before .before .args .n) (c .before .before .before .before .before .if1 .taken) (c .before .before .before .before .if2 .left) (c .before .before .refuse .ensures .0) (c .before .before .refuse .ensures .1)
 
 refuse-requires-2 : tie.Need-refuse-requires-2
 refuse-requires-2 c κs = search needs
@@ -35,7 +34,7 @@ same-length-3 : tie.Need-same-length-3
 same-length-3 c = search needs
 
 returns-3 : tie.Need-returns-3
-returns-3 c = λ form b g l o e. finish-not form b (c .before .before .before .before .before .before .args .buf .now) _ (c .before .before .before .before .if1 .left) o (c .before .before .refuse2 .ensures .0) (c .before .before .refuse2 .ensures .1)
+returns-3 c = finish-not (c .before .before .before .before .before .before .args .buf .now) (c .before .before .before .before .before .before .args .n) (c .before .before .before .before .if1 .left) (c .before .before .refuse2 .ensures .0) (c .before .before .refuse2 .ensures .1)
 
 pub finish-spec : {M : Type 1} → statement M
 finish-spec =

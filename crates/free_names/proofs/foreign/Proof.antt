@@ -13,7 +13,7 @@ z-name-requires : tie.Need-z-name-requires
 z-name-requires c κs = search needs
 
 returns : tie.Need-returns
-returns c = (λ h. foreign-name _ _ _ _ (h .names) (c .before .before .before .before .before .at-most .ensures .0) (c .before .first-name .ensures .0) (c .z-name .ensures .0), (c .z-name .ensures .1, c .z-name .ensures .2))
+returns c = (foreign-name _ _ _ _ (c .before .before .before .before .before .at-most .ensures .0) (c .before .first-name .ensures .0) (c .z-name .ensures .0), (c .z-name .ensures .1, c .z-name .ensures .2))
 
 pub foreign-spec : {M : Type 1} → statement M
 foreign-spec = tie.close (tie.spec at-most-requires first-name-requires z-name-requires returns)

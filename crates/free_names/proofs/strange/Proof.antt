@@ -13,7 +13,7 @@ z-name-requires : tie.Need-z-name-requires
 z-name-requires c κs = search needs
 
 returns : tie.Need-returns
-returns c = (λ h. strange-name _ _ _ _ _ _ _ (h .nodes) (c .before .before .before .before .before .before .at-most .ensures .0) (c .before .first-part .ensures .0) (c .z-name .ensures .0), (c .z-name .ensures .1, c .z-name .ensures .2))
+returns c = (strange-name _ _ _ _ _ _ (c .before .before .before .before .before .before .at-most .ensures .0) (c .before .first-part .ensures .0) (c .z-name .ensures .0), (c .z-name .ensures .1, c .z-name .ensures .2))
 
 pub strange-spec : {M : Type 1} → statement M
 strange-spec = tie.close (tie.spec at-most-requires first-part-requires z-name-requires returns)

@@ -1,22 +1,19 @@
-use mathlib.Core.Path.{sym, _∙_}
-use native.Mathlib.Omega.{arith}
-use Rattle.tree_nodes.proofs.ByArrays.{grown-by}
+use Rattle.tree_nodes.proofs.ByArrays.{over-nodes, over-numbers, grown-within}
 use borrow.Author.Needs.{needs}
 use Rattle.tree_nodes.proofs.grown.Statement.{statement}
 use Rattle.tree_nodes.proofs.grown.Tie as tie
 
 returns : tie.Need-returns
-returns c = λ names ss k h l e. absurd (omega arith)
+returns c = over-nodes _ _ _ _ _ _ _ _ _ (c .if1 .taken)
 
 returns-2 : tie.Need-returns-2
-returns-2 c = λ names ss k h l e. absurd (omega arith)
+returns-2 c = over-numbers _ _ _ _ _ _ _ _ _ (c .before .if1 .left) (c .if2 .taken)
 
 grows-requires : tie.Need-grows-requires
 grows-requires c κs = search needs
 
 returns-3 : tie.Need-returns-3
-returns-3 c = λ names ss k h l e. let a = c .before .before .before .before .args in
-    c .grows .ensures ∙ sym (grown-by (a .t .now) (a .category .now) (a .parent .now) (a .at .now) (a .len .now) (a .number .now) (a .categories) (a .nodes) (a .numbers) names ss k h e)
+returns-3 c = grown-within _ _ _ _ _ _ _ _ _ (c .before .before .if1 .left) (c .before .if2 .left) (c .grows .ensures)
 
 pub grown-spec : {M : Type 1} → statement M
 grown-spec = tie.close (tie.spec returns returns-2 grows-requires returns-3)

@@ -1,22 +1,21 @@
 use mathlib.Core.Path.{_≡_, refl}
 use native.Mathlib.Omega.{arith}
-use Prim.Native.Nat.{_≤_, _-_, _+_, _<_}
+use Prim.Native.Nat.{_≤_, _-_}
 use lib.ListN.{length, take}
-use lib.Seq.{length-take-le}
-use Rattle.form_bytes.specs.Laid.{Puts}
-use Rattle.form_bytes.proofs.Laying.{puts-none, puts-more, puts-all}
+use Rattle.form_bytes.specs.Laid.{Wrote}
+use Rattle.form_bytes.proofs.Laying.{wrote-none, wrote-more, wrote-all}
 use borrow.Author.Needs.{needs}
 use Rattle.form_bytes.proofs.put.all.Statement.{statement}
 use Rattle.form_bytes.proofs.put.all.Tie as tie
 
 abbrev Inv-loop : tie.InvT-loop
-Inv-loop buf₀ at s i₀ p₀ buf i p = (i ≤ length s) × (length buf ≡ length buf₀) × (at + length s < 1000000000 → Puts buf₀ buf at (take i s) p)
+Inv-loop buf₀ at s i₀ p₀ buf i p = (i ≤ length s) × (length buf ≡ length buf₀) × Wrote buf₀ buf at (take i s) p
 
 abbrev μ-loop : tie.MeasureT-loop
 μ-loop buf₀ at s i₀ p₀ buf i p = length s - i
 
 loop-holds : tie.Need-loop-holds Inv-loop μ-loop
-loop-holds c = (omega arith, refl, λ h. puts-none _ _)
+loop-holds c = (omega arith, refl, wrote-none _ _)
 
 shared-slice-read-byte : tie.Need-shared-slice-read-byte Inv-loop μ-loop
 shared-slice-read-byte c = search needs
@@ -35,16 +34,14 @@ loop-again c = let v = c .before .before .before .before .before .before .loop i
     let a = c .before .before .before .before .before .before .before .before .before .args in (
       omega arith,
       omega (arith, v .inv .1),
-      λ h.
-          let F = v .inv .2 h in
-          puts-more (a .s .now) (v .i) (c .before .before .before .before .before .loop-test .taken) F (c .before .before .byte .ensures (omega (arith, F .end, length-take-le (v .i) (a .s .now) (v .inv .0), h))),
+      wrote-more (a .s .now) (v .i) (c .before .before .before .before .before .loop-test .taken) (v .inv .2) (c .before .before .byte .ensures),
     )
 
 same-length : tie.Need-same-length Inv-loop μ-loop
 same-length c = c .before .loop .inv .1
 
 returns : tie.Need-returns Inv-loop μ-loop
-returns c = λ h. puts-all (c .before .before .before .before .args .s .now) (c .before .loop .i) (c .loop-test .left) (c .before .loop .inv .2 h)
+returns c = wrote-all (c .before .before .before .before .args .s .now) (c .before .loop .i) (c .loop-test .left) (c .before .loop .inv .2)
 
 pub all-spec : {M : Type 1} → statement M
 all-spec =

@@ -1,5 +1,4 @@
-use native.Mathlib.Omega.{arith}
-use Rattle.form_bytes.proofs.Laying.{put-in, put-out}
+use Rattle.form_bytes.proofs.Laying.{byte-in, byte-past, byte-stays}
 use borrow.Author.Needs.{needs}
 use Rattle.form_bytes.proofs.put.byte.Statement.{statement}
 use Rattle.form_bytes.proofs.put.byte.Tie as tie
@@ -14,16 +13,16 @@ same-length : tie.Need-same-length
 same-length c = search needs
 
 returns : tie.Need-returns
-returns c = λ _. put-in _ _ _ (c .if1 .taken)
+returns c = byte-in _ _ _ (c .if1 .taken)
 
 add-result-2 : tie.Need-add-result-2
 add-result-2 c = search needs
 
 returns-2 : tie.Need-returns-2
-returns-2 c = λ _. put-out _ _ _ (c .before .if1 .left)
+returns-2 c = byte-past _ _ _ (c .before .if1 .left) (c .if2 .taken)
 
 returns-3 : tie.Need-returns-3
-returns-3 c = λ h. absurd (omega arith)
+returns-3 c = byte-stays _ _ _ (c .before .if1 .left) (c .if2 .left)
 
 pub byte-spec : {M : Type 1} → statement M
 byte-spec =

@@ -1,6 +1,4 @@
-use native.Mathlib.Omega.{arith}
-use Rattle.table_sections.proofs.Padding.{one-byte}
-use Rattle.form_bytes.proofs.Laying.{puts-text}
+use Rattle.form_bytes.proofs.Laying.{wrote-text}
 use borrow.Author.Needs.{needs}
 use Rattle.form_bytes.proofs.put.text.Statement.{statement}
 use Rattle.form_bytes.proofs.put.text.Tie as tie
@@ -18,8 +16,7 @@ same-length : tie.Need-same-length
 same-length c = search needs
 
 returns : tie.Need-returns
-returns c = λ h l. let F = c .before .before .before .before .before .before .byte .ensures (omega arith) in
-    puts-text (c .before .before .before .before .before .before .before .before .before .before .before .args .s .now) (one-byte (c .before .before .before .before .before .before .before .small .ensures) (omega arith)) F (c .before .before .all .ensures (omega (arith, F .end)))
+returns c = wrote-text _ (c .before .before .before .before .before .before .before .small .ensures) (c .before .before .before .before .before .before .byte .ensures) (c .before .before .all .ensures)
 
 pub text-spec : {M : Type 1} → statement M
 text-spec = tie.close (tie.spec small-requires byte-requires all-requires same-length returns)

@@ -5,7 +5,7 @@ use lib.ListN.{length}
 use Rattle.resolution.specs.Lists.{tabulate}
 use Rattle.tree_sections.specs.Held.{numberAt}
 use Rattle.form_bytes.specs.Laid.{ofSignal}
-use Rattle.form_bytes.proofs.Laying.{none-counted, count-hit, count-miss, counted-end}
+use Rattle.form_bytes.proofs.Laying.{none-counted, count-hit, count-miss, counted-end, count-over, count-all}
 use borrow.Author.Needs.{needs}
 use Rattle.form_bytes.proofs.sections.count_of.Statement.{statement}
 use Rattle.form_bytes.proofs.sections.count_of.Tie as tie
@@ -17,7 +17,7 @@ abbrev μ-loop : tie.MeasureT-loop
 μ-loop m signal s number n₀ i₀ n i = m - i
 
 returns : tie.Need-returns Inv-loop μ-loop
-returns c = λ h. absurd (omega arith)
+returns c = count-over _ _ _ _ (c .if1 .taken)
 
 loop-holds : tie.Need-loop-holds Inv-loop μ-loop
 loop-holds c = (omega arith, omega arith, none-counted (c .before .args .s) (numberAt (c .before .args .signal .now) (c .before .args .number .now)))
@@ -50,7 +50,7 @@ loop-again-2 : tie.Need-loop-again-2 Inv-loop μ-loop
 loop-again-2 c = (omega arith, omega arith, count-miss (c .before .before .before .before .before .before .args .s) (numberAt (c .before .before .before .before .before .before .args .signal .now) (c .before .before .before .before .before .before .args .number .now)) (c .before .before .before .before .loop .i) (c .before .before .before .before .loop .inv .2) (c .before .wide .ensures .0) (c .if2 .left))
 
 returns-2 : tie.Need-returns-2 Inv-loop μ-loop
-returns-2 c = λ _. counted-end (c .before .before .before .args .s) (numberAt (c .before .before .before .args .signal .now) (c .before .before .before .args .number .now)) (c .before .loop .i) (c .before .before .before .args .m) (c .before .loop .inv .0) (c .loop-test .left) (c .before .loop .inv .2)
+returns-2 c = count-all _ _ _ _ (c .before .before .if1 .left) (counted-end (c .before .before .before .args .s) (numberAt (c .before .before .before .args .signal .now) (c .before .before .before .args .number .now)) (c .before .loop .i) (c .before .before .before .args .m) (c .before .loop .inv .0) (c .loop-test .left) (c .before .loop .inv .2))
 
 pub count-of-spec : {M : Type 1} → statement M
 count-of-spec =

@@ -1,5 +1,4 @@
 use native.Mathlib.Omega.{arith}
-use Rattle.resolution.specs.Nodes.{nodes}
 use Rattle.free_names.proofs.SearchLaws.{part-same}
 use borrow.Author.Needs.{needs}
 use Rattle.free_names.proofs.search.part_taken.Statement.{statement}
@@ -21,7 +20,7 @@ is-node-requires : tie.Need-is-node-requires
 is-node-requires c κs = search needs
 
 returns : tie.Need-returns
-returns c = λ T h. part-same (nodes T) _ _ (c .before .before .before .before .z-name .result .len) _ (c .before .before .before .before .z-name .result .bytes) (c .before .before .before .before .before .before .before .pre .1) (c .before .before .before .before .z-name .ensures .0) (c .is-node .ensures T h)
+returns c = λ ns h. part-same ns _ _ (c .before .before .before .before .z-name .result .len) _ (c .before .before .before .before .z-name .result .bytes) (c .before .before .before .before .before .before .before .pre .1) (c .before .before .before .before .z-name .ensures .0) (c .is-node .ensures ns h)
 
 pub part-taken-spec : {M : Type 1} → statement M
 part-taken-spec =

@@ -5,6 +5,7 @@ use lib.ListN.{take, drop, length-set}
 use native.Mathlib.Omega.{arith}
 use Rattle.stored_table.specs.Tables.{categoryNames}
 use Rattle.sample_value.proofs.WriteLaws.{front-few, opening-length, foreign-written}
+use Rattle.free_names.proofs.SearchLaws.{foreign-held}
 use borrow.Author.Needs.{needs}
 use Rattle.sample_value.proofs.entry.foreign_entry.Statement.{statement}
 use Rattle.sample_value.proofs.entry.foreign_entry.Tie as tie
@@ -37,7 +38,7 @@ same-length : tie.Need-same-length
 same-length c = length-set (c .before .before .«open» .last .0) (c .before .before .«open» .result) 62 ∙ c .before .buf .given
 
 returns : tie.Need-returns
-returns c = foreign-written (categoryNames (c .before .before .before .before .before .before .before .before .before .before .before .args .t .now)) (c .before .before .before .before .before .before .before .before .before .before .before .args .buf .now) (c .before .before .before .before .before .before .before .before .before .before .before .args .at) (c .before .before .before .before .before .before .before .before .foreign .result .len) (c .before .before .before .before .before .before .before .before .foreign .result .bytes) (c .before .before .before .before .before .before .before .before .foreign .ensures .0 (c .before .before .before .before .before .before .before .before .before .before .before .pre .0 .holds)) (c .before .before .«open» .ensures)
+returns c = foreign-written (categoryNames (c .before .before .before .before .before .before .before .before .before .before .before .args .t .now)) (c .before .before .before .before .before .before .before .before .before .before .before .args .buf .now) (c .before .before .before .before .before .before .before .before .before .before .before .args .at) (c .before .before .before .before .before .before .before .before .foreign .result .len) (c .before .before .before .before .before .before .before .before .foreign .result .bytes) (foreign-held _ _ _ _ _ (c .before .before .before .before .before .before .before .before .foreign .ensures .0) ((c .before .before .before .before .before .before .before .before .before .before .before .pre .0 .holds) .names)) (c .before .before .«open» .ensures)
 
 pub foreign-entry-spec : {M : Type 1} → statement M
 foreign-entry-spec =

@@ -2,6 +2,7 @@ use mathlib.Core.Path.{_∙_}
 use lib.ListN.{length-set}
 use native.Mathlib.Omega.{arith}
 use Rattle.sample_value.proofs.WriteLaws.{front-few, part-written}
+use Rattle.free_names.proofs.SearchLaws.{strange-held}
 use borrow.Author.Needs.{needs}
 use Rattle.sample_value.proofs.entry.strange_part.Statement.{statement}
 use Rattle.sample_value.proofs.entry.strange_part.Tie as tie
@@ -31,7 +32,7 @@ same-length : tie.Need-same-length
 same-length c = c .before .buf .given ∙ length-set (c .before .before .before .before .before .before .before .before .before .before .before .args .buf .now) (c .before .before .before .before .before .before .before .before .before .before .before .args .at) 58
 
 returns : tie.Need-returns
-returns c = let w = part-written _ (c .before .before .before .before .before .before .before .before .before .before .before .args .buf .now) (c .before .before .before .before .before .before .before .before .before .before .before .args .at) (c .before .before .before .before .before .before .before .strange .result .len) (c .before .before .before .before .before .before .before .strange .result .bytes) (c .before .before .before .before .before .before .before .strange .ensures .0 (c .before .before .before .before .before .before .before .before .before .before .before .pre .0 .holds)) (c .before .before .put .ensures .0) (c .before .before .put .ensures .1) in
+returns c = let w = part-written _ (c .before .before .before .before .before .before .before .before .before .before .before .args .buf .now) (c .before .before .before .before .before .before .before .before .before .before .before .args .at) (c .before .before .before .before .before .before .before .strange .result .len) (c .before .before .before .before .before .before .before .strange .result .bytes) (strange-held _ _ _ _ _ _ _ (c .before .before .before .before .before .before .before .strange .ensures .0) ((c .before .before .before .before .before .before .before .before .before .before .before .pre .0 .holds) .nodes)) (c .before .before .put .ensures .0) (c .before .before .put .ensures .1) in
     (w .0, omega (arith, c .before .before .put .ensures .0, front-few (c .before .before .before .before .before .before .before .strange .result .len) (c .before .before .before .before .before .before .before .strange .result .bytes) (c .before .before .before .before .before .before .before .strange .ensures .1 .1)), w .1)
 
 pub strange-part-spec : {M : Type 1} → statement M

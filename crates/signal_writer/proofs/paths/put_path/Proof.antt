@@ -5,7 +5,7 @@ use Rattle.resolution.specs.Lists.{tabulate}
 use Rattle.table_forms.specs.Bytes.{each}
 use Rattle.form_bytes.specs.Laid.{Puts}
 use Rattle.signal_writer.specs.Urns.{partBytes, lastOf}
-use Rattle.form_bytes.proofs.Laying.{each-start, each-next, each-end}
+use Rattle.form_bytes.proofs.Laying.{each-start, each-next, each-end, puts-of}
 use Rattle.signal_writer.proofs.Ancestry.{puts-part}
 use borrow.Author.Needs.{needs}
 use Rattle.signal_writer.proofs.paths.put_path.Statement.{statement}
@@ -49,8 +49,8 @@ loop-again c = let a = c .before .before .before .before .before .before .before
     let l = c .before .before .before .before .before .before .before .before .before .before .before .loop .inv in
     let g = c .before .before .before .before .before .before .before .before .before .before .before .before .before .before .pre in
     let w = c .before .before .before .last-of .ensures in
-    let F = c .before .before .before .before .before .before .before .byte .ensures (omega (arith, l .1, l .0, g .0, g .1)) in
-    let H = c .before .before .all .ensures (omega (arith, l .1, l .0, g .0, g .1, F .end, w .1)) in
+    let F = puts-of (c .before .before .before .before .before .before .before .byte .ensures) (omega (arith, l .1, l .0, g .0, g .1)) in
+    let H = puts-of (c .before .before .all .ensures) (omega (arith, l .1, l .0, g .0, g .1, F .end, w .1)) in
     (omega arith, omega (arith, l .1, F .end, H .end, w .1), each-next (partBytes (a .t .now) (a .parent .now) (a .at .now) (a .len .now) (a .k) (a .n)) (λ (d : ℕ). d) (c .before .before .before .before .before .before .before .before .before .before .before .loop .d) (l .2) (puts-part F H (w .0 ∙ ap (lastOf (a .t .now) (a .at .now) (a .len .now)) (c .before .before .before .before .before .before .before .before .before .ancestor .ensures))) refl)
 
 same-length : tie.Need-same-length Inv-loop μ-loop

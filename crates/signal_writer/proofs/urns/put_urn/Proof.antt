@@ -2,6 +2,7 @@ use Rattle.table_sections.proofs.Padding.{one-byte}
 use native.Mathlib.Omega.{arith}
 use Rattle.signal_writer.proofs.Ancestry.{puts-urn}
 use mathlib.Core.Path.{_∙_}
+use Rattle.form_bytes.proofs.Laying.{puts-of}
 use Rattle.node_search.proofs.TextLaws.{text-in}
 use borrow.Author.Needs.{needs}
 use Rattle.signal_writer.proofs.urns.put_urn.Statement.{statement}
@@ -43,22 +44,22 @@ all-requires c κs = search needs
 put-path-requires : tie.Need-put-path-requires
 put-path-requires c κs = let g = c .before .before .before .before .before .before .before .before .before .before .before .before .before .before .before .before .before .pre in
     let w = c .before .before .before .before .name-text .ensures .1 in
-    let F = c .before .before .before .before .before .before .before .before .byte .ensures (omega (arith, g .5)) in
-    let H = c .before .before .before .all .ensures (omega (arith, w, F .end, g .5)) in
+    let F = puts-of (c .before .before .before .before .before .before .before .before .byte .ensures) (omega (arith, g .5)) in
+    let H = puts-of (c .before .before .before .all .ensures) (omega (arith, w, F .end, g .5)) in
     (g .4, omega (arith, w, F .end, H .end, g .5))
 
 same-length : tie.Need-same-length
 same-length c = let g = c .before .before .before .before .before .before .before .before .before .before .before .before .before .before .before .before .before .before .before .before .pre in
     let w = c .before .before .before .before .before .before .before .name-text .ensures .1 in
-    let F = c .before .before .before .before .before .before .before .before .before .before .before .byte .ensures (omega (arith, g .5)) in
-    c .before .before .put-path .ensures .0 .long ∙ c .before .before .before .before .before .before .all .ensures (omega (arith, w, F .end, g .5)) .long ∙ F .long
+    let F = puts-of (c .before .before .before .before .before .before .before .before .before .before .before .byte .ensures) (omega (arith, g .5)) in
+    c .before .before .put-path .ensures .0 .long ∙ puts-of (c .before .before .before .before .before .before .all .ensures) (omega (arith, w, F .end, g .5)) .long ∙ F .long
 
 returns : tie.Need-returns
 returns c = let a = c .before .before .before .before .before .before .before .before .before .before .before .before .before .before .before .before .before .before .before .before .args in
     let g = c .before .before .before .before .before .before .before .before .before .before .before .before .before .before .before .before .before .before .before .before .pre in
     let w = c .before .before .before .before .before .before .before .name-text .ensures in
-    let F = c .before .before .before .before .before .before .before .before .before .before .before .byte .ensures (omega (arith, g .5)) in
-    let H = c .before .before .before .before .before .before .all .ensures (omega (arith, w .1, F .end, g .5)) in
+    let F = puts-of (c .before .before .before .before .before .before .before .before .before .before .before .byte .ensures) (omega (arith, g .5)) in
+    let H = puts-of (c .before .before .before .before .before .before .all .ensures) (omega (arith, w .1, F .end, g .5)) in
     (puts-urn (a .t .now) (a .name-at .now) (a .name-len .now) (a .category .now) (a .parent .now) (a .at .now) (a .len .now) (a .size .now) (a .depth .now) (a .k) (one-byte (c .before .before .before .before .before .before .before .before .before .before .before .before .small .ensures) (omega (arith, g .3))) (c .before .before .before .before .before .before .before .before .before .before .before .before .before .before .wide .ensures .0) (text-in _ _ _ _ _ (w .0) (omega (arith, c .before .before .before .before .before .before .before .before .before .before .before .before .before .before .wide .ensures .0, g .2))) F H (c .before .before .put-path .ensures .0), omega (arith, F .end, H .end, w .1, c .before .before .put-path .ensures .1))
 
 pub put-urn-spec : {M : Type 1} → statement M

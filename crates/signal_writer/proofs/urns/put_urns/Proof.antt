@@ -7,7 +7,7 @@ use Rattle.table_forms.specs.Bytes.{each}
 use Rattle.tree_sections.specs.Held.{numberAt}
 use Rattle.form_bytes.specs.Laid.{Puts, ofSignal}
 use Rattle.signal_writer.specs.Urns.{urnBytes}
-use Rattle.form_bytes.proofs.Laying.{of-start, of-next, of-pass, of-end}
+use Rattle.form_bytes.proofs.Laying.{of-start, of-next, of-pass, of-end, count-is, puts-of}
 use Rattle.signal_writer.proofs.Ancestry.{ready-at}
 use borrow.Author.Needs.{needs}
 use Rattle.signal_writer.proofs.urns.put_urns.Statement.{statement}
@@ -29,7 +29,7 @@ byte-requires : tie.Need-byte-requires Inv-loop μ-loop
 byte-requires c κs = search needs
 
 loop-holds : tie.Need-loop-holds Inv-loop μ-loop
-loop-holds c = (omega arith, omega (arith, c .before .before .byte .ensures (omega arith) .end), of-start (urnBytes (c .before .before .before .before .before .before .before .before .args .t .now) (c .before .before .before .before .before .before .before .before .args .name-at .now) (c .before .before .before .before .before .before .before .before .args .name-len .now) (c .before .before .before .before .before .before .before .before .args .category .now) (c .before .before .before .before .before .before .before .before .args .parent .now) (c .before .before .before .before .before .before .before .before .args .at .now) (c .before .before .before .before .before .before .before .before .args .len .now) (c .before .before .before .before .before .before .before .before .args .size .now) (c .before .before .before .before .before .before .before .before .args .depth .now)) (c .before .before .before .before .before .before .before .before .args .s) (numberAt (c .before .before .before .before .before .before .before .before .args .signal .now) (c .before .before .before .before .before .before .before .before .args .number .now)) _ _)
+loop-holds c = (omega arith, omega (arith, puts-of (c .before .before .byte .ensures) (omega arith) .end), of-start (urnBytes (c .before .before .before .before .before .before .before .before .args .t .now) (c .before .before .before .before .before .before .before .before .args .name-at .now) (c .before .before .before .before .before .before .before .before .args .name-len .now) (c .before .before .before .before .before .before .before .before .args .category .now) (c .before .before .before .before .before .before .before .before .args .parent .now) (c .before .before .before .before .before .before .before .before .args .at .now) (c .before .before .before .before .before .before .before .before .args .len .now) (c .before .before .before .before .before .before .before .before .args .size .now) (c .before .before .before .before .before .before .before .before .args .depth .now)) (c .before .before .before .before .before .before .before .before .args .s) (numberAt (c .before .before .before .before .before .before .before .before .args .signal .now) (c .before .before .before .before .before .before .before .before .args .number .now)) _ _)
 
 element-copy-out-wide : tie.Need-element-copy-out-wide Inv-loop μ-loop
 element-copy-out-wide c = search needs
@@ -66,10 +66,10 @@ loop-again-2 : tie.Need-loop-again-2 Inv-loop μ-loop
 loop-again-2 c = (omega arith, omega (arith, c .before .before .before .before .loop .inv .1), of-pass (urnBytes (c .before .before .before .before .before .before .before .before .before .before .before .before .before .args .t .now) (c .before .before .before .before .before .before .before .before .before .before .before .before .before .args .name-at .now) (c .before .before .before .before .before .before .before .before .before .before .before .before .before .args .name-len .now) (c .before .before .before .before .before .before .before .before .before .before .before .before .before .args .category .now) (c .before .before .before .before .before .before .before .before .before .before .before .before .before .args .parent .now) (c .before .before .before .before .before .before .before .before .before .before .before .before .before .args .at .now) (c .before .before .before .before .before .before .before .before .before .before .before .before .before .args .len .now) (c .before .before .before .before .before .before .before .before .before .before .before .before .before .args .size .now) (c .before .before .before .before .before .before .before .before .before .before .before .before .before .args .depth .now)) (c .before .before .before .before .before .before .before .before .before .before .before .before .before .args .s) (numberAt (c .before .before .before .before .before .before .before .before .before .before .before .before .before .args .signal .now) (c .before .before .before .before .before .before .before .before .before .before .before .before .before .args .number .now)) (c .before .before .before .before .loop .i) (c .before .before .before .before .loop .inv .2) (c .before .wide .ensures .0) (c .if1 .left))
 
 same-length : tie.Need-same-length Inv-loop μ-loop
-same-length c = c .before .loop .inv .2 .long ∙ c .before .before .before .before .byte .ensures (omega arith) .long
+same-length c = c .before .loop .inv .2 .long ∙ puts-of (c .before .before .before .before .byte .ensures) (omega arith) .long
 
 returns : tie.Need-returns Inv-loop μ-loop
-returns c = (of-end (urnBytes (c .before .before .before .before .before .before .before .before .before .before .args .t .now) (c .before .before .before .before .before .before .before .before .before .before .args .name-at .now) (c .before .before .before .before .before .before .before .before .before .before .args .name-len .now) (c .before .before .before .before .before .before .before .before .before .before .args .category .now) (c .before .before .before .before .before .before .before .before .before .before .args .parent .now) (c .before .before .before .before .before .before .before .before .before .before .args .at .now) (c .before .before .before .before .before .before .before .before .before .before .args .len .now) (c .before .before .before .before .before .before .before .before .before .before .args .size .now) (c .before .before .before .before .before .before .before .before .before .before .args .depth .now)) (c .before .before .before .before .before .before .before .before .before .before .args .s) (numberAt (c .before .before .before .before .before .before .before .before .before .before .args .signal .now) (c .before .before .before .before .before .before .before .before .before .before .args .number .now)) (c .before .loop .i) (c .before .before .before .before .before .before .before .before .before .before .args .m) (one-byte (c .before .before .before .before .before .small .ensures) (omega (arith, c .before .before .before .before .before .before .before .count-of .ensures (c .before .before .before .before .before .before .before .before .before .before .pre .0), c .before .before .before .before .before .before .before .before .before .before .pre .2 (c .before .before .before .before .before .before .before .before .before .before .args .s)))) (c .before .before .before .before .before .before .before .count-of .ensures (c .before .before .before .before .before .before .before .before .before .before .pre .0)) (c .before .loop .inv .0) (c .loop-test .left) (c .before .before .before .before .byte .ensures (omega arith)) (c .before .loop .inv .2), omega (arith, c .before .loop .inv .1, c .before .loop .inv .0, c .before .before .before .before .before .before .before .before .before .before .pre .0))
+returns c = (of-end (urnBytes (c .before .before .before .before .before .before .before .before .before .before .args .t .now) (c .before .before .before .before .before .before .before .before .before .before .args .name-at .now) (c .before .before .before .before .before .before .before .before .before .before .args .name-len .now) (c .before .before .before .before .before .before .before .before .before .before .args .category .now) (c .before .before .before .before .before .before .before .before .before .before .args .parent .now) (c .before .before .before .before .before .before .before .before .before .before .args .at .now) (c .before .before .before .before .before .before .before .before .before .before .args .len .now) (c .before .before .before .before .before .before .before .before .before .before .args .size .now) (c .before .before .before .before .before .before .before .before .before .before .args .depth .now)) (c .before .before .before .before .before .before .before .before .before .before .args .s) (numberAt (c .before .before .before .before .before .before .before .before .before .before .args .signal .now) (c .before .before .before .before .before .before .before .before .before .before .args .number .now)) (c .before .loop .i) (c .before .before .before .before .before .before .before .before .before .before .args .m) (one-byte (c .before .before .before .before .before .small .ensures) (omega (arith, count-is _ _ _ _ (c .before .before .before .before .before .before .before .count-of .ensures) (c .before .before .before .before .before .before .before .before .before .before .pre .0), c .before .before .before .before .before .before .before .before .before .before .pre .2 (c .before .before .before .before .before .before .before .before .before .before .args .s)))) (count-is _ _ _ _ (c .before .before .before .before .before .before .before .count-of .ensures) (c .before .before .before .before .before .before .before .before .before .before .pre .0)) (c .before .loop .inv .0) (c .loop-test .left) (puts-of (c .before .before .before .before .byte .ensures) (omega arith)) (c .before .loop .inv .2), omega (arith, c .before .loop .inv .1, c .before .loop .inv .0, c .before .before .before .before .before .before .before .before .before .before .pre .0))
 
 pub put-urns-spec : {M : Type 1} → statement M
 put-urns-spec =

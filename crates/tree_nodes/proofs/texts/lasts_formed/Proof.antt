@@ -8,18 +8,22 @@ use Rattle.alert_urn.specs.Urn.{storedName}
 use Rattle.node_search.specs.Arrays.{stretch}
 use Rattle.signal_places.proofs.TestLaws.{all-start, all-next, all-fails, all-ends}
 use Rattle.node_search.proofs.TextLaws.{text-in}
+use Rattle.tree_nodes.proofs.ByArrays.{lasts-over, lasts-within}
 use borrow.Author.Needs.{needs}
 use Rattle.tree_nodes.proofs.texts.lasts_formed.Statement.{statement}
 use Rattle.tree_nodes.proofs.texts.lasts_formed.Tie as tie
 
 abbrev Inv-loop : tie.InvT-loop
-Inv-loop t n at len i₀ i = (i ≤ n) × (n ≤ 64 → all storedName (tabulate (stretch t at len) i) ≡ true)
+Inv-loop t n at len i₀ i = (i ≤ n) × (all storedName (tabulate (stretch t at len) i) ≡ true)
 
 abbrev μ-loop : tie.MeasureT-loop
 μ-loop t n at len i₀ i = n - i
 
+returns : tie.Need-returns Inv-loop μ-loop
+returns c = lasts-over _ _ _ _ (c .if1 .taken)
+
 loop-holds : tie.Need-loop-holds Inv-loop μ-loop
-loop-holds c = (omega arith, λ _. all-start _ _)
+loop-holds c = (omega arith, all-start _ _)
 
 node-text-requires : tie.Need-node-text-requires Inv-loop μ-loop
 node-text-requires c κs = search needs
@@ -34,13 +38,13 @@ loop-less : tie.Need-loop-less Inv-loop μ-loop
 loop-less c = omega arith
 
 loop-again : tie.Need-loop-again Inv-loop μ-loop
-loop-again c = (omega arith, λ h. all-next _ _ _ (c .before .before .before .before .loop .inv .1 h) (c .before .stored-name .ensures ∙ ap storedName (text-in _ _ _ _ _ (c .before .before .node-text .ensures .0) (omega arith))) (c .if1 .taken))
-
-returns : tie.Need-returns Inv-loop μ-loop
-returns c = λ h. all-fails _ _ _ _ (c .before .before .before .loop-test .taken) (c .before .stored-name .ensures ∙ ap storedName (text-in _ _ _ _ _ (c .before .before .node-text .ensures .0) (omega arith))) (c .if1 .left)
+loop-again c = (omega arith, all-next _ _ _ (c .before .before .before .before .loop .inv .1) (c .before .stored-name .ensures ∙ ap storedName (text-in _ _ _ _ _ (c .before .before .node-text .ensures .0) (omega arith))) (c .if2 .taken))
 
 returns-2 : tie.Need-returns-2 Inv-loop μ-loop
-returns-2 c = λ h. all-ends _ _ _ _ (c .before .loop .inv .1 h) (c .before .loop .inv .0) (c .loop-test .left)
+returns-2 c = lasts-within _ _ _ _ (omega arith) (all-fails _ _ _ _ (c .before .before .before .loop-test .taken) (c .before .stored-name .ensures ∙ ap storedName (text-in _ _ _ _ _ (c .before .before .node-text .ensures .0) (omega arith))) (c .if2 .left))
+
+returns-3 : tie.Need-returns-3 Inv-loop μ-loop
+returns-3 c = lasts-within _ _ _ _ (omega arith) (all-ends _ _ _ _ (c .before .loop .inv .1) (c .before .loop .inv .0) (c .loop-test .left))
 
 pub lasts-formed-spec : {M : Type 1} → statement M
 lasts-formed-spec =
@@ -48,11 +52,12 @@ lasts-formed-spec =
     (tie.spec
     Inv-loop
     μ-loop
+    returns
     loop-holds
     node-text-requires
     stored-name-requires
     add-i
     loop-less
     loop-again
-    returns
-    returns-2)
+    returns-2
+    returns-3)

@@ -1,7 +1,8 @@
 use Prim.Native.Nat.{_-_}
 use native.Mathlib.Omega.{arith}
-use lib.ListN.{length, drop, length-take, length-drop}
+use lib.ListN.{length, take, drop, length-take, length-drop}
 use Rattle.tree_writer.proofs.LastNames.{puts-node}
+use Rattle.form_bytes.proofs.Laying.{puts-of, puts-text-of}
 use borrow.Author.Needs.{needs}
 use Rattle.tree_writer.proofs.nodes.put_node.Statement.{statement}
 use Rattle.tree_writer.proofs.nodes.put_node.Tie as tie
@@ -37,9 +38,9 @@ returns : tie.Need-returns
 returns c = let a = c .before .before .before .before .before .before .before .before .before .before .before .before .before .before .before .before .before .args in
     let w = c .before .before .before .before .before .before .text-in .result .now in
     let k = c .before .before .before .before .before .last-start .result in
-    let F = c .before .before .before .before .before .before .before .before .before .before .before .before .before .byte .ensures (omega arith) in
-    let G = c .before .before .before .before .before .before .before .before .before .byte2 .ensures (omega (arith, F .end)) in
-    let H = c .before .before .text .ensures (omega (arith, F .end, G .end)) (omega (arith, length-take (length w - k) (drop k w), length-drop k w, c .before .before .before .before .before .before .text-in .ensures .1)) in
+    let F = puts-of (c .before .before .before .before .before .before .before .before .before .before .before .before .before .byte .ensures) (omega arith) in
+    let G = puts-of (c .before .before .before .before .before .before .before .before .before .byte2 .ensures) (omega (arith, F .end)) in
+    let H = puts-text-of (take (length w - k) (drop k w)) (c .before .before .text .ensures) (omega (arith, F .end, G .end)) (omega (arith, length-take (length w - k) (drop k w), length-drop k w, c .before .before .before .before .before .before .text-in .ensures .1)) in
     puts-node _ _ (a .len) (a .at) k (a .t .now) w (c .before .before .before .before .before .before .text-in .ensures .0) (c .before .before .before .before .before .before .text-in .ensures .1) (c .before .before .before .before .before .last-start .ensures .1) F G H
 
 pub put-node-spec : {M : Type 1} → statement M

@@ -6,7 +6,7 @@ use Rattle.resolution.specs.Lists.{tabulate}
 use Rattle.table_forms.specs.Bytes.{each, nodeBytes}
 use Rattle.form_bytes.specs.Laid.{Puts}
 use Rattle.tree_writer.specs.Stored.{storedNode}
-use Rattle.form_bytes.proofs.Laying.{each-start, each-next, section-from}
+use Rattle.form_bytes.proofs.Laying.{each-start, each-next, section-from, puts-of}
 use borrow.Author.Needs.{needs}
 use Rattle.tree_writer.proofs.nodes.put_nodes.Statement.{statement}
 use Rattle.tree_writer.proofs.nodes.put_nodes.Tie as tie
@@ -24,7 +24,7 @@ byte-requires : tie.Need-byte-requires Inv-loop μ-loop
 byte-requires c κs = search needs
 
 loop-holds : tie.Need-loop-holds Inv-loop μ-loop
-loop-holds c = (omega arith, omega (arith, c .before .before .byte .ensures (omega arith) .end), each-start nodeBytes (storedNode (c .before .before .before .before .before .before .before .args .t .now) (c .before .before .before .before .before .before .before .args .category .now) (c .before .before .before .before .before .before .before .args .parent .now) (c .before .before .before .before .before .before .before .args .at .now) (c .before .before .before .before .before .before .before .args .len .now)) _ _)
+loop-holds c = (omega arith, omega (arith, puts-of (c .before .before .byte .ensures) (omega arith) .end), each-start nodeBytes (storedNode (c .before .before .before .before .before .before .before .args .t .now) (c .before .before .before .before .before .before .before .args .category .now) (c .before .before .before .before .before .before .before .args .parent .now) (c .before .before .before .before .before .before .before .args .at .now) (c .before .before .before .before .before .before .before .args .len .now)) _ _)
 
 element-copy-out-put-node : tie.Need-element-copy-out-put-node Inv-loop μ-loop
 element-copy-out-put-node c = search needs
@@ -54,10 +54,10 @@ loop-again : tie.Need-loop-again Inv-loop μ-loop
 loop-again c = (omega arith, omega (arith, c .before .before .before .before .before .before .before .before .before .loop .inv .1, c .before .before .put-node .ensures .1), each-next nodeBytes (storedNode (c .before .before .before .before .before .before .before .before .before .before .before .before .before .before .before .before .before .args .t .now) (c .before .before .before .before .before .before .before .before .before .before .before .before .before .before .before .before .before .args .category .now) (c .before .before .before .before .before .before .before .before .before .before .before .before .before .before .before .before .before .args .parent .now) (c .before .before .before .before .before .before .before .before .before .before .before .before .before .before .before .before .before .args .at .now) (c .before .before .before .before .before .before .before .before .before .before .before .before .before .before .before .before .before .args .len .now)) (c .before .before .before .before .before .before .before .before .before .loop .i) (c .before .before .before .before .before .before .before .before .before .loop .inv .2) (c .before .before .put-node .ensures .0) refl)
 
 same-length : tie.Need-same-length Inv-loop μ-loop
-same-length c = c .before .loop .inv .2 .long ∙ c .before .before .before .before .byte .ensures (omega arith) .long
+same-length c = c .before .loop .inv .2 .long ∙ puts-of (c .before .before .before .before .byte .ensures) (omega arith) .long
 
 returns : tie.Need-returns Inv-loop μ-loop
-returns c = (section-from nodeBytes (storedNode (c .before .before .before .before .before .before .before .before .before .args .t .now) (c .before .before .before .before .before .before .before .before .before .args .category .now) (c .before .before .before .before .before .before .before .before .before .args .parent .now) (c .before .before .before .before .before .before .before .before .before .args .at .now) (c .before .before .before .before .before .before .before .before .before .args .len .now)) (c .before .loop .i) (c .before .before .before .before .before .before .before .before .before .args .n) (one-byte (c .before .before .before .before .before .small .ensures) (omega arith)) (c .before .loop .inv .0) (c .loop-test .left) (c .before .before .before .before .byte .ensures (omega arith)) (c .before .loop .inv .2), omega (arith, c .before .loop .inv .1, c .before .before .before .before .before .before .before .before .before .pre .0, c .before .before .before .before .before .before .before .before .before .pre .1))
+returns c = (section-from nodeBytes (storedNode (c .before .before .before .before .before .before .before .before .before .args .t .now) (c .before .before .before .before .before .before .before .before .before .args .category .now) (c .before .before .before .before .before .before .before .before .before .args .parent .now) (c .before .before .before .before .before .before .before .before .before .args .at .now) (c .before .before .before .before .before .before .before .before .before .args .len .now)) (c .before .loop .i) (c .before .before .before .before .before .before .before .before .before .args .n) (one-byte (c .before .before .before .before .before .small .ensures) (omega arith)) (c .before .loop .inv .0) (c .loop-test .left) (puts-of (c .before .before .before .before .byte .ensures) (omega arith)) (c .before .loop .inv .2), omega (arith, c .before .loop .inv .1, c .before .before .before .before .before .before .before .before .before .pre .0, c .before .before .before .before .before .before .before .before .before .pre .1))
 
 pub put-nodes-spec : {M : Type 1} → statement M
 put-nodes-spec =

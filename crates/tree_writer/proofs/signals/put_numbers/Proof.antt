@@ -6,7 +6,7 @@ use Rattle.resolution.specs.Lists.{tabulate}
 use Rattle.table_forms.specs.Bytes.{each, numberBytes}
 use Rattle.tree_sections.specs.Held.{numberAt}
 use Rattle.form_bytes.specs.Laid.{Puts, ofSignal}
-use Rattle.form_bytes.proofs.Laying.{of-start, of-next, of-pass, of-end}
+use Rattle.form_bytes.proofs.Laying.{of-start, of-next, of-pass, of-end, count-is, puts-of}
 use borrow.Author.Needs.{needs}
 use Rattle.tree_writer.proofs.signals.put_numbers.Statement.{statement}
 use Rattle.tree_writer.proofs.signals.put_numbers.Tie as tie
@@ -27,7 +27,7 @@ byte-requires : tie.Need-byte-requires Inv-loop μ-loop
 byte-requires c κs = search needs
 
 loop-holds : tie.Need-loop-holds Inv-loop μ-loop
-loop-holds c = (omega arith, omega (arith, c .before .before .byte .ensures (omega arith) .end), of-start numberBytes (c .before .before .before .before .before .before .before .args .s) (numberAt (c .before .before .before .before .before .before .before .args .signal .now) (c .before .before .before .before .before .before .before .args .number .now)) _ _)
+loop-holds c = (omega arith, omega (arith, puts-of (c .before .before .byte .ensures) (omega arith) .end), of-start numberBytes (c .before .before .before .before .before .before .before .args .s) (numberAt (c .before .before .before .before .before .before .before .args .signal .now) (c .before .before .before .before .before .before .before .args .number .now)) _ _)
 
 element-copy-out-wide : tie.Need-element-copy-out-wide Inv-loop μ-loop
 element-copy-out-wide c = search needs
@@ -48,7 +48,7 @@ loop-less : tie.Need-loop-less Inv-loop μ-loop
 loop-less c = omega arith
 
 loop-again : tie.Need-loop-again Inv-loop μ-loop
-loop-again c = (omega arith, omega (arith, c .before .before .before .before .before .before .before .before .before .loop .inv .1, c .before .before .byte2 .ensures (omega (arith, c .before .before .before .before .before .before .before .before .before .loop .inv .1, c .before .before .before .before .before .before .before .before .before .before .before .before .before .before .before .before .before .pre .0, c .before .before .before .before .before .before .before .before .before .before .before .before .before .before .before .before .before .pre .1)) .end), of-next numberBytes (c .before .before .before .before .before .before .before .before .before .before .before .before .before .before .before .before .before .args .s) (numberAt (c .before .before .before .before .before .before .before .before .before .before .before .before .before .before .before .before .before .args .signal .now) (c .before .before .before .before .before .before .before .before .before .before .before .before .before .before .before .before .before .args .number .now)) (c .before .before .before .before .before .before .before .before .before .loop .i) (c .before .before .before .before .before .before .before .before .before .loop .inv .2) (c .before .before .byte2 .ensures (omega (arith, c .before .before .before .before .before .before .before .before .before .loop .inv .1, c .before .before .before .before .before .before .before .before .before .before .before .before .before .before .before .before .before .pre .0, c .before .before .before .before .before .before .before .before .before .before .before .before .before .before .before .before .before .pre .1))) refl (c .before .before .before .before .before .before .wide .ensures .0) (c .before .before .before .before .before .if1 .taken))
+loop-again c = (omega arith, omega (arith, c .before .before .before .before .before .before .before .before .before .loop .inv .1, puts-of (c .before .before .byte2 .ensures) (omega (arith, c .before .before .before .before .before .before .before .before .before .loop .inv .1, c .before .before .before .before .before .before .before .before .before .before .before .before .before .before .before .before .before .pre .0, c .before .before .before .before .before .before .before .before .before .before .before .before .before .before .before .before .before .pre .1)) .end), of-next numberBytes (c .before .before .before .before .before .before .before .before .before .before .before .before .before .before .before .before .before .args .s) (numberAt (c .before .before .before .before .before .before .before .before .before .before .before .before .before .before .before .before .before .args .signal .now) (c .before .before .before .before .before .before .before .before .before .before .before .before .before .before .before .before .before .args .number .now)) (c .before .before .before .before .before .before .before .before .before .loop .i) (c .before .before .before .before .before .before .before .before .before .loop .inv .2) (puts-of (c .before .before .byte2 .ensures) (omega (arith, c .before .before .before .before .before .before .before .before .before .loop .inv .1, c .before .before .before .before .before .before .before .before .before .before .before .before .before .before .before .before .before .pre .0, c .before .before .before .before .before .before .before .before .before .before .before .before .before .before .before .before .before .pre .1))) refl (c .before .before .before .before .before .before .wide .ensures .0) (c .before .before .before .before .before .if1 .taken))
 
 add-i-2 : tie.Need-add-i-2 Inv-loop μ-loop
 add-i-2 c = search needs
@@ -60,10 +60,10 @@ loop-again-2 : tie.Need-loop-again-2 Inv-loop μ-loop
 loop-again-2 c = (omega arith, omega (arith, c .before .before .before .before .loop .inv .1), of-pass numberBytes (c .before .before .before .before .before .before .before .before .before .before .before .before .args .s) (numberAt (c .before .before .before .before .before .before .before .before .before .before .before .before .args .signal .now) (c .before .before .before .before .before .before .before .before .before .before .before .before .args .number .now)) (c .before .before .before .before .loop .i) (c .before .before .before .before .loop .inv .2) (c .before .wide .ensures .0) (c .if1 .left))
 
 same-length : tie.Need-same-length Inv-loop μ-loop
-same-length c = c .before .loop .inv .2 .long ∙ c .before .before .before .before .byte .ensures (omega arith) .long
+same-length c = c .before .loop .inv .2 .long ∙ puts-of (c .before .before .before .before .byte .ensures) (omega arith) .long
 
 returns : tie.Need-returns Inv-loop μ-loop
-returns c = (of-end numberBytes (c .before .before .before .before .before .before .before .before .before .args .s) (numberAt (c .before .before .before .before .before .before .before .before .before .args .signal .now) (c .before .before .before .before .before .before .before .before .before .args .number .now)) (c .before .loop .i) (c .before .before .before .before .before .before .before .before .before .args .m) (one-byte (c .before .before .before .before .before .small .ensures) (omega (arith, c .before .before .before .before .before .before .before .count-of .ensures (c .before .before .before .before .before .before .before .before .before .pre .0), c .before .before .before .before .before .before .before .before .before .pre .2 (c .before .before .before .before .before .before .before .before .before .args .s)))) (c .before .before .before .before .before .before .before .count-of .ensures (c .before .before .before .before .before .before .before .before .before .pre .0)) (c .before .loop .inv .0) (c .loop-test .left) (c .before .before .before .before .byte .ensures (omega arith)) (c .before .loop .inv .2), omega (arith, c .before .loop .inv .1, c .before .before .before .before .before .before .before .before .before .pre .0))
+returns c = (of-end numberBytes (c .before .before .before .before .before .before .before .before .before .args .s) (numberAt (c .before .before .before .before .before .before .before .before .before .args .signal .now) (c .before .before .before .before .before .before .before .before .before .args .number .now)) (c .before .loop .i) (c .before .before .before .before .before .before .before .before .before .args .m) (one-byte (c .before .before .before .before .before .small .ensures) (omega (arith, count-is _ _ _ _ (c .before .before .before .before .before .before .before .count-of .ensures) (c .before .before .before .before .before .before .before .before .before .pre .0), c .before .before .before .before .before .before .before .before .before .pre .2 (c .before .before .before .before .before .before .before .before .before .args .s)))) (count-is _ _ _ _ (c .before .before .before .before .before .before .before .count-of .ensures) (c .before .before .before .before .before .before .before .before .before .pre .0)) (c .before .loop .inv .0) (c .loop-test .left) (puts-of (c .before .before .before .before .byte .ensures) (omega arith)) (c .before .loop .inv .2), omega (arith, c .before .loop .inv .1, c .before .before .before .before .before .before .before .before .before .pre .0))
 
 pub put-numbers-spec : {M : Type 1} → statement M
 put-numbers-spec =
