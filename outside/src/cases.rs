@@ -60,7 +60,7 @@ pub const FILES: [&str; 23] = [
 
 /// Where the cases are.
 pub fn folder() -> PathBuf {
-    Path::new(env!("CARGO_MANIFEST_DIR")).join("../crates/conformance/data")
+    Path::new(env!("CARGO_MANIFEST_DIR")).join("../crates/program_conformance/data")
 }
 
 /// Which library a command asks.

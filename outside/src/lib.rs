@@ -4,7 +4,7 @@
 //! - `reference`: the rules of resolution, written down as simply as possible.
 //! - `baseline`: the same answers, written for speed, to time the proved libraries against.
 //! - `ours`: the proved libraries.
-//! - `cases`: the cases with known answers in crates/conformance/data.
+//! - `cases`: the cases with known answers in crates/program_conformance/data.
 //! - `random`: random values, tables and images, valid and damaged.
 pub mod baseline;
 pub mod cases;

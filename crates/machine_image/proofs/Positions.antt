@@ -5,11 +5,11 @@ use mathlib.Core.Option.{none, some}
 use mathlib.Core.List.{List, [], _∷_, _++_, foldl-append}
 use lib.ListN.{length, getD, List·getD-append}
 use native.Mathlib.Omega.{arith}
-use Rattle.resolution.specs.Table.{Table}
-use Rattle.resolution.specs.Direct.{Open, stepUri}
-use Rattle.resolution.specs.Nodes.{nodes}
-use Rattle.resolution.specs.Symbols.{other, symbols, symbolAt}
-use Rattle.resolution.specs.Machine.{Machine, machineState, target}
+use Rattle.theory_resolution.specs.Table.{Table}
+use Rattle.theory_resolution.specs.Direct.{Open, stepUri}
+use Rattle.theory_resolution.specs.Nodes.{nodes}
+use Rattle.theory_resolution.specs.Symbols.{other, symbols, symbolAt}
+use Rattle.theory_resolution.specs.Machine.{Machine, machineState, target}
 use Rattle.machine_image.specs.Image.{joined, kindOf, symbolBytes, storedSymbols, statusByte, stateBytes, imageOf, symbolCount, machineIn}
 use Rattle.machine_image.specs.Storable.{Storable}
 use Rattle.machine_image.specs.Refusals.{formOf}

@@ -8,12 +8,12 @@ use lib.ListN.{length, getD, take, drop, length-append, List·getD-append}
 use lib.Seq.{getD-at, getD-append-add, take-at}
 use native.Mathlib.Nat.{zero-add}
 use native.Mathlib.Omega.{arith}
-use Rattle.resolution.specs.Lists.{tabulate}
-use Rattle.resolution.specs.Table.{Table, place}
-use Rattle.resolution.specs.Direct.{Open}
-use Rattle.resolution.specs.Nodes.{nodes}
-use Rattle.resolution.specs.Symbols.{symbols}
-use Rattle.resolution.specs.Machine.{Machine, blank, machineState, target, signalAt}
+use Rattle.theory_resolution.specs.Lists.{tabulate}
+use Rattle.theory_resolution.specs.Table.{Table, place}
+use Rattle.theory_resolution.specs.Direct.{Open}
+use Rattle.theory_resolution.specs.Nodes.{nodes}
+use Rattle.theory_resolution.specs.Symbols.{symbols}
+use Rattle.theory_resolution.specs.Machine.{Machine, blank, machineState, target, signalAt}
 use Rattle.machine_image.specs.Image.{joined, storedSymbols, statusByte, statusBytes, stateBytes, imageOf, symbolCount, stateCount, signalIn, byteIn, targetIn, statusOf, statusIn, stateIn, machineIn}
 use Rattle.machine_image.specs.Refusals.{statusFormed}
 use Rattle.machine_image.specs.Storable.{Storable}

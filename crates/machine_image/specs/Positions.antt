@@ -7,12 +7,12 @@ use mathlib.Core.Bool.{true, false}
 use mathlib.Core.Option.{Option, none, some}
 use mathlib.Core.List.{List, [], _∷_, _++_, List·Memᴰ}
 use lib.ListN.{length, getD}
-use Rattle.resolution.specs.Names.{Name, Parts}
-use Rattle.resolution.specs.Table.{Urn, Table}
-use Rattle.resolution.specs.Direct.{Open, Held, Shut, start}
-use Rattle.resolution.specs.Nodes.{nodes, isNode, number}
-use Rattle.resolution.specs.Symbols.{symbols, symbolOf, symbolAt, symbolIndex, stepAt}
-use Rattle.resolution.specs.Machine.{Machine, machineState, target, Accepted, signalAt}
+use Rattle.theory_resolution.specs.Names.{Name, Parts}
+use Rattle.theory_resolution.specs.Table.{Urn, Table}
+use Rattle.theory_resolution.specs.Direct.{Open, Held, Shut, start}
+use Rattle.theory_resolution.specs.Nodes.{nodes, isNode, number}
+use Rattle.theory_resolution.specs.Symbols.{symbols, symbolOf, symbolAt, symbolIndex, stepAt}
+use Rattle.theory_resolution.specs.Machine.{Machine, machineState, target, Accepted, signalAt}
 use Rattle.machine_image.specs.Image.{imageOf, stateCount, signalIn, targetIn, machineIn}
 use Rattle.machine_image.specs.Storable.{Storable}
 use Rattle.machine_image.specs.Refusals.{byteFits, formOf, checkOf}

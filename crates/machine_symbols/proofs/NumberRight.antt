@@ -11,15 +11,15 @@ use lib.Seq.{drop-cons}
 use native.Mathlib.Omega.{arith}
 use native.Mathlib.Nat.{add-zero, zero-add}
 use native.Mathlib.Numerals.{add-one}
-use Rattle.resolution.specs.Names.{Parts, sameParts}
-use Rattle.resolution.specs.Lists.{indexBy}
-use Rattle.resolution.specs.Table.{Urn, Table, WellFormed}
-use Rattle.resolution.specs.Nodes.{nodes, number, RootOrNode, leaf, deepest}
-use Rattle.resolution.specs.Symbols.{Symbol, other, symbols, symbolAt, symbolOf, isOther, sameSymbol, symbolIndex}
-use Rattle.resolution.proofs.Lists.{same-test, mem-at}
-use Rattle.resolution.proofs.Numbers.{number-node, number-same, root-number}
-use Rattle.resolution.proofs.Deepest.{deepest-node}
-use Rattle.resolution.proofs.Symbols.{symbol-exact, symbol-known}
+use Rattle.theory_resolution.specs.Names.{Parts, sameParts}
+use Rattle.theory_resolution.specs.Lists.{indexBy}
+use Rattle.theory_resolution.specs.Table.{Urn, Table, WellFormed}
+use Rattle.theory_resolution.specs.Nodes.{nodes, number, RootOrNode, leaf, deepest}
+use Rattle.theory_resolution.specs.Symbols.{Symbol, other, symbols, symbolAt, symbolOf, isOther, sameSymbol, symbolIndex}
+use Rattle.theory_resolution.proofs.Lists.{same-test, mem-at}
+use Rattle.theory_resolution.proofs.Numbers.{number-node, number-same, root-number}
+use Rattle.theory_resolution.proofs.Deepest.{deepest-node}
+use Rattle.theory_resolution.proofs.Symbols.{symbol-exact, symbol-known}
 use Rattle.node_search.specs.Arrays.{childless, NodesIn}
 use Rattle.node_step.specs.Rows.{Numbers}
 use Rattle.machine_image.specs.Image.{kindOf}
@@ -27,7 +27,7 @@ use Rattle.machine_symbols.specs.Listed.{SymbolsIn, isTriple, tripleInde
 use Rattle.machine_symbols.proofs.SymbolLaws.{by-index}
 use Rattle.node_step.proofs.Leaves.{leaf-is}
 use Rattle.machine_symbols.proofs.StepRight.{category-at, node-at, kind-at}
-use Rattle.text_bytes.proofs.Lesser.{min-le}
+use Rattle.base_text.proofs.Lesser.{min-le}
 
 kind-same : (a b : Bool) → kindOf a ≡ kindOf b → a ≡ b
 kind-same true true e = refl

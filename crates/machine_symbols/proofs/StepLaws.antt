@@ -1,12 +1,12 @@
 -- Laws of the step at a symbol's bytes, and of the test that two states are the same.
 use Prim.Native.Nat.{ℕ, _+_, _*_, _≤_, _<_}
 use mathlib.Core.Path.{_≡_, sym, ap, _∙_}
-use mathlib.Core.Bool.{Bool, false}
+use mathlib.Core.Bool.{Bool}
 use mathlib.Core.List.{List}
 use lib.Dec.{eqb}
 use lib.ListN.{getD}
-use borrow.Author.Tests.{eq-eqb, ne-eqb, lt-ltb, le-ltb}
-use Rattle.node_step.specs.StatusByte.{samePacked, stepPacked}
+use borrow.Author.Tests.{lt-ltb, le-ltb}
+use Rattle.node_step.specs.StatusByte.{stepPacked}
 use Rattle.node_step.specs.declared.stored.Packed.{Packed}
 use Rattle.machine_symbols.specs.Steps.{nextState}
 

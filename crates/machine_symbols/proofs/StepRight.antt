@@ -8,14 +8,14 @@ use lib.ListN.{getD}
 use lib.Seq.{getD-take}
 use borrow.Author.Tests.{lt-ltb}
 use native.Mathlib.Omega.{arith}
-use Rattle.resolution.specs.Table.{Table, WellFormed}
-use Rattle.resolution.specs.Direct.{start, StateOf}
-use Rattle.resolution.specs.Direct as direct
-use Rattle.resolution.specs.Nodes.{nodes, number}
-use Rattle.resolution.specs.Symbols.{other, symbols, symbolAt, stepAt}
-use Rattle.resolution.proofs.Lists.{mem-at}
-use Rattle.resolution.proofs.Symbols.{symbol-known}
-use Rattle.resolution.proofs.TableStep.{state-valid}
+use Rattle.theory_resolution.specs.Table.{Table, WellFormed}
+use Rattle.theory_resolution.specs.Direct.{start, StateOf}
+use Rattle.theory_resolution.specs.Direct as direct
+use Rattle.theory_resolution.specs.Nodes.{nodes, number}
+use Rattle.theory_resolution.specs.Symbols.{other, symbols, symbolAt, stepAt}
+use Rattle.theory_resolution.proofs.Lists.{mem-at}
+use Rattle.theory_resolution.proofs.Symbols.{symbol-known}
+use Rattle.theory_resolution.proofs.TableStep.{state-valid}
 use Rattle.node_search.specs.Arrays.{InnerIn}
 use Rattle.node_step.specs.Rows.{Numbers}
 use Rattle.node_step.specs.Step.{coded, stepNumbers}

@@ -14,7 +14,7 @@ use native.Mathlib.Decide.{decLt, ℕ-discrete}
 use Rattle.node_search.specs.Arrays.{childless}
 use Rattle.machine_symbols.specs.declared.Symbols.{Symbols}
 use Rattle.machine_symbols.specs.Listed.{triple, nodeTriples, nodesTriples, categoryTriples, tripleLists, symbolsOf, Listed, isTriple, tripleIndex, kindFor, slot, slotAt, indexFrom, entryAt, numberFrom, symbolNumber}
-use Rattle.text_bytes.proofs.Lesser.{min-le, min-gt}
+use Rattle.base_text.proofs.Lesser.{min-le, min-gt}
 
 -- a node without children
 pub child-more : (ps : List ℕ) (d i : ℕ) → childless ps d i ≡ true → (getD ps i 0 ≡ d → ⊥) → childless ps d (i + 1) ≡ true

@@ -10,17 +10,17 @@ use lib.Seq.{take-suc, take-all}
 use native.Mathlib.Omega.{arith}
 use native.Mathlib.Numerals.{add-one}
 use native.Mathlib.Nat.{add-zero, zero-add}
-use Rattle.resolution.specs.Table.{Urn, urn, Table}
-use Rattle.resolution.specs.Nodes.{nodes, number, nodeAt, leaf}
-use Rattle.resolution.specs.Symbols.{Symbol, node, other, nodeSymbols, symbolsFrom, symbols}
-use Rattle.resolution.proofs.Numbers.{number-at, root-number}
+use Rattle.theory_resolution.specs.Table.{Urn, urn, Table}
+use Rattle.theory_resolution.specs.Nodes.{nodes, number, nodeAt, leaf}
+use Rattle.theory_resolution.specs.Symbols.{Symbol, node, other, nodeSymbols, symbolsFrom, symbols}
+use Rattle.theory_resolution.proofs.Numbers.{number-at, root-number}
 use Rattle.node_search.specs.Arrays.{NodesIn, childless}
 use Rattle.node_step.specs.Rows.{Numbers}
 use Rattle.node_step.proofs.Leaves.{leaf-is}
 use Rattle.machine_image.specs.Image.{joined, symbolBytes, storedSymbols}
 use Rattle.machine_image.proofs.Joined.{stored-length}
 use Rattle.machine_symbols.specs.Listed.{triple, nodeTriples, nodesTriples, categoryTriples, tripleLists, Listed, SymbolsIn}
-use Rattle.text_bytes.proofs.Lesser.{min-le}
+use Rattle.base_text.proofs.Lesser.{min-le}
 
 joined-append : {A : Type 0} (f : A → List ℕ) (a b : List A) → joined f (a ++ b) ≡ joined f a ++ joined f b
 unfolding joined

@@ -5,8 +5,8 @@ use mathlib.Core.Bool.{Bool, cond, _&&_}
 use mathlib.Core.List.{List, [], _∷_, _++_}
 use lib.Dec.{eqb, ltb}
 use lib.ListN.{length, getD, set, take, drop, replicate}
-use Rattle.resolution.specs.Table.{Table}
-use Rattle.resolution.specs.Symbols.{symbols}
+use Rattle.theory_resolution.specs.Table.{Table}
+use Rattle.theory_resolution.specs.Symbols.{symbols}
 use Rattle.node_search.specs.Arrays.{childless}
 use Rattle.machine_image.specs.Image.{storedSymbols}
 use Rattle.machine_symbols.specs.declared.Symbols.{Symbols}

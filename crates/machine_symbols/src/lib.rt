@@ -5,8 +5,8 @@
 //   steps.rt  the step of a symbol
 pub mod steps;
 
-use text_bytes::cut::byte;
-use text_bytes::cut::wide;
+use base_text::cut::byte;
+use base_text::cut::wide;
 ghost use mathlib.Core.Path.{_≡_};
 ghost use mathlib.Core.List.{List, [], _∷_, _++_};
 ghost use Prim.Native.Nat.{ℕ, _+_, _*_, _≤_, _<_, min};
@@ -135,8 +135,8 @@ pub fn list<'a>(
     ensures { λ r. ⌜ r ≡ symbolsOf (tripleLists (now (category .entry)) (now (parents .entry)) (min nodes 64) (min categories 8)) ⌝ }
 {
     let mut bytes = [0u8; 384];
-    let n = text_bytes::compare::at_most(nodes, 64);
-    let k = text_bytes::compare::at_most(categories, 8);
+    let n = base_text::compare::at_most(nodes, 64);
+    let k = base_text::compare::at_most(categories, 8);
     let count = push_all(category, parents, n, k, &mut bytes);
     Symbols { count, bytes }
 }
@@ -212,7 +212,7 @@ pub fn index(bytes: &[u8; 384], count: usize) -> [u8; 136]
     ensures { λ r. ⌜ r ≡ indexFrom (now (bytes .entry)) 0 (min count 128) ⌝ }
 {
     let mut index = [0u8; 136];
-    let mut k = text_bytes::compare::at_most(count, 128);
+    let mut k = base_text::compare::at_most(count, 128);
     while 0 < k {
         k -= 1;
         let s = slot_at(bytes, k);
@@ -259,8 +259,8 @@ pub fn number(
 ) -> u8
     ensures { λ r. ⌜ r ≡ symbolNumber (now (index .entry)) (now (bytes .entry)) count (now (parents .entry)) nodes c d whole ⌝ }
 {
-    let n = text_bytes::compare::at_most(nodes, 64);
-    let m = text_bytes::compare::at_most(count, 128);
+    let n = base_text::compare::at_most(nodes, 64);
+    let m = base_text::compare::at_most(count, 128);
     let kind = kind_for(parents, n, d, whole);
     let k = entry_at(index, slot(c, d, kind));
     number_from(bytes, m, c, d, kind, k)

@@ -1,6 +1,6 @@
 // The step of a symbol, on states with their statuses in one number.
+use base_text::cut::wide;
 use node_step::stored::Packed;
-use text_bytes::cut::wide;
 ghost use mathlib.Core.Path.{_≡_};
 ghost use Prim.Native.Nat.{_<_};
 ghost use Rattle.machine_symbols.specs.Steps.{nextState};

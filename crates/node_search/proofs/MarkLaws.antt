@@ -2,7 +2,7 @@
 use Prim.Native.Nat.{ℕ, zero, suc, _+_, _-_, _≤_, _<_, min}
 use mathlib.Core.Path.{_≡_, refl, ap, ap₂, sym, _∙_}
 use mathlib.Core.Bool.{Bool, true, false, cond, not, _&&_, _||_}
-use mathlib.Core.List.{List, []}
+use mathlib.Core.List.{List}
 use native.Mathlib.Omega.{arith}
 use native.Mathlib.Decide.{ℕ-discrete}
 use native.Mathlib.Numerals.{add-one}
@@ -11,10 +11,10 @@ use lib.Dec.{eqb, ltb}
 use lib.ListN.{length, getD, set, take, drop, replicate}
 use lib.Seq.{getD-set-same, getD-set-other, ext-getD}
 use borrow.Author.Tests.{eq-eqb, ne-eqb, lt-ltb, ltb-true, ltb-false}
-use Rattle.resolution.specs.Lists.{tabulate}
-use Rattle.resolution.proofs.Lists.{tabulate-length, tabulate-at}
-use Rattle.text_bytes.proofs.Fields.{byTest}
-use Rattle.text_bytes.specs.Text.{common}
+use Rattle.theory_resolution.specs.Lists.{tabulate}
+use Rattle.theory_resolution.proofs.Lists.{tabulate-length, tabulate-at}
+use Rattle.base_text.proofs.Fields.{byTest}
+use Rattle.base_text.specs.Text.{common}
 use Rattle.node_search.specs.Arrays.{stretch, lastPath, sharedOf, SharedIn, childless, innerOf}
 
 or-false : (b : Bool) → b || false ≡ b

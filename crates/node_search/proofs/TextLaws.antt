@@ -5,8 +5,8 @@ use mathlib.Core.Bool.{cond}
 use mathlib.Core.List.{List, []}
 use native.Mathlib.Omega.{arith}
 use borrow.Author.Tests.{lt-ltb, le-ltb}
-use Rattle.resolution.specs.Lists.{tabulate}
-use Rattle.resolution.proofs.Lists.{tabulate-same}
+use Rattle.theory_resolution.specs.Lists.{tabulate}
+use Rattle.theory_resolution.proofs.Lists.{tabulate-same}
 use Rattle.node_search.specs.Arrays.{stretch, textIn}
 
 -- what the code answers within the room, and past it

@@ -10,13 +10,13 @@ use lib.ListN.{length, getD, take, drop, length-drop}
 use lib.Seq.{take-all}
 use lib.Dec.{eqb, leb}
 use borrow.Author.Tests.{lt-leb, le-leb, lt-ltb, le-ltb, eq-eqb, ne-eqb, eqb-true}
-use Rattle.resolution.specs.Names.{sameName}
-use Rattle.text_bytes.specs.Text.{upTo, past, lowered}
-use Rattle.text_bytes.specs.Words.{commonNext, differAt, endsAt}
-use Rattle.alert_urn.specs.Urn.{alertUrn}
-use Rattle.text_bytes.proofs.Cases.{lowered-length, lowered-ends, lowered-upTo, lowered-past}
-use Rattle.text_bytes.proofs.Turns.{differ-next}
-use Rattle.text_bytes.proofs.Fields.{upTo-take, upTo-le, past-drop}
+use Rattle.theory_resolution.specs.Names.{sameName}
+use Rattle.base_text.specs.Text.{upTo, past, lowered}
+use Rattle.base_text.specs.Words.{commonNext, differAt, endsAt}
+use Rattle.urn_names.specs.Urn.{alertUrn}
+use Rattle.base_text.proofs.Cases.{lowered-length, lowered-ends, lowered-upTo, lowered-past}
+use Rattle.base_text.proofs.Turns.{differ-next}
+use Rattle.base_text.proofs.Fields.{upTo-take, upTo-le, past-drop}
 use Rattle.node_search.specs.declared.uses.Search.{Search}
 use Rattle.node_search.specs.declared.uses.Use.the-variants.{Skipped}
 use Rattle.node_search.specs.Arrays.{stretch}

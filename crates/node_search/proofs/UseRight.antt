@@ -13,31 +13,31 @@ use native.Mathlib.Omega.{arith}
 use native.Mathlib.Decide.{ℕ-discrete}
 use native.Mathlib.Nat.{add-zero, zero-add}
 use native.Mathlib.Numerals.{add-one}
-use Rattle.resolution.specs.Names.{Name, Parts, sameName, sameParts, below, Above}
-use Rattle.resolution.proofs.Names.{below-to, below-self}
-use Rattle.resolution.specs.Lists.{memberBy, indexBy}
-use Rattle.resolution.proofs.Lists.{member-of, mem-at, index-member}
-use Rattle.resolution.proofs.Names.{name-exact}
-use Rattle.resolution.specs.Table.{Urn, urn, Table}
-use Rattle.resolution.specs.Nodes.{sameUrn, nodes, isNode, RootOrNode, hasUnder, isRoot, leaf, deepest}
-use Rattle.resolution.proofs.Nodes.{urn-exact}
-use Rattle.resolution.specs.Nodes.{number, nodeAt}
-use Rattle.resolution.proofs.Numbers.{number-node, number-at, root-number, ancestor-le}
-use Rattle.resolution.proofs.Deepest.{deep-above, deep-most, leaf-ends, deepest-node}
-use Rattle.text_bytes.specs.Text.{upTo, past, fields, textOf, someBelow, covers, common, comparedBytes, lowered}
-use Rattle.text_bytes.specs.Words.{commonNext}
-use Rattle.alert_urn.specs.Urn.{alertUrn}
-use Rattle.text_bytes.proofs.Fields.{byTest, fields-first, same-fields, text-fields}
-use Rattle.text_bytes.proofs.Cases.{lowered-drop, lowered-twice}
-use Rattle.text_bytes.proofs.LetterCase.{lowered-exactly}
-use Rattle.alert_urn.proofs.Cases.{alert-case}
-use Rattle.text_bytes.proofs.Turns.{covers-level, covers-not, covers-ends, common-three, common-le, next-lesser}
+use Rattle.theory_resolution.specs.Names.{Name, Parts, sameName, sameParts, below, Above}
+use Rattle.theory_resolution.proofs.Names.{below-to, below-self}
+use Rattle.theory_resolution.specs.Lists.{memberBy, indexBy}
+use Rattle.theory_resolution.proofs.Lists.{member-of, mem-at, index-member}
+use Rattle.theory_resolution.proofs.Names.{name-exact}
+use Rattle.theory_resolution.specs.Table.{Urn, urn, Table}
+use Rattle.theory_resolution.specs.Nodes.{sameUrn, nodes, isNode, RootOrNode, hasUnder, isRoot, leaf, deepest}
+use Rattle.theory_resolution.proofs.Nodes.{urn-exact}
+use Rattle.theory_resolution.specs.Nodes.{number, nodeAt}
+use Rattle.theory_resolution.proofs.Numbers.{number-node, number-at, root-number, ancestor-le}
+use Rattle.theory_resolution.proofs.Deepest.{deep-above, deep-most, leaf-ends, deepest-node}
+use Rattle.base_text.specs.Text.{upTo, past, fields, textOf, someBelow, covers, common, comparedBytes, lowered}
+use Rattle.base_text.specs.Words.{commonNext}
+use Rattle.urn_names.specs.Urn.{alertUrn}
+use Rattle.base_text.proofs.Fields.{byTest, fields-first, same-fields, text-fields}
+use Rattle.base_text.proofs.Cases.{lowered-drop, lowered-twice}
+use Rattle.base_text.proofs.LetterCase.{lowered-exactly}
+use Rattle.urn_names.proofs.Cases.{alert-case}
+use Rattle.base_text.proofs.Turns.{covers-level, covers-not, covers-ends, common-three, common-le, next-lesser}
 use Rattle.node_search.specs.declared.uses.Search.{Search}
 use Rattle.node_search.specs.declared.uses.Use.the-variants.{Skipped, Used}
 use Rattle.node_search.specs.Uses.{usedUrn, CaseIgnored, comparedOver, useOf}
 use Rattle.node_search.specs.Search.{findName, nothing, coversBy, metWith, countedIn, lookBy, lookAt, searchFrom, foundIn, usedBy, usesOf}
 use Rattle.node_search.specs.Arrays.{stretch, NamesIn, NodesIn, lastPath, SharedIn, InnerIn}
-use Rattle.text_bytes.proofs.Lesser.{min-le}
+use Rattle.base_text.proofs.Lesser.{min-le}
 
 -- the names
 names-right : (t s na nl : List ℕ) (ns : List Name) (i : ℕ)

@@ -6,10 +6,10 @@ use mathlib.Core.Bool.{Bool, true, false, cond, not, _&&_}
 use mathlib.Core.List.{List, []}
 use lib.Dec.{eqb, ltb}
 use lib.ListN.{getD, length, take, drop}
-use Rattle.resolution.specs.Names.{Name}
-use Rattle.resolution.specs.Table.{Table}
-use Rattle.resolution.specs.Nodes.{nodes, nodeAt, hasUnder}
-use Rattle.text_bytes.specs.Text.{fields, common}
+use Rattle.theory_resolution.specs.Names.{Name}
+use Rattle.theory_resolution.specs.Table.{Table}
+use Rattle.theory_resolution.specs.Nodes.{nodes, nodeAt, hasUnder}
+use Rattle.base_text.specs.Text.{fields, common}
 
 -- the bytes of t at the i-th of the places in `at`, as many as `len` says
 abbrev pub stretch : List ℕ → List ℕ → List ℕ → ℕ → List ℕ

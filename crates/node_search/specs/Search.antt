@@ -4,10 +4,10 @@ use mathlib.Core.Bool.{Bool, false, cond, not, _&&_}
 use mathlib.Core.List.{List}
 use lib.ListN.{length, getD, drop}
 use lib.Dec.{eqb, ltb, leb}
-use Rattle.resolution.specs.Names.{sameName}
-use Rattle.text_bytes.specs.Text.{lowered}
-use Rattle.text_bytes.specs.Words.{commonNext, endsAt}
-use Rattle.alert_urn.specs.Urn.{alertUrn, categoryOf, pathOf}
+use Rattle.theory_resolution.specs.Names.{sameName}
+use Rattle.base_text.specs.Text.{lowered}
+use Rattle.base_text.specs.Words.{commonNext, endsAt}
+use Rattle.urn_names.specs.Urn.{alertUrn, categoryOf, pathOf}
 use Rattle.node_search.specs.Arrays.{stretch}
 use Rattle.node_search.specs.declared.uses.Search.{Search}
 use Rattle.node_search.specs.declared.uses.Use.{Use}

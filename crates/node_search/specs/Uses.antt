@@ -7,13 +7,13 @@ use mathlib.Core.Option.{Option, none, some}
 use mathlib.Core.List.{List, [], _∷_}
 use lib.ListN.{drop}
 use lib.Dec.{eqb}
-use Rattle.resolution.specs.Names.{Name, Parts, sameName, sameParts, below}
-use Rattle.resolution.specs.Lists.{memberBy, indexBy}
-use Rattle.resolution.specs.Table.{Urn, urn, Table}
-use Rattle.resolution.specs.Nodes.{nodes, number, leaf, deepest}
-use Rattle.text_bytes.specs.Text.{fields, textOf, someBelow, comparedBytes, lowered}
-use Rattle.text_bytes.specs.LetterCase.{SameButCase}
-use Rattle.alert_urn.specs.Urn.{alertUrn, categoryOf, pathOf}
+use Rattle.theory_resolution.specs.Names.{Name, Parts, sameName, sameParts, below}
+use Rattle.theory_resolution.specs.Lists.{memberBy, indexBy}
+use Rattle.theory_resolution.specs.Table.{Urn, urn, Table}
+use Rattle.theory_resolution.specs.Nodes.{nodes, number, leaf, deepest}
+use Rattle.base_text.specs.Text.{fields, textOf, someBelow, comparedBytes, lowered}
+use Rattle.base_text.specs.LetterCase.{SameButCase}
+use Rattle.urn_names.specs.Urn.{alertUrn, categoryOf, pathOf}
 use Rattle.node_search.specs.declared.uses.Use.{Use}
 use Rattle.node_search.specs.declared.uses.Use.the-variants.{Skipped, Used}
 

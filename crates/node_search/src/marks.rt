@@ -6,7 +6,7 @@ ghost use mathlib.Core.Bool.{false, not, _||_};
 ghost use Prim.Native.Nat.{ℕ, _+_, _≤_, _<_, min};
 ghost use lib.Dec.{eqb};
 ghost use lib.ListN.{length, getD};
-ghost use Rattle.resolution.specs.Lists.{tabulate};
+ghost use Rattle.theory_resolution.specs.Lists.{tabulate};
 ghost use Rattle.node_search.specs.Arrays.{lastPath, sharedOf, SharedIn, childless, innerOf};
 
 pub struct Marks {
@@ -24,7 +24,7 @@ fn mark(p: u8, inner: &mut [bool; 64])
         return;
     }
     if p <= 64 {
-        let i = text_bytes::cut::wide(p) - 1;
+        let i = base_text::cut::wide(p) - 1;
         inner[i] = true;
     }
 }
@@ -62,7 +62,7 @@ fn path_before<'a, 'b>(
         }
         j = k;
     }
-    text_bytes::cut::part(t, 0, 0)
+    base_text::cut::part(t, 0, 0)
 }
 
 // A number below 256 as a byte.
@@ -90,7 +90,7 @@ fn share_paths<'a>(
     while i < n {
         let before = path_before(t, category[i], i, category, at, len);
         let path = node_text(t, at, len, i);
-        let k = text_bytes::compare::common_from(before, path, 0);
+        let k = base_text::compare::common_from(before, path, 0);
         shared[i] = small(k);
         i += 1;
     }
@@ -108,7 +108,7 @@ pub fn of_nodes<'a>(
     ensures { λ r. ⌜ (r .shared ≡ tabulate (sharedOf (now (t .entry)) (now (category .entry)) (now (at .entry)) (now (len .entry)) (min nodes 64)) 64)
         × (r .inner ≡ tabulate (innerOf (now (parent .entry)) (min nodes 64)) 64) ⌝ }
 {
-    let n = text_bytes::compare::at_most(nodes, 64);
+    let n = base_text::compare::at_most(nodes, 64);
     let mut shared = [0u8; 64];
     share_paths(t, n, category, at, len, &mut shared);
     let mut inner = [false; 64];

@@ -1,5 +1,5 @@
 // The text at an index, of those that the arrays hold as places and lengths in the table's bytes; no bytes past the arrays' end.
-use text_bytes::cut::text_in;
+use base_text::cut::text_in;
 ghost use mathlib.Core.Path.{_≡_};
 ghost use Prim.Native.Nat.{_≤_};
 ghost use lib.ListN.{length};

@@ -5,8 +5,8 @@ ghost use mathlib.Core.Bool.{true, cond, _&&_};
 ghost use Prim.Native.Nat.{_+_, _*_, _≤_, _<_, min};
 ghost use lib.Dec.{eqb, leb};
 ghost use lib.ListN.{length};
-ghost use Rattle.text_bytes.specs.Text.{lowered};
-ghost use Rattle.text_bytes.specs.Words.{differAt, endsAt};
+ghost use Rattle.base_text.specs.Text.{lowered};
+ghost use Rattle.base_text.specs.Words.{differAt, endsAt};
 ghost use Rattle.node_search.specs.Search.{findName, nothing, metWith, countedIn, lookBy, searchFrom, usesOf};
 
 // What a URI is to the table: skipped, or used, with its deepest node, or the root, whether it is that node, and the
@@ -44,7 +44,7 @@ fn find_name<'a>(
 {
     let mut i = 0;
     while i < n {
-        if text_bytes::letter_case::same_lowered(s, name_text(t, name_at, name_len, i)) {
+        if base_text::letter_case::same_lowered(s, name_text(t, name_at, name_len, i)) {
             return i;
         }
         i += 1;
@@ -59,7 +59,7 @@ fn covers_by(all: usize, w: &[u8], n: usize) -> bool
     if n < all {
         return false;
     }
-    text_bytes::cut::ends_at(w, all)
+    base_text::cut::ends_at(w, all)
 }
 
 // How many bytes are compared of a path of so many bytes, n of them in common with another.
@@ -131,7 +131,7 @@ fn departs(p: &[u8], w: &[u8], same: usize, l: usize) -> bool
     ensures { λ r. ⌜ r ≡ (eqb same l && differAt (now (p .entry)) (lowered (now (w .entry))) l) ⌝ }
 {
     if same == l {
-        return text_bytes::letter_case::differ_at(p, w, l);
+        return base_text::letter_case::differ_at(p, w, l);
     }
     false
 }
@@ -160,7 +160,7 @@ fn look<'a>(
     if departs(p, w, s.same, l) {
         return counted(s);
     }
-    let n = text_bytes::letter_case::common_lowered_next(p, w, small, s.same, l);
+    let n = base_text::letter_case::common_lowered_next(p, w, small, s.same, l);
     let k = i as u8 + 1;
     met(p, w, inner[i], k, n, s)
 }
@@ -190,11 +190,11 @@ fn search_nodes<'a>(
         same: 0,
         compared: 0,
     };
-    let small = text_bytes::letter_case::is_lowered(w);
+    let small = base_text::letter_case::is_lowered(w);
     let mut i = 0;
     while i < n {
         if category[i] == c {
-            let l = text_bytes::cut::wide(shared[i]);
+            let l = base_text::cut::wide(shared[i]);
             s = look(t, at, len, inner, w, small, i, l, s);
             if s.ends {
                 return s;
@@ -224,23 +224,23 @@ pub fn uses<'a>(
         (now (category .entry)) (now (at .entry)) (now (len .entry)) (now (shared .entry)) (now (inner .entry)) nodes (now (uri .entry))
         ⌝ }
 {
-    if alert_urn::urn::is_alert_urn(uri) {
+    if urn_names::urn::is_alert_urn(uri) {
         let n = uri.len();
-        let s = text_bytes::cut::part(uri, 10, n);
-        let colon = text_bytes::cut::find(s, 58);
-        let name = text_bytes::cut::part(s, 0, colon);
+        let s = base_text::cut::part(uri, 10, n);
+        let colon = base_text::cut::find(s, 58);
+        let name = base_text::cut::part(s, 0, colon);
         let c = find_name(
             t,
             name_at,
             name_len,
             name,
-            text_bytes::compare::at_most(categories, 8),
+            base_text::compare::at_most(categories, 8),
         );
         if c < 8 {
             let found = c as u8;
             let path = colon + 1;
-            let w = text_bytes::cut::part(s, path, n);
-            let most = text_bytes::compare::at_most(nodes, 64);
+            let w = base_text::cut::part(s, path, n);
+            let most = base_text::compare::at_most(nodes, 64);
             let e = search_nodes(t, category, at, len, shared, inner, found, w, most);
             return Use::Used {
                 category: found,

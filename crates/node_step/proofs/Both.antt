@@ -9,19 +9,19 @@ use lib.ListN.{length, getD, replicate, List·getD-eq-default}
 use native.Mathlib.Omega.{arith}
 use native.Mathlib.Nat.{zero-add}
 use native.Mathlib.Decide.{decLt}
-use Rattle.resolution.specs.Names.{Parts, sameParts, properAncestor}
-use Rattle.resolution.specs.Table.{Urn, Table, Row, rowOf, find, WellFormed}
-use Rattle.resolution.specs.Nodes.{nodes, isNode, RootOrNode, isInner, deepest}
-use Rattle.resolution.proofs.TableStep.{table-laws}
-use Rattle.resolution.specs.Nodes.{number}
-use Rattle.resolution.proofs.Numbers.{number-node, number-same}
-use Rattle.resolution.specs.Direct.{envBy, envOf, start, step, statusFits, StateOf, sameState}
-use Rattle.resolution.proofs.Lists.{same-test}
-use Rattle.resolution.proofs.Direct.{state-exact}
-use Rattle.resolution.specs.Direct as direct
-use Rattle.resolution.specs.Symbols.{Symbol, stepsAs}
-use Rattle.resolution.proofs.Step.{EnvLaws, Valid}
-use Rattle.resolution.proofs.NodeStep.{direct-at-node, symbol-at-node}
+use Rattle.theory_resolution.specs.Names.{Parts, sameParts, properAncestor}
+use Rattle.theory_resolution.specs.Table.{Urn, Table, Row, rowOf, find, WellFormed}
+use Rattle.theory_resolution.specs.Nodes.{nodes, isNode, RootOrNode, isInner, deepest}
+use Rattle.theory_resolution.proofs.TableStep.{table-laws}
+use Rattle.theory_resolution.specs.Nodes.{number}
+use Rattle.theory_resolution.proofs.Numbers.{number-node, number-same}
+use Rattle.theory_resolution.specs.Direct.{envBy, envOf, start, step, statusFits, StateOf, sameState}
+use Rattle.theory_resolution.proofs.Lists.{same-test}
+use Rattle.theory_resolution.proofs.Direct.{state-exact}
+use Rattle.theory_resolution.specs.Direct as direct
+use Rattle.theory_resolution.specs.Symbols.{Symbol, stepsAs}
+use Rattle.theory_resolution.proofs.Step.{EnvLaws, Valid}
+use Rattle.theory_resolution.proofs.NodeStep.{direct-at-node, symbol-at-node}
 use Rattle.node_step.specs.Step.{codedStatus, progressFrom, coded, statusIn, stepNumbers}
 use Rattle.node_search.specs.Arrays.{InnerIn}
 use Rattle.node_step.specs.Rows.{Numbers}
@@ -31,7 +31,7 @@ use Rattle.node_step.proofs.ByteLaws.{Numbered, pack-again}
 use Rattle.node_step.proofs.PackedStep.{packed-exact}
 use Rattle.node_step.proofs.SearchedBy.{SearchedBy, table-searched}
 use Rattle.node_step.proofs.StepRight.{step-right}
-use Rattle.resolution.proofs.Deepest.{deepest-node, inner-node}
+use Rattle.theory_resolution.proofs.Deepest.{deepest-node, inner-node}
 use Rattle.node_step.specs.declared.Status.the-variants.{Open}
 use Rattle.node_step.specs.declared.State.{State}
 

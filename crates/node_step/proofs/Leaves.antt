@@ -10,14 +10,14 @@ use lib.ListN.{length, getD, length-append}
 use native.Mathlib.Omega.{arith}
 use native.Mathlib.Decide.{ℕ-discrete}
 use native.Mathlib.Numerals.{add-one}
-use Rattle.resolution.specs.Names.{Name, Parts}
-use Rattle.resolution.specs.Table.{Urn, urn, Table}
-use Rattle.resolution.specs.Nodes.{sameUrn, nodes, isNode, number, nodeAt, RootOrNode, hasUnder, isRoot, leaf}
-use Rattle.resolution.proofs.Lists.{same-test, mem-at, member-of}
-use Rattle.resolution.proofs.Names.{snoc-view}
-use Rattle.resolution.proofs.Nodes.{urn-exact, root-free}
-use Rattle.resolution.proofs.Numbers.{number-node, number-positive, number-at, ancestor-node}
-use Rattle.resolution.proofs.Deepest.{under-to, leaf-ends}
+use Rattle.theory_resolution.specs.Names.{Name, Parts}
+use Rattle.theory_resolution.specs.Table.{Urn, urn, Table}
+use Rattle.theory_resolution.specs.Nodes.{sameUrn, nodes, isNode, number, nodeAt, RootOrNode, hasUnder, isRoot, leaf}
+use Rattle.theory_resolution.proofs.Lists.{same-test, mem-at, member-of}
+use Rattle.theory_resolution.proofs.Names.{snoc-view}
+use Rattle.theory_resolution.proofs.Nodes.{urn-exact, root-free}
+use Rattle.theory_resolution.proofs.Numbers.{number-node, number-positive, number-at, ancestor-node}
+use Rattle.theory_resolution.proofs.Deepest.{under-to, leaf-ends}
 use Rattle.node_search.specs.Arrays.{NodesIn, childless}
 use Rattle.node_step.specs.Rows.{Numbers}
 

@@ -12,7 +12,7 @@ use borrow.Author.Tests.{eqb-true, eq-eqb, ne-eqb, le-leb, lt-leb, lt-ltb, le-lt
 use native.Mathlib.Nat.{zero-add, div-div-eq-div-mul, pow-succ', one-le-pow}
 use native.Mathlib.Decide.{ℕ-discrete}
 use native.Mathlib.Omega.{arith}
-use Rattle.resolution.proofs.Lists.{Exact}
+use Rattle.theory_resolution.proofs.Lists.{Exact}
 use Rattle.node_step.specs.declared.Status.{Status}
 use Rattle.node_step.specs.declared.Status.the-variants.{Open}
 use Rattle.node_step.specs.declared.Progress.{Progress}

@@ -1,7 +1,6 @@
 -- Rows in which signals are searched, by node numbers, and the finder of the theory that searches as they do.
-use Prim.Native.Nat.{ℕ, zero, suc, _+_, _≤_, _<_}
-use mathlib.Core.Path.{_≡_, refl, sym, ap, ap₂, _∙_}
-use mathlib.Core.Bool.{Bool, true, false, cond}
+use Prim.Native.Nat.{ℕ, _+_, _≤_, _<_}
+use mathlib.Core.Path.{_≡_, sym, ap, _∙_}
 use mathlib.Core.Option.{Option, some}
 use mathlib.Core.List.{List, []}
 use lib.Dec.{eqb}
@@ -9,12 +8,12 @@ use borrow.Author.Tests.{eqb-true, eq-eqb, lt-ltb}
 use lib.ListN.{length, getD}
 use native.Mathlib.Omega.{arith}
 use native.Mathlib.Nat.{zero-add}
-use Rattle.resolution.specs.Table.{Table, Row, rowOf, sameRow, find}
-use Rattle.resolution.specs.Nodes.{nodes}
-use Rattle.resolution.proofs.Names.{row-exact}
-use Rattle.resolution.proofs.Table.{row-length, find-below}
-use Rattle.resolution.proofs.Nodes.{row-nodes}
-use Rattle.resolution.proofs.Lists.{same-test}
+use Rattle.theory_resolution.specs.Table.{Table, Row, rowOf, sameRow, find}
+use Rattle.theory_resolution.specs.Nodes.{nodes}
+use Rattle.theory_resolution.proofs.Names.{row-exact}
+use Rattle.theory_resolution.proofs.Table.{row-length, find-below}
+use Rattle.theory_resolution.proofs.Nodes.{row-nodes}
+use Rattle.theory_resolution.proofs.Lists.{same-test}
 use Rattle.node_step.specs.Step.{rowAt, findRow}
 use Rattle.node_step.specs.Rows.{pack, numbersFrom, Numbers}
 use Rattle.node_step.proofs.PackedLaws.{pack-same}

@@ -10,16 +10,16 @@ use borrow.Author.Tests.{eqb-true, eq-eqb, ne-eqb, le-leb}
 use lib.ListN.{length, getD, set, length-append, length-set}
 use native.Mathlib.Omega.{arith}
 use native.Mathlib.Nat.{zero-add}
-use Rattle.resolution.specs.Names.{Name, Parts, below, candidates}
-use Rattle.resolution.proofs.Names.{below-self, snoc-view, candidates-snoc, someBelow, above-none, above-snoc}
-use Rattle.resolution.specs.Table.{Table, Row, rowOf, WellFormed}
-use Rattle.resolution.proofs.Table.{row-length}
-use Rattle.resolution.specs.Nodes.{nodes, isNode, RootOrNode, number, nodeAt}
-use Rattle.resolution.proofs.Numbers.{number-node, root-number, number-same, parent-node}
-use Rattle.resolution.specs.Direct.{Env, envBy, found, firstHit}
-use Rattle.resolution.specs.Direct as direct
-use Rattle.resolution.proofs.Lists.{getD-set-cases}
-use Rattle.resolution.proofs.Step.{EnvLaws}
+use Rattle.theory_resolution.specs.Names.{Name, Parts, below, candidates}
+use Rattle.theory_resolution.proofs.Names.{below-self, snoc-view, candidates-snoc, someBelow, above-none, above-snoc}
+use Rattle.theory_resolution.specs.Table.{Table, Row, rowOf, WellFormed}
+use Rattle.theory_resolution.proofs.Table.{row-length}
+use Rattle.theory_resolution.specs.Nodes.{nodes, isNode, RootOrNode, number, nodeAt}
+use Rattle.theory_resolution.proofs.Numbers.{number-node, root-number, number-same, parent-node}
+use Rattle.theory_resolution.specs.Direct.{Env, envBy, found, firstHit}
+use Rattle.theory_resolution.specs.Direct as direct
+use Rattle.theory_resolution.proofs.Lists.{getD-set-cases}
+use Rattle.theory_resolution.proofs.Step.{EnvLaws}
 use Rattle.node_step.specs.declared.Hit.{Hit}
 use Rattle.node_step.specs.Step.{digit, put, parentOf, reaches, findRow, noHit, hitAt, seek}
 use Rattle.node_step.specs.Rows.{pack, numbersFrom, Numbers}

@@ -9,18 +9,18 @@ use borrow.Author.Tests.{eq-eqb, ne-eqb, le-leb, lt-leb}
 use lib.ListN.{length, getD, set, length-append}
 use native.Mathlib.Omega.{arith}
 use native.Mathlib.Nat.{zero-add}
-use Rattle.resolution.specs.Names.{Name, Parts, sameParts, below, somePart, properAncestor, Above, candidates}
-use Rattle.resolution.proofs.Names.{parts-exact, below-to, proper-above, above-trans, someBelow, some-above, above-some}
-use Rattle.resolution.specs.Table.{Table, Row, rowOf, WellFormed}
-use Rattle.resolution.specs.Nodes.{nodes, isNode, RootOrNode, hasUnder, isInner, number}
-use Rattle.resolution.proofs.Nodes.{root-free, row-nodes}
-use Rattle.resolution.proofs.Deepest.{inner-node}
-use Rattle.resolution.proofs.Numbers.{number-node, root-number, number-test}
-use Rattle.resolution.specs.Direct.{Env, envBy, firstHit, heldIf, openOr, statusFits}
-use Rattle.resolution.specs.Direct as direct
-use Rattle.resolution.proofs.Direct.{search-hit}
-use Rattle.resolution.proofs.Step.{EnvLaws, Valid, hit-node}
-use Rattle.resolution.specs.NodeStep.{nodeUnder, nodeTakes, nodeMove, nodeIfTaken, nodeStep}
+use Rattle.theory_resolution.specs.Names.{Name, Parts, sameParts, below, somePart, properAncestor, Above, candidates}
+use Rattle.theory_resolution.proofs.Names.{parts-exact, below-to, proper-above, above-trans, someBelow, some-above, above-some}
+use Rattle.theory_resolution.specs.Table.{Table, Row, rowOf, WellFormed}
+use Rattle.theory_resolution.specs.Nodes.{nodes, isNode, RootOrNode, hasUnder, isInner, number}
+use Rattle.theory_resolution.proofs.Nodes.{root-free, row-nodes}
+use Rattle.theory_resolution.proofs.Deepest.{inner-node}
+use Rattle.theory_resolution.proofs.Numbers.{number-node, root-number, number-test}
+use Rattle.theory_resolution.specs.Direct.{Env, envBy, firstHit, heldIf, openOr, statusFits}
+use Rattle.theory_resolution.specs.Direct as direct
+use Rattle.theory_resolution.proofs.Direct.{search-hit}
+use Rattle.theory_resolution.proofs.Step.{EnvLaws, Valid, hit-node}
+use Rattle.theory_resolution.specs.NodeStep.{nodeUnder, nodeTakes, nodeMove, nodeIfTaken, nodeStep}
 use Rattle.node_step.specs.declared.Status.{Status}
 use Rattle.node_step.specs.declared.Status.the-variants.{Open, Held, Shut}
 use Rattle.node_step.specs.declared.State.{State}
@@ -31,7 +31,7 @@ use Rattle.node_step.specs.Rows.{pack, numbersFrom, Numbers}
 use Rattle.node_step.proofs.ProgressLaws.{progress-at, progress-set}
 use Rattle.node_step.proofs.SearchedBy.{SearchedBy, rows-own}
 use Rattle.node_step.proofs.SeekRight.{reach-right, wide, digit-is, hitOf, seek-right}
-use Rattle.text_bytes.proofs.Lesser.{min-le}
+use Rattle.base_text.proofs.Lesser.{min-le}
 
 -- what has a proper extension of p has p above it
 some-under : (u : Option Parts) (whole : Bool) → nodeUnder u whole ≡ true → someBelow u ≡ true

@@ -1,6 +1,6 @@
 -- The tries by numbers are the theory's.
-use Prim.Native.Nat.{ℕ, zero, suc, _+_, _-_, _<_}
-use mathlib.Core.Path.{_≡_, refl, sym, ap, ap₂, _∙_}
+use Prim.Native.Nat.{ℕ, zero, suc, _+_, _<_}
+use mathlib.Core.Path.{_≡_, refl, sym, ap, _∙_}
 use mathlib.Core.Logic.{_⊎_, inl, inr}
 use mathlib.Core.Bool.{Bool, true, false, cond, false≢true}
 use mathlib.Core.Option.{Option, none, some}
@@ -9,21 +9,21 @@ use lib.Dec.{eqb}
 use borrow.Author.Tests.{eq-eqb, ne-eqb, lt-leb}
 use lib.ListN.{length, getD, length-append}
 use native.Mathlib.Omega.{arith}
-use Rattle.resolution.specs.Names.{Name, Parts, sameParts, below, candidates}
-use Rattle.resolution.proofs.Names.{below-to, snoc-view}
-use Rattle.resolution.specs.Table.{Urn, Table, rowOf, find, WellFormed}
-use Rattle.resolution.specs.Nodes.{nodes, number, deepest, RootOrNode}
-use Rattle.resolution.proofs.Deepest.{deepest-node}
-use Rattle.resolution.proofs.Numbers.{root-number}
-use Rattle.resolution.specs.Direct as direct
-use Rattle.resolution.specs.Direct.{envOf, firstHit, StateOf}
-use Rattle.resolution.proofs.Direct.{search-hit}
-use Rattle.resolution.proofs.Step.{hit-node}
-use Rattle.resolution.proofs.TableStep.{table-laws, state-valid}
-use Rattle.resolution.proofs.Theorems.{direct-law}
-use Rattle.resolution.specs.NodeStep.{nodeTakes}
-use Rattle.resolution.specs.Tries.{triesIfTaken, nodeTries, tries}
-use Rattle.resolution.proofs.Tries.{tries-found, tries-at-node}
+use Rattle.theory_resolution.specs.Names.{Name, Parts, sameParts, below, candidates}
+use Rattle.theory_resolution.proofs.Names.{below-to, snoc-view}
+use Rattle.theory_resolution.specs.Table.{Urn, Table, rowOf, find, WellFormed}
+use Rattle.theory_resolution.specs.Nodes.{nodes, number, deepest, RootOrNode}
+use Rattle.theory_resolution.proofs.Deepest.{deepest-node}
+use Rattle.theory_resolution.proofs.Numbers.{root-number}
+use Rattle.theory_resolution.specs.Direct as direct
+use Rattle.theory_resolution.specs.Direct.{envOf, StateOf}
+use Rattle.theory_resolution.proofs.Direct.{search-hit}
+use Rattle.theory_resolution.proofs.Step.{hit-node}
+use Rattle.theory_resolution.proofs.TableStep.{table-laws, state-valid}
+use Rattle.theory_resolution.proofs.Theorems.{direct-law}
+use Rattle.theory_resolution.specs.NodeStep.{nodeTakes}
+use Rattle.theory_resolution.specs.Tries.{triesIfTaken, nodeTries, tries}
+use Rattle.theory_resolution.proofs.Tries.{tries-found, tries-at-node}
 use Rattle.node_step.specs.Step.{coded, parentOf, hitAt, hitNumbers}
 use Rattle.node_step.specs.Tries.{depth, triesTo, triesNumbers}
 use Rattle.node_search.specs.Arrays.{InnerIn}

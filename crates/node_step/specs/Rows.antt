@@ -1,12 +1,12 @@
 -- What lent arrays must hold to stand for a table's signals: the places of each as node numbers, and the nodes' parents. Node k of the
 -- table stands at k - 1; 0 is the root.
-use Prim.Native.Nat.{ℕ, zero, suc, _+_, _*_, _≤_, _<_}
+use Prim.Native.Nat.{ℕ, suc, _+_, _*_, _≤_, _<_}
 use mathlib.Core.Path.{_≡_}
 use mathlib.Core.List.{List, [], _∷_, _++_}
 use lib.ListN.{getD, length}
-use Rattle.resolution.specs.Names.{Name, Parts}
-use Rattle.resolution.specs.Table.{Urn, Table, Row, rowOf}
-use Rattle.resolution.specs.Nodes.{nodes, number, nodeAt}
+use Rattle.theory_resolution.specs.Names.{Name, Parts}
+use Rattle.theory_resolution.specs.Table.{Urn, Table, Row, rowOf}
+use Rattle.theory_resolution.specs.Nodes.{nodes, number, nodeAt}
 
 -- digits to the base 256, the first lowest
 abbrev pub pack : List ℕ → ℕ

@@ -11,7 +11,7 @@ pub mod rows;
 pub mod stored;
 pub mod tries;
 
-use text_bytes::compare::at_most;
+use base_text::compare::at_most;
 ghost use mathlib.Core.Path.{_≡_};
 ghost use mathlib.Core.Bool.{_&&_};
 ghost use Prim.Native.Nat.{_≤_, _<_};

@@ -10,7 +10,7 @@ use crate::put_at;
 use crate::row_at;
 use crate::seek_from;
 use crate::takes_at;
-use text_bytes::compare::at_most;
+use base_text::compare::at_most;
 ghost use mathlib.Core.Path.{_≡_};
 ghost use mathlib.Core.Bool.{true};
 ghost use Prim.Native.Nat.{_<_};
@@ -158,7 +158,7 @@ pub fn fits<'a>(
     if n <= k {
         return false;
     }
-    if text_bytes::cut::wide(category[k]) != c {
+    if base_text::cut::wide(category[k]) != c {
         return false;
     }
     if !inner[k] {

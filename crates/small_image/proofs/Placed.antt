@@ -10,15 +10,15 @@ use borrow.Author.Tests.{le-leb, lt-ltb, eq-eqb}
 use native.Mathlib.Decide.{ℕ-discrete}
 use native.Mathlib.Nat.{zero-mul, suc-mul, mul-le-mul-right}
 use native.Mathlib.Omega.{arith}
-use Rattle.resolution.specs.Lists.{allBelow}
-use Rattle.resolution.specs.Names.{sameName}
-use Rattle.resolution.specs.Table.{Table}
-use Rattle.resolution.specs.Symbols.{symbols}
-use Rattle.resolution.proofs.Lists.{Exact, eqb-exact, list-exact, tabulate-at, tabulate-length, all-of}
+use Rattle.theory_resolution.specs.Lists.{allBelow}
+use Rattle.theory_resolution.specs.Names.{sameName}
+use Rattle.theory_resolution.specs.Table.{Table}
+use Rattle.theory_resolution.specs.Symbols.{symbols}
+use Rattle.theory_resolution.proofs.Lists.{Exact, eqb-exact, list-exact, tabulate-at, tabulate-length, all-of}
 use Rattle.machine_image.specs.Image.{storedSymbols, symbolCount, stateCount, placeOf, signalIn, targetIn}
 use Rattle.machine_image.specs.Refusals.{sameSymbols}
 use Rattle.machine_image.proofs.Joined.{stored-length}
-use Rattle.machine_classes.specs.Machine.{Machine}
+use Rattle.theory_minimal.specs.Machine.{Machine}
 use Rattle.small_image.specs.Small.{smallBytes, smallStates, smallImage, smallTargetBelow, smallStateFormed, smallForm}
 use Rattle.small_image.specs.Claims.{SmallFits, SmallLayout}
 

@@ -5,12 +5,12 @@ use mathlib.Core.Option.{Option, none, some}
 use mathlib.Core.List.{List, [], _∷_, _++_, foldl, List·Memᴰ·head, List·Memᴰ·tail, Memᴰ·append-left}
 use lib.ListN.{length}
 use native.Mathlib.Omega.{arith}
-use Rattle.resolution.specs.Table.{Urn, Table, WellFormed}
-use Rattle.resolution.specs.Direct.{Used, usedOf, AllUsed, stepUri, changes}
-use Rattle.resolution.specs.Nodes.{nodes}
-use Rattle.resolution.specs.Symbols.{symbols, symbolOf, symbolIndex}
-use Rattle.resolution.proofs.Symbols.{symbol-at-index}
-use Rattle.resolution.proofs.Claim.{used-append}
+use Rattle.theory_resolution.specs.Table.{Urn, Table, WellFormed}
+use Rattle.theory_resolution.specs.Direct.{Used, usedOf, AllUsed, stepUri, changes}
+use Rattle.theory_resolution.specs.Nodes.{nodes}
+use Rattle.theory_resolution.specs.Symbols.{symbols, symbolOf, symbolIndex}
+use Rattle.theory_resolution.proofs.Symbols.{symbol-at-index}
+use Rattle.theory_resolution.proofs.Claim.{used-append}
 use Rattle.machine_image.specs.Image.{symbolCount, stateCount, signalIn, targetIn}
 use Rattle.machine_image.specs.Refusals.{checkOf}
 use Rattle.machine_image.specs.Walk.{stepIn, walkSignal}
@@ -18,10 +18,10 @@ use Rattle.machine_image.specs.Claim.{ImageClaim}
 use Rattle.machine_image.proofs.Form as image
 use Rattle.machine_image.proofs.Check.{check-to}
 use Rattle.machine_image.proofs.Walk.{image-claim}
-use Rattle.machine_classes.specs.Machine.{Machine, Formed}
-use Rattle.machine_classes.specs.Proposal.{classOf, firstOf, classCount, small, Fits}
-use Rattle.machine_classes.proofs.Reach.{reached-state}
-use Rattle.machine_classes.proofs.Fits.{class-below, first-found, small-formed}
+use Rattle.theory_minimal.specs.Machine.{Machine, Formed}
+use Rattle.theory_minimal.specs.Proposal.{classOf, firstOf, classCount, small, Fits}
+use Rattle.theory_minimal.proofs.Reach.{reached-state}
+use Rattle.theory_minimal.proofs.Fits.{class-below, first-found, small-formed}
 use Rattle.small_image.specs.Small.{smallStep, smallSignal}
 use Rattle.small_image.specs.Numbers.{numbersIn, smallOf}
 use Rattle.small_image.specs.Claims.{SmallFits, SmallClaim}

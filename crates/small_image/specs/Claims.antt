@@ -5,14 +5,14 @@ use mathlib.Core.Bool.{true}
 use mathlib.Core.Option.{Option}
 use mathlib.Core.List.{List, _++_}
 use lib.ListN.{length, getD, take, drop}
-use Rattle.resolution.specs.Names.{Parts}
-use Rattle.resolution.specs.Table.{Urn, Table, mostParts}
-use Rattle.resolution.specs.Direct.{direct, usedOf, stepUri, changes}
-use Rattle.resolution.specs.Says.{Says, Given}
-use Rattle.resolution.specs.Symbols.{symbols}
+use Rattle.theory_resolution.specs.Names.{Parts}
+use Rattle.theory_resolution.specs.Table.{Urn, Table, mostParts}
+use Rattle.theory_resolution.specs.Direct.{direct, usedOf, stepUri, changes}
+use Rattle.theory_resolution.specs.Says.{Says, Given}
+use Rattle.theory_resolution.specs.Symbols.{symbols}
 use Rattle.machine_image.specs.Image.{storedSymbols, signalIn}
 use Rattle.machine_image.specs.Walk.{walkSignal}
-use Rattle.machine_classes.specs.Machine.{Machine, Formed}
+use Rattle.theory_minimal.specs.Machine.{Machine, Formed}
 use Rattle.small_image.specs.Small.{smallImage, smallForm, smallStep, smallSignal}
 use Rattle.small_image.specs.Numbers.{smallOf}
 

@@ -1,10 +1,10 @@
 -- The machine in an image by the numbers of its states and symbols, and the small image that a proposal makes of it.
 use Prim.Native.Nat.{ℕ}
 use mathlib.Core.List.{List}
-use Rattle.resolution.specs.Table.{Table}
+use Rattle.theory_resolution.specs.Table.{Table}
 use Rattle.machine_image.specs.Image.{symbolCount, stateCount, signalIn, targetIn}
-use Rattle.machine_classes.specs.Machine.{Machine}
-use Rattle.machine_classes.specs.Proposal.{small}
+use Rattle.theory_minimal.specs.Machine.{Machine}
+use Rattle.theory_minimal.specs.Proposal.{small}
 use Rattle.small_image.specs.Small.{smallImage}
 
 -- its states' signals and rows, over this number of categories, without their statuses

@@ -6,14 +6,14 @@ use mathlib.Core.Option.{Option}
 use mathlib.Core.List.{List, [], _∷_, _++_, foldl}
 use lib.Dec.{eqb, ltb, leb}
 use lib.ListN.{length}
-use Rattle.resolution.specs.Lists.{tabulate, allBelow}
-use Rattle.resolution.specs.Table.{Urn, Table}
-use Rattle.resolution.specs.Direct.{stepUri}
-use Rattle.resolution.specs.Nodes.{nodes}
-use Rattle.resolution.specs.Symbols.{symbols, symbolOf, symbolIndex}
+use Rattle.theory_resolution.specs.Lists.{tabulate, allBelow}
+use Rattle.theory_resolution.specs.Table.{Urn, Table}
+use Rattle.theory_resolution.specs.Direct.{stepUri}
+use Rattle.theory_resolution.specs.Nodes.{nodes}
+use Rattle.theory_resolution.specs.Symbols.{symbols, symbolOf, symbolIndex}
 use Rattle.machine_image.specs.Image.{storedSymbols, symbolCount, stateCount, placeOf, signalIn, targetIn}
 use Rattle.machine_image.specs.Refusals.{sameSymbols}
-use Rattle.machine_classes.specs.Machine.{Machine}
+use Rattle.theory_minimal.specs.Machine.{Machine}
 
 -- a state: its signal and its row, one target for each symbol
 abbrev pub smallBytes : Machine → ℕ → List ℕ

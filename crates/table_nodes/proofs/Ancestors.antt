@@ -2,20 +2,20 @@
 use Prim.Native.Nat.{ℕ, _<_}
 use mathlib.Core.Path.{_≡_, refl, ap, sym, _∙_, subst}
 use mathlib.Core.Logic.{inl, inr, _≢_}
-use mathlib.Core.Bool.{Bool, true, false, true≢false, and-false}
+use mathlib.Core.Bool.{true, false, true≢false, and-false}
 use mathlib.Core.List.{List, [], _∷_, _++_, foldl, foldl-append, append-assoc}
 use native.Mathlib.Omega.{arith}
 use lib.ListN.{length, length-append}
 use lib.Dec.{eqb}
-use Rattle.text_bytes.proofs.Fields.{byTest}
-use Rattle.resolution.specs.Lists.{addBy}
-use Rattle.resolution.specs.Names.{Name, Parts, sameParts}
-use Rattle.resolution.specs.Table.{Urn, urn, Table}
-use Rattle.resolution.specs.Nodes.{sameUrn, isNode, nodes, prefixes, addUrn, RootOrNode, past as begins}
-use Rattle.resolution.proofs.Lists.{not-last}
-use Rattle.resolution.proofs.Names.{parts-exact}
-use Rattle.resolution.proofs.Nodes.{urn-exact}
-use Rattle.resolution.proofs.Numbers.{ancestor-node}
+use Rattle.base_text.proofs.Fields.{byTest}
+use Rattle.theory_resolution.specs.Lists.{addBy}
+use Rattle.theory_resolution.specs.Names.{Name, Parts, sameParts}
+use Rattle.theory_resolution.specs.Table.{Urn, urn, Table}
+use Rattle.theory_resolution.specs.Nodes.{sameUrn, isNode, nodes, prefixes, addUrn, RootOrNode, past as begins}
+use Rattle.theory_resolution.proofs.Lists.{not-last}
+use Rattle.theory_resolution.proofs.Names.{parts-exact}
+use Rattle.theory_resolution.proofs.Nodes.{urn-exact}
+use Rattle.theory_resolution.proofs.Numbers.{ancestor-node}
 
 abbrev pub adder : ℕ → List Urn → Parts → List Urn
 adder c s p = addBy sameUrn s (urn c p)

@@ -10,15 +10,15 @@ use lib.ListN.{length, getD, set, take, drop, length-append, length-take, length
 use lib.Seq.{getD-set-same, getD-set-other, take-all, getD-drop, drop-cons}
 use lib.Dec.{eqb}
 use borrow.Author.Tests.{eq-eqb, ne-eqb, eqb-true, eqb-false}
-use Rattle.text_bytes.specs.Text.{upTo, fields}
-use Rattle.text_bytes.proofs.Fields.{byTest, same-fields, upTo-le, upTo-stop, upTo-take, fields-first, fields-upTo, fields-join, part-end}
-use Rattle.resolution.specs.Lists.{tabulate, memberBy, indexBy, addBy}
-use Rattle.resolution.specs.Names.{Name, Parts, sameName}
-use Rattle.resolution.specs.Table.{Urn, urn}
-use Rattle.resolution.specs.Nodes.{sameUrn, isNode, number, nodeAt, prefixes, addUrn, RootOrNode, past as begins}
-use Rattle.resolution.proofs.Lists.{tabulate-length, tabulate-same, member-of, mem-at, Extends, at-extends, add-extends, extends-trans, extends-self}
-use Rattle.resolution.proofs.Nodes.{urn-exact}
-use Rattle.resolution.proofs.Numbers.{number-node}
+use Rattle.base_text.specs.Text.{upTo, fields}
+use Rattle.base_text.proofs.Fields.{byTest, same-fields, upTo-le, upTo-stop, upTo-take, fields-first, fields-upTo, fields-join, part-end}
+use Rattle.theory_resolution.specs.Lists.{tabulate, memberBy, indexBy, addBy}
+use Rattle.theory_resolution.specs.Names.{Name, Parts, sameName}
+use Rattle.theory_resolution.specs.Table.{Urn, urn}
+use Rattle.theory_resolution.specs.Nodes.{sameUrn, isNode, number, nodeAt, prefixes, addUrn, RootOrNode, past as begins}
+use Rattle.theory_resolution.proofs.Lists.{tabulate-length, tabulate-same, member-of, mem-at, Extends, at-extends, add-extends, extends-trans, extends-self}
+use Rattle.theory_resolution.proofs.Nodes.{urn-exact}
+use Rattle.theory_resolution.proofs.Numbers.{number-node}
 use Rattle.node_search.specs.Arrays.{stretch}
 use Rattle.table_sections.specs.Held.{Padded}
 use Rattle.table_sections.proofs.Padding.{pad-set}

@@ -1,13 +1,13 @@
 -- Laws of the paths that begin a text: the ancestors of the path that it says, and itself.
-use Prim.Native.Nat.{ℕ, _+_, _-_, _≤_, _<_}
+use Prim.Native.Nat.{ℕ, _+_, _≤_, _<_}
 use mathlib.Core.Path.{_≡_, ap, ap₂, sym, _∙_}
 use mathlib.Core.List.{List, [], _∷_, _++_}
 use native.Mathlib.Numerals.{add-one}
 use lib.ListN.{length, getD, take, drop, drop-of-length-le}
 use lib.Seq.{take-suc, take-add, drop-cons, drop-drop, append-snoc}
-use Rattle.resolution.specs.Nodes.{past as begins}
-use Rattle.text_bytes.specs.Text.{upTo, fields}
-use Rattle.text_bytes.proofs.Fields.{upTo-take, fields-first, fields-upTo, fields-join, fields-tail}
+use Rattle.theory_resolution.specs.Nodes.{past as begins}
+use Rattle.base_text.specs.Text.{upTo, fields}
+use Rattle.base_text.proofs.Fields.{upTo-take, fields-first, fields-upTo, fields-join, fields-tail}
 
 -- the nodes of a URN's text that are still to come when the first i bytes are done
 abbrev pub coming : List ℕ → ℕ → List (List (List ℕ))

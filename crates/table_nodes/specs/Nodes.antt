@@ -5,11 +5,11 @@ use mathlib.Core.Logic.{_⊎_}
 use mathlib.Core.Bool.{Bool, true, false}
 use mathlib.Core.List.{List, [], _∷_, _++_, foldl}
 use lib.ListN.{length, getD, take, drop}
-use Rattle.resolution.specs.Lists.{tabulate, addBy}
-use Rattle.resolution.specs.Names.{Name, Parts}
-use Rattle.resolution.specs.Table.{Urn, urn}
-use Rattle.resolution.specs.Nodes.{sameUrn, nodeAt, isNode, addUrn}
-use Rattle.text_bytes.specs.Text.{fields}
+use Rattle.theory_resolution.specs.Lists.{tabulate, addBy}
+use Rattle.theory_resolution.specs.Names.{Name, Parts}
+use Rattle.theory_resolution.specs.Table.{Urn, urn}
+use Rattle.theory_resolution.specs.Nodes.{sameUrn, nodeAt, isNode, addUrn}
+use Rattle.base_text.specs.Text.{fields}
 use Rattle.node_search.specs.Arrays.{stretch}
 use Rattle.table_sections.specs.Held.{Padded}
 use Rattle.table_nodes.specs.declared.Added.{Added}

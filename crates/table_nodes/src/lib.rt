@@ -1,19 +1,19 @@
 // The nodes of a table, from the categories and paths of its URNs: each one's category, parent and path, and the node of every URN.
 //
 // In: the URNs' categories and paths as places in the bytes. Out: the nodes in their order, in arrays, or that there are over 64.
+use base_text::cut::wide;
+use base_text::cut::wider;
 use node_search::texts::node_text;
 use table_sections::bytes::short;
 use table_sections::bytes::small;
-use text_bytes::cut::wide;
-use text_bytes::cut::wider;
 ghost use mathlib.Core.Path.{_≡_};
 ghost use mathlib.Core.Bool.{true, false, _||_};
 ghost use Prim.Native.Nat.{_≤_, _<_};
 ghost use lib.Dec.{eqb};
-ghost use Rattle.resolution.specs.Lists.{tabulate};
-ghost use Rattle.resolution.specs.Table.{urn};
-ghost use Rattle.resolution.specs.Nodes.{sameUrn, isNode, number};
-ghost use Rattle.text_bytes.specs.Text.{fields};
+ghost use Rattle.theory_resolution.specs.Lists.{tabulate};
+ghost use Rattle.theory_resolution.specs.Table.{urn};
+ghost use Rattle.theory_resolution.specs.Nodes.{sameUrn, isNode, number};
+ghost use Rattle.base_text.specs.Text.{fields};
 ghost use Rattle.table_nodes.specs.Nodes.{nodeUrn, Clear, AddsNode, AddsPath, AddsUrn, AllAdded};
 
 // Node i + 1 has the category c and the path s.
@@ -32,10 +32,10 @@ fn node_is(
     let x = cats[i];
     if c == x {
         let p = node_text(t, at, len, i);
-        if text_bytes::compare::ends_differ(s, p) {
+        if base_text::compare::ends_differ(s, p) {
             return false;
         }
-        return text_bytes::compare::same(s, p);
+        return base_text::compare::same(s, p);
     }
     false
 }
@@ -113,7 +113,7 @@ fn add_node(
     let m = find_unless(
         t,
         c,
-        text_bytes::cut::part(t, from, k),
+        base_text::cut::part(t, from, k),
         n,
         new,
         cats,
@@ -173,9 +173,9 @@ fn add_path(
         (now (cats .exit)) (now (parents .exit)) (now (at .exit)) (now (len .exit)) r ⌝ }
     ensures few { λ r. ⌜ (r .node ≤ 64) × (r .count ≤ 64) ⌝ }
 {
-    let w = text_bytes::cut::part(t, from, k);
+    let w = base_text::cut::part(t, from, k);
     let e = w.len();
-    let mut i = text_bytes::cut::find(w, 58);
+    let mut i = base_text::cut::find(w, 58);
     let first = surely_new(false, i, e);
     let mut r = add_node(t, c, from, i, 0, n, first, cats, parents, at, len);
     while i < e {
@@ -183,7 +183,7 @@ fn add_path(
             return r;
         }
         let a = i + 1;
-        i = a + text_bytes::cut::find(&w[a..e], 58);
+        i = a + base_text::cut::find(&w[a..e], 58);
         let new = surely_new(r.new, i, e);
         r = add_node(t, c, from, i, r.node, r.count, new, cats, parents, at, len);
     }
@@ -207,7 +207,7 @@ fn add_urn(
         (now (cats .exit)) (now (parents .exit)) (now (at .exit)) (now (len .exit)) r ⌝ }
     ensures few { λ r. ⌜ (r .node ≤ 64) × (r .count ≤ 64) ⌝ }
 {
-    let m = find_node(t, c, text_bytes::cut::part(t, from, k), n, cats, at, len);
+    let m = find_node(t, c, base_text::cut::part(t, from, k), n, cats, at, len);
     if 0 < m {
         return Added {
             node: m,

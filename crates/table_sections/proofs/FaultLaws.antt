@@ -7,9 +7,9 @@ use mathlib.Core.List.{List, [], _∷_, List·Memᴰ, List·Memᴰ·cases-cons, 
 use native.Mathlib.Omega.{arith}
 use lib.ListN.{length, getD, take, drop, length-take}
 use lib.Dec.{leb, ltb}
-use Rattle.ascii.specs.Ascii.{within}
+use Rattle.base_ascii.specs.Ascii.{within}
 use Rattle.table_sections.specs.Stored.{Read, fault, got, andThen, byteIn, text, times, counted, signal, storedFrom, Stored, stored, sections}
-use Rattle.text_bytes.proofs.Fields.{byTest}
+use Rattle.base_text.proofs.Fields.{byTest}
 use Rattle.table_sections.proofs.Readings.{after-got, byte-read, got-list, times-length}
 
 -- a fault's number is 4, 5 or 6

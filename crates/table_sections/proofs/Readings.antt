@@ -1,7 +1,7 @@
 -- Laws of the readings, one step further.
 use Prim.Native.Nat.{ℕ, suc, zero, _+_, _-_, _≤_, _<_}
 use mathlib.Core.Path.{_≡_, refl, ap, ap₂, sym, _∙_, subst}
-use mathlib.Core.Bool.{true, false, and-false, and-eq-true-iff, false≢true}
+use mathlib.Core.Bool.{and-false, and-eq-true-iff}
 use mathlib.Core.List.{List, [], _∷_, _++_, map, append-assoc, append-nil}
 use native.Mathlib.Nat.{sub-zero}
 use native.Mathlib.Numerals.{add-one}
@@ -11,12 +11,12 @@ use lib.Seq.{getD-set-same, getD-set-other}
 use Rattle.node_search.specs.Arrays.{stretch}
 use lib.Dec.{leb, ltb}
 use borrow.Author.Tests.{lt-leb, le-leb, lt-ltb, le-ltb, leb-true, ltb-true}
-use Rattle.ascii.specs.Ascii.{within}
-use Rattle.text_bytes.proofs.Fields.{byTest}
-use Rattle.resolution.specs.Lists.{tabulate}
-use Rattle.resolution.proofs.Lists.{tabulate-same}
-use Rattle.table_sections.specs.Stored.{Read, fault, got, andThen, byteIn, text, times, counted, categories, signal, storedFrom, stored}
-use Rattle.table_sections.specs.Held.{Tagged, tag, taggedFrom, urnAt, mapRead, numberRead, textRead, textInside, heldRead, readUpTo, readAtMost, ReadFrom, ReadAs, Reads}
+use Rattle.base_ascii.specs.Ascii.{within}
+use Rattle.base_text.proofs.Fields.{byTest}
+use Rattle.theory_resolution.specs.Lists.{tabulate}
+use Rattle.theory_resolution.proofs.Lists.{tabulate-same}
+use Rattle.table_sections.specs.Stored.{Read, fault, got, andThen, byteIn, text, times, signal}
+use Rattle.table_sections.specs.Held.{tag, urnAt, mapRead, numberRead, textRead, textInside}
 use Rattle.table_sections.specs.declared.bytes.Reading.{Reading}
 use Rattle.table_sections.specs.declared.bytes.Reading.the-variants.{Fault, Got}
 

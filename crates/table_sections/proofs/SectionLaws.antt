@@ -1,26 +1,23 @@
 -- Laws of the two sections, one signal further.
-use Prim.Native.Nat.{ℕ, suc, zero, _+_, _-_, _≤_, _<_}
-use mathlib.Core.Path.{_≡_, refl, ap, ap₂, sym, _∙_, subst}
-use mathlib.Core.Bool.{true, false, and-false, and-eq-true-iff, false≢true}
-use mathlib.Core.List.{List, [], _∷_, _++_, map, append-assoc, append-nil}
+use Prim.Native.Nat.{ℕ, suc, _+_, _-_, _≤_, _<_}
+use mathlib.Core.Path.{_≡_, refl, ap, sym, _∙_, subst}
+use mathlib.Core.Bool.{true, false, false≢true}
+use mathlib.Core.List.{List, _∷_, _++_, map, append-assoc, append-nil}
 use native.Mathlib.Nat.{sub-zero}
 use native.Mathlib.Numerals.{add-one}
 use native.Mathlib.Omega.{arith}
-use lib.ListN.{length, getD, take, drop, set}
-use lib.Seq.{getD-set-same, getD-set-other}
+use lib.ListN.{length}
 use Rattle.node_search.specs.Arrays.{stretch}
-use lib.Dec.{leb, ltb}
+use lib.Dec.{ltb}
 use borrow.Author.Tests.{lt-ltb, le-ltb, ltb-false}
-use Rattle.ascii.specs.Ascii.{within}
-use Rattle.text_bytes.proofs.Fields.{byTest}
-use Rattle.resolution.specs.Lists.{tabulate}
-use Rattle.resolution.proofs.Lists.{tabulate-same}
+use Rattle.base_text.proofs.Fields.{byTest}
+use Rattle.theory_resolution.specs.Lists.{tabulate}
 use Rattle.table_sections.specs.Stored.{Read, fault, got, andThen, byteIn, text, times, counted, categories, signal, storedFrom, Stored, stored, sections}
-use Rattle.table_sections.specs.Held.{Padded, paddedRead, Tagged, tag, taggedFrom, urnAt, mapRead, numberRead, textRead, textInside, heldRead, readUpTo, readAtMost, ReadFrom, ReadAs, Reads}
+use Rattle.table_sections.specs.Held.{Padded, paddedRead, Tagged, tag, taggedFrom, mapRead, heldRead, readUpTo, readAtMost, ReadFrom, Reads}
 use Rattle.table_sections.specs.declared.bytes.Reading.{Reading}
 use Rattle.table_sections.specs.declared.bytes.Reading.the-variants.{Fault, Got}
 use Rattle.table_sections.specs.declared.Counts.{Counts}
-use Rattle.table_sections.proofs.Readings.{after, byte-of, number-fault, number-got, times-length}
+use Rattle.table_sections.proofs.Readings.{times-length}
 
 -- one signal
 pub signal-fault : {B : Type 0} (g : List (List ℕ) → B) (t : List ℕ) (at : ℕ) (k : ℕ) → byteIn 0 8 t at ≡ fault k → fault k ≡ mapRead g (counted 0 8 (text 255 t) t at)

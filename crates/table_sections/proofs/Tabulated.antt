@@ -8,9 +8,9 @@ use native.Mathlib.Omega.{arith}
 use lib.ListN.{length}
 use lib.Dec.{ltb}
 use borrow.Author.Tests.{ltb-true, ltb-false}
-use Rattle.text_bytes.proofs.Fields.{byTest}
-use Rattle.resolution.specs.Lists.{tabulate, memberBy, indexBy}
-use Rattle.resolution.proofs.Lists.{tabulate-length}
+use Rattle.base_text.proofs.Fields.{byTest}
+use Rattle.theory_resolution.specs.Lists.{tabulate, memberBy, indexBy}
+use Rattle.theory_resolution.proofs.Lists.{tabulate-length}
 
 pub tab-suc : {A : Type 0} (f : ℕ → A) (i : ℕ) → tabulate f (i + 1) ≡ tabulate f i ++ f i ∷ []
 unfolding tabulate

@@ -4,7 +4,7 @@ use mathlib.Core.Path.{_≡_}
 use mathlib.Core.Bool.{true, false}
 use mathlib.Core.List.{List, [], _∷_, _++_, map}
 use lib.ListN.{length, getD, take, drop}
-use Rattle.resolution.specs.Lists.{tabulate}
+use Rattle.theory_resolution.specs.Lists.{tabulate}
 use Rattle.node_search.specs.Arrays.{stretch}
 use Rattle.table_sections.specs.Stored.{Read, fault, got, storedFrom, sections}
 use Rattle.table_sections.specs.declared.bytes.Reading.{Reading}

@@ -5,7 +5,7 @@ use mathlib.Core.Bool.{cond}
 use mathlib.Core.List.{List, [], _∷_}
 use lib.ListN.{length, getD, take, drop}
 use lib.Dec.{leb, ltb}
-use Rattle.ascii.specs.Ascii.{within}
+use Rattle.base_ascii.specs.Ascii.{within}
 
 pub data Read (A : Type 0) : Type 0 where
   fault : ℕ → Read A

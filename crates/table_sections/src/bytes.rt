@@ -1,4 +1,4 @@
-use text_bytes::cut::wide;
+use base_text::cut::wide;
 ghost use mathlib.Core.Path.{_≡_};
 ghost use Prim.Native.Nat.{_<_, _%_};
 ghost use Rattle.table_sections.specs.Stored.{byteIn, text};

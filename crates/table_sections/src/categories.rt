@@ -3,7 +3,6 @@ use crate::bytes::byte_in;
 use crate::bytes::read_text;
 use crate::bytes::short;
 use crate::bytes::small;
-ghost use mathlib.Core.Path.{_≡_};
 ghost use Prim.Native.Nat.{_≤_};
 ghost use Rattle.table_sections.specs.Stored.{text, times, categories};
 ghost use Rattle.table_sections.specs.Held.{NamesRead, readUpTo, readAtMost};

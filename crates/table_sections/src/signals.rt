@@ -7,7 +7,7 @@ ghost use mathlib.Core.Path.{_≡_};
 ghost use mathlib.Core.List.{_++_, map};
 ghost use Prim.Native.Nat.{_≤_, _+_, _-_};
 ghost use lib.ListN.{length};
-ghost use Rattle.resolution.specs.Lists.{tabulate};
+ghost use Rattle.theory_resolution.specs.Lists.{tabulate};
 ghost use Rattle.table_sections.specs.Stored.{text, times, counted};
 ghost use Rattle.table_sections.specs.Held.{tag, taggedFrom, urnAt, Room, mapRead, heldRead, readUpTo, readAtMost};
 

@@ -8,26 +8,26 @@ use native.Mathlib.Omega.{arith}
 use lib.ListN.{length, getD}
 use lib.Dec.{eqb, leb, ltb}
 use borrow.Author.Tests.{ne-eqb, le-leb, lt-leb, leb-true, leb-false}
-use Rattle.resolution.specs.Lists.{tabulate, allBelow as forall}
-use Rattle.resolution.specs.Names.{Name}
-use Rattle.resolution.proofs.Lists.{tabulate-at, tabulate-length}
-use Rattle.ascii.specs.Ascii.{within}
-use Rattle.text_bytes.specs.Text.{all}
-use Rattle.alert_urn.specs.Urn.{storedName}
+use Rattle.theory_resolution.specs.Lists.{tabulate, allBelow as forall}
+use Rattle.theory_resolution.specs.Names.{Name}
+use Rattle.theory_resolution.proofs.Lists.{tabulate-at, tabulate-length}
+use Rattle.base_ascii.specs.Ascii.{within}
+use Rattle.base_text.specs.Text.{all}
+use Rattle.urn_names.specs.Urn.{storedName}
 use Rattle.node_search.specs.Arrays.{stretch}
-use Rattle.text_bytes.proofs.Fields.{byTest}
-use Rattle.signal_places.specs.Tests.{noTwo}
+use Rattle.base_text.proofs.Fields.{byTest}
+use Rattle.table_places.specs.Tests.{noTwo}
 use Rattle.table_sections.specs.Held.{joined}
-use Rattle.stored_table.proofs.Accepting.{all-mem}
-use Rattle.signal_places.proofs.Flat.{all-joined, all-alike}
-use Rattle.signal_places.proofs.TestLaws.{all-join}
+use Rattle.table_decode.proofs.Accepting.{all-mem}
+use Rattle.table_places.proofs.Flat.{all-joined, all-alike}
+use Rattle.table_places.proofs.TestLaws.{all-join}
 use Rattle.tree_sections.specs.Tree.{Node, nodeOf, Tree}
-use Rattle.table_forms.specs.Refusals.{numbered, parented, allParented, grown}
+use Rattle.tree_forms.specs.Refusals.{numbered, parented, allParented, grown}
 use Rattle.tree_nodes.specs.Scan.{sameNode, linked, reached, isCount, scanned}
 use Rattle.tree_sections.specs.Held.{nodeFrom}
 use Rattle.tree_nodes.specs.Tests.{underAt, linkedBy, stepBy, grownBy, lastsFormed, grownIn, Judges}
-use Rattle.table_forms.proofs.Writing.{Every}
-use Rattle.table_forms.proofs.Growing.{suc-zero}
+use Rattle.tree_forms.proofs.Writing.{Every}
+use Rattle.tree_forms.proofs.Growing.{suc-zero}
 use Rattle.tree_nodes.proofs.Scanning.{grown-scanned}
 
 -- a test at each number below n

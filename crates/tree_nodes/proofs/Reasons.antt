@@ -2,27 +2,27 @@
 use Prim.Native.Nat.{ℕ, zero, suc, _+_, _-_, _≤_, _<_}
 use mathlib.Core.Path.{_≡_, refl, ap, sym, _∙_, subst}
 use mathlib.Core.Logic.{_⊎_, inl, inr, _↔_}
-use mathlib.Core.Bool.{Bool, true, false, cond, not, _&&_, _||_, and-eq-true-iff, true≢false, false≢true}
+use mathlib.Core.Bool.{Bool, true, false, cond, _&&_, _||_, and-eq-true-iff, true≢false, false≢true}
 use mathlib.Core.Option.{Option, none, some}
-use mathlib.Core.List.{List, [], _∷_, List·Memᴰ, List·Memᴰ·head, List·Memᴰ·tail}
+use mathlib.Core.List.{List, [], _∷_, List·Memᴰ}
 use native.Mathlib.Decide.{decLt, ℕ-discrete}
 use native.Mathlib.Omega.{arith}
 use lib.ListN.{length, getD, List·getD-eq-default}
 use lib.Dec.{eqb, leb, ltb}
 use borrow.Author.Tests.{eq-eqb, eqb-true, le-leb, leb-true, leb-false, ltb-true, ltb-false}
-use Rattle.resolution.specs.Lists.{allBelow as forall}
-use Rattle.resolution.specs.Names.{Name, sameName}
-use Rattle.resolution.proofs.Lists.{all-to, mem-at}
-use Rattle.resolution.proofs.Names.{name-exact}
-use Rattle.ascii.specs.Ascii.{within}
-use Rattle.text_bytes.specs.Text.{all}
-use Rattle.text_bytes.proofs.Fields.{byTest}
-use Rattle.signal_places.specs.Tests.{any, noTwo}
-use Rattle.signal_places.proofs.Flat.{all-joined}
-use Rattle.stored_table.proofs.Accepting.{all-mem, two-at}
+use Rattle.theory_resolution.specs.Lists.{allBelow as forall}
+use Rattle.theory_resolution.specs.Names.{sameName}
+use Rattle.theory_resolution.proofs.Lists.{all-to, mem-at}
+use Rattle.theory_resolution.proofs.Names.{name-exact}
+use Rattle.base_ascii.specs.Ascii.{within}
+use Rattle.base_text.specs.Text.{all}
+use Rattle.base_text.proofs.Fields.{byTest}
+use Rattle.table_places.specs.Tests.{any, noTwo}
+use Rattle.table_places.proofs.Flat.{all-joined}
+use Rattle.table_decode.proofs.Accepting.{all-mem, two-at}
 use Rattle.tree_sections.specs.Tree.{Node, nodeOf, Tree}
-use Rattle.table_forms.specs.Refusals.{numbered, parented, allParented, grown}
-use Rattle.table_forms.proofs.Growing.{suc-zero}
+use Rattle.tree_forms.specs.Refusals.{numbered, parented, allParented, grown}
+use Rattle.tree_forms.proofs.Growing.{suc-zero}
 use Rattle.tree_nodes.specs.Scan.{sameNode, linked, reached, isCount, scanned}
 use Rattle.tree_nodes.specs.Ungrown.{numbersOf, RightParent, Over, itself, higher, Appears, Ungrown, no-category, no-node, no-parent, repeated, unused, out-of-order, UngrownExactly}
 use Rattle.tree_nodes.proofs.Scanning.{grown-scanned}

@@ -9,31 +9,31 @@ use native.Mathlib.Nat.{add-zero, zero-add}
 use native.Mathlib.Decide.{decLt, ℕ-discrete}
 use native.Mathlib.Omega.{arith}
 use lib.ListN.{length, getD, take, length-append}
-use lib.Seq.{take-append-seam, getD-append-seam, take-suc, take-all, getD-take, length-take-le, getD-at}
+use lib.Seq.{getD-append-seam, take-suc, take-all, getD-take, length-take-le, getD-at}
 use lib.Dec.{eqb, leb, ltb}
 use borrow.Author.Tests.{eq-eqb, eqb-true, leb-true, leb-false}
-use Rattle.resolution.specs.Lists.{addBy, indexBy, sameList, Distinct, allBelow}
-use Rattle.resolution.specs.Names.{Name, Parts, sameName}
-use Rattle.resolution.specs.Table.{Urn, urn}
-use Rattle.resolution.specs.Nodes.{sameUrn, member, past, prefixes, addUrn, nodes, nodeAt}
-use Rattle.resolution.proofs.Lists.{Extends, extends-self, extends-trans, at-extends, add-extends, mem-at, member-of, list-exact, index-member, index-at, index-take}
-use Rattle.resolution.proofs.Names.{name-exact, snoc-injective}
-use Rattle.resolution.proofs.Nodes.{urn-exact}
-use Rattle.resolution.proofs.Numbers.{nodes-ordered}
-use Rattle.ascii.specs.Ascii.{within}
-use Rattle.text_bytes.specs.Text.{all as every}
-use Rattle.text_bytes.proofs.Fields.{byTest}
-use Rattle.signal_places.specs.Tests.{any, noTwo}
+use Rattle.theory_resolution.specs.Lists.{addBy, indexBy, sameList, Distinct, allBelow}
+use Rattle.theory_resolution.specs.Names.{Name, Parts, sameName}
+use Rattle.theory_resolution.specs.Table.{Urn, urn}
+use Rattle.theory_resolution.specs.Nodes.{sameUrn, member, past, prefixes, addUrn, nodes, nodeAt}
+use Rattle.theory_resolution.proofs.Lists.{Extends, extends-self, extends-trans, at-extends, add-extends, mem-at, member-of, list-exact, index-member, index-at, index-take}
+use Rattle.theory_resolution.proofs.Names.{name-exact, snoc-injective}
+use Rattle.theory_resolution.proofs.Nodes.{urn-exact}
+use Rattle.theory_resolution.proofs.Numbers.{nodes-ordered}
+use Rattle.base_ascii.specs.Ascii.{within}
+use Rattle.base_text.specs.Text.{all as every}
+use Rattle.base_text.proofs.Fields.{byTest}
+use Rattle.table_places.specs.Tests.{any, noTwo}
 use Rattle.table_sections.specs.Held.{joined}
-use Rattle.signal_places.proofs.TestLaws.{same-test}
-use Rattle.signal_places.proofs.Flat.{nodes-joined, map-join, all-joined}
-use Rattle.stored_table.proofs.Accepting.{all-mem, two-at}
+use Rattle.table_places.proofs.TestLaws.{same-test}
+use Rattle.table_places.proofs.Flat.{nodes-joined, map-join, all-joined}
+use Rattle.table_decode.proofs.Accepting.{all-mem, two-at}
 use Rattle.tree_sections.specs.Tree.{Node, nodeOf, Tree}
-use Rattle.table_forms.specs.Meaning.{urnOf, nodeUrn, urnsAfter, urnsOf, tableOfTree, lastName}
-use Rattle.table_forms.specs.Refusals.{inOrder, numbered, allParented, grown}
+use Rattle.tree_forms.specs.Meaning.{urnOf, nodeUrn, urnsAfter, urnsOf, tableOfTree, lastName}
+use Rattle.tree_forms.specs.Refusals.{inOrder, numbered, allParented, grown}
 use Rattle.tree_nodes.specs.Scan.{sameNode, linked, reached, isCount, scanned}
-use Rattle.table_forms.proofs.Writing.{Every}
-use Rattle.table_forms.proofs.Growing.{suc-zero, under, under-is, allUnder, after-extends, after-length, last-snoc}
+use Rattle.tree_forms.proofs.Writing.{Every}
+use Rattle.tree_forms.proofs.Growing.{suc-zero, under, under-is, allUnder, after-extends, after-length, last-snoc}
 
 -- what the node at index i says of its URN
 pub record Placed (us : List Urn) (n : Node) (i : ℕ) : Type 0 where
@@ -101,10 +101,6 @@ urn-extends-add seen u = go seen (prefixes (u .path))
 urns-extend : (seen us : List Urn) → Extends seen (foldl addUrn seen us)
 urns-extend seen [] = extends-self seen
 urns-extend seen (u ∷ us) = extends-trans (urn-extends-add seen u) (urns-extend (addUrn seen u) us)
-
--- the first m of a list are what another begins with
-extends-take : (l us : List Urn) → Extends l us → take (length l) us ≡ l
-extends-take l us x = ap (take (length l)) (sym (x .joined)) ∙ take-append-seam l (x .more)
 
 module _ (ns : List Node) (us : List Urn) (size : length us ≡ length ns) (facts : (i : ℕ) → i < length ns → Placed us (nodeOf ns i) i) where
   -- with the ancestors of node k and itself

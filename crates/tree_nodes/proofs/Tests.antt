@@ -7,15 +7,15 @@ use native.Mathlib.Omega.{arith}
 use lib.ListN.{getD}
 use lib.Dec.{eqb, leb, ltb}
 use borrow.Author.Tests.{eq-eqb, ne-eqb, lt-leb, le-leb, lt-ltb, le-ltb, leb-true}
-use Rattle.resolution.specs.Lists.{tabulate}
-use Rattle.resolution.specs.Names.{sameName}
-use Rattle.resolution.proofs.Lists.{mem-at, tabulate-at, tabulate-length}
-use Rattle.ascii.specs.Ascii.{within}
-use Rattle.text_bytes.specs.Text.{all}
+use Rattle.theory_resolution.specs.Lists.{tabulate}
+use Rattle.theory_resolution.specs.Names.{sameName}
+use Rattle.theory_resolution.proofs.Lists.{mem-at, tabulate-at, tabulate-length}
+use Rattle.base_ascii.specs.Ascii.{within}
+use Rattle.base_text.specs.Text.{all}
 use Rattle.node_search.specs.Arrays.{stretch}
-use Rattle.signal_places.specs.Tests.{noTwo}
-use Rattle.stored_table.proofs.Accepting.{all-mem}
-use Rattle.signal_places.proofs.TestLaws.{all-next, all-fails}
+use Rattle.table_places.specs.Tests.{noTwo}
+use Rattle.table_decode.proofs.Accepting.{all-mem}
+use Rattle.table_places.proofs.TestLaws.{all-next, all-fails}
 use Rattle.table_sections.proofs.Tabulated.{tab-suc, tab-same-end}
 use Rattle.tree_nodes.specs.Scan.{sameNode}
 use Rattle.tree_sections.specs.Held.{nodeFrom}

@@ -5,9 +5,9 @@ use mathlib.Core.Option.{Option, none, some}
 use mathlib.Core.List.{List, [], _∷_}
 use lib.ListN.{length}
 use lib.Dec.{leb, eqb}
-use Rattle.resolution.specs.Lists.{allBelow}
-use Rattle.resolution.specs.Names.{sameName}
-use Rattle.signal_places.specs.Tests.{noTwo}
+use Rattle.theory_resolution.specs.Lists.{allBelow}
+use Rattle.theory_resolution.specs.Names.{sameName}
+use Rattle.table_places.specs.Tests.{noTwo}
 use Rattle.table_sections.specs.Held.{joined}
 use Rattle.tree_sections.specs.Tree.{Node, nodeOf, Tree}
 

@@ -5,16 +5,16 @@ use mathlib.Core.Bool.{Bool, cond, _&&_, _||_}
 use mathlib.Core.List.{List, foldl}
 use lib.ListN.{length, getD}
 use lib.Dec.{eqb, leb, ltb}
-use Rattle.resolution.specs.Lists.{tabulate}
-use Rattle.resolution.specs.Names.{Name}
-use Rattle.ascii.specs.Ascii.{within}
-use Rattle.text_bytes.specs.Text.{all}
-use Rattle.alert_urn.specs.Urn.{storedName}
+use Rattle.theory_resolution.specs.Lists.{tabulate}
+use Rattle.theory_resolution.specs.Names.{Name}
+use Rattle.base_ascii.specs.Ascii.{within}
+use Rattle.base_text.specs.Text.{all}
+use Rattle.urn_names.specs.Urn.{storedName}
 use Rattle.node_search.specs.Arrays.{stretch}
 use Rattle.table_sections.specs.Held.{joined}
-use Rattle.signal_places.specs.Tests.{noTwo}
+use Rattle.table_places.specs.Tests.{noTwo}
 use Rattle.tree_sections.specs.Held.{nodeFrom}
-use Rattle.table_forms.specs.Refusals.{grown}
+use Rattle.tree_forms.specs.Refusals.{grown}
 use Rattle.tree_nodes.specs.Scan.{sameNode}
 
 -- the parent of the node at index i is 0, or a node of the same category before it

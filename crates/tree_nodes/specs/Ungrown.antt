@@ -7,7 +7,7 @@ use mathlib.Core.List.{List, List·Memᴰ}
 use lib.ListN.{length, getD}
 use Rattle.table_sections.specs.Held.{joined}
 use Rattle.tree_sections.specs.Tree.{Node, nodeOf, Tree}
-use Rattle.table_forms.specs.Refusals.{grown}
+use Rattle.tree_forms.specs.Refusals.{grown}
 
 -- the node numbers of all signals, in stored order
 abbrev pub numbersOf : Tree → List ℕ

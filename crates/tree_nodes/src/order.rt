@@ -1,11 +1,11 @@
-use text_bytes::cut::wide;
+use base_text::cut::wide;
 ghost use mathlib.Core.Path.{_≡_};
 ghost use mathlib.Core.List.{foldl};
 ghost use Prim.Native.Nat.{ℕ, _≤_, _<_};
 ghost use lib.ListN.{getD};
-ghost use Rattle.resolution.specs.Lists.{tabulate};
-ghost use Rattle.ascii.specs.Ascii.{within};
-ghost use Rattle.text_bytes.specs.Text.{all};
+ghost use Rattle.theory_resolution.specs.Lists.{tabulate};
+ghost use Rattle.base_ascii.specs.Ascii.{within};
+ghost use Rattle.base_text.specs.Text.{all};
 ghost use Rattle.tree_nodes.specs.Tests.{linkedBy, stepBy};
 
 // The number is that of one of n nodes.

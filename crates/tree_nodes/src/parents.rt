@@ -1,10 +1,10 @@
-use text_bytes::cut::wide;
+use base_text::cut::wide;
 ghost use mathlib.Core.Path.{_≡_};
 ghost use Prim.Native.Nat.{_≤_, _<_};
 ghost use lib.ListN.{getD};
 ghost use lib.Dec.{ltb};
-ghost use Rattle.resolution.specs.Lists.{tabulate};
-ghost use Rattle.text_bytes.specs.Text.{all};
+ghost use Rattle.theory_resolution.specs.Lists.{tabulate};
+ghost use Rattle.base_text.specs.Text.{all};
 ghost use Rattle.tree_nodes.specs.Tests.{underAt};
 
 // Every node's category is there.

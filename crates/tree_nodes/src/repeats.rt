@@ -1,8 +1,8 @@
 use node_search::texts::node_text;
 ghost use mathlib.Core.Path.{_≡_};
 ghost use Prim.Native.Nat.{_≤_, _<_};
-ghost use Rattle.resolution.specs.Lists.{tabulate};
-ghost use Rattle.signal_places.specs.Tests.{any, noTwo};
+ghost use Rattle.theory_resolution.specs.Lists.{tabulate};
+ghost use Rattle.table_places.specs.Tests.{any, noTwo};
 ghost use Rattle.tree_sections.specs.Held.{nodeFrom};
 ghost use Rattle.tree_nodes.specs.Scan.{sameNode};
 
@@ -26,7 +26,7 @@ fn alike(
         let p = parent[i];
         let q = parent[j];
         if p == q {
-            return text_bytes::compare::same(node_text(t, at, len, i), node_text(t, at, len, j));
+            return base_text::compare::same(node_text(t, at, len, i), node_text(t, at, len, j));
         }
         return false;
     }

@@ -11,7 +11,7 @@ pub fn lasts_formed(t: &[u8], n: usize, at: &[u16; 64], len: &[u8; 64]) -> bool
     }
     let mut i = 0;
     while i < n {
-        if alert_urn::urn::stored_name(node_text(t, at, len, i)) {
+        if urn_names::urn::stored_name(node_text(t, at, len, i)) {
             i += 1;
         } else {
             return false;

@@ -13,8 +13,8 @@ use Rattle.table_sections.specs.declared.bytes.Reading.{Reading}
 use Rattle.table_sections.specs.declared.bytes.Reading.the-variants.{Fault as Stop, Got}
 use Rattle.table_sections.proofs.Readings.{stretch-set, stretch-keep, times-length}
 use Rattle.table_sections.proofs.SectionLaws.{map-got, map-fault}
-use Rattle.resolution.specs.Lists.{tabulate}
-use Rattle.resolution.specs.Names.{Name}
+use Rattle.theory_resolution.specs.Lists.{tabulate}
+use Rattle.theory_resolution.specs.Names.{Name}
 use Rattle.node_search.specs.Arrays.{stretch}
 use Rattle.tree_sections.specs.Tree.{Node, anyByte, node, nodes, signalsFrom, nodesFrom, tree, treeSections}
 use Rattle.tree_sections.specs.Held.{nodeRead, nodeInside, nodeFrom, numberAt, noCounts, RestRead, BothRead, TreeRead}

@@ -4,8 +4,8 @@ use mathlib.Core.Path.{_≡_}
 use mathlib.Core.Bool.{true, false}
 use mathlib.Core.List.{List}
 use lib.ListN.{length, getD, take, drop}
-use Rattle.resolution.specs.Lists.{tabulate}
-use Rattle.resolution.specs.Names.{Name}
+use Rattle.theory_resolution.specs.Lists.{tabulate}
+use Rattle.theory_resolution.specs.Names.{Name}
 use Rattle.node_search.specs.Arrays.{stretch}
 use Rattle.table_sections.specs.Stored.{Read, fault, got}
 use Rattle.table_sections.specs.Held.{Tagged, tag, taggedFrom}

@@ -4,7 +4,7 @@ use mathlib.Core.Bool.{cond}
 use mathlib.Core.List.{List, []}
 use lib.ListN.{length, getD}
 use lib.Dec.{ltb}
-use Rattle.resolution.specs.Names.{Name}
+use Rattle.theory_resolution.specs.Names.{Name}
 use Rattle.table_sections.specs.Stored.{Read, fault, got, andThen, byteIn, text, counted, categories}
 
 -- a node: its category, the number of its parent (0: directly under the root) and the last name of its path

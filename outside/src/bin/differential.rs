@@ -1,7 +1,7 @@
 //! Cases against every implementation: tables at the limits, every byte at every place of a small table, machine and
 //! value, then so many random ones: `differential [CASES [SEED]]`.
 //!
-//! The reference says what is right. A difference is printed as a line that crates/conformance/data could hold. At the
+//! The reference says what is right. A difference is printed as a line that crates/program_conformance/data could hold. At the
 //! end stands how often each function gave each refusal number; one that was never given is a failure.
 use outside::baseline::Baseline;
 use outside::cases::{show_counts, show_record, show_records, to_hex};

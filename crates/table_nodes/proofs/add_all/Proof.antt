@@ -3,10 +3,10 @@ use Prim.Native.Nat.{ℕ, _≤_, _<_, _-_}
 use mathlib.Core.Path.{_≡_, ap₂, _∙_}
 use mathlib.Core.List.{foldl, []}
 use lib.ListN.{length, getD, length-set, take, drop}
-use Rattle.resolution.specs.Lists.{tabulate}
-use Rattle.resolution.specs.Table.{urn}
-use Rattle.resolution.specs.Nodes.{addUrn}
-use Rattle.text_bytes.specs.Text.{fields}
+use Rattle.theory_resolution.specs.Lists.{tabulate}
+use Rattle.theory_resolution.specs.Table.{urn}
+use Rattle.theory_resolution.specs.Nodes.{addUrn}
+use Rattle.base_text.specs.Text.{fields}
 use Rattle.node_search.specs.Arrays.{stretch}
 use Rattle.table_nodes.specs.Nodes.{nodeUrn, Clear, Nodes, Numbered}
 use Rattle.table_nodes.proofs.NodeArrays.{all-over, all-nodes, all-numbered, nodes-none, all-end}

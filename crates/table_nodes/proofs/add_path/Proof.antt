@@ -3,9 +3,9 @@ use Prim.Native.Nat.{_≤_, _<_, _-_}
 use mathlib.Core.Path.{_≡_, ap}
 use mathlib.Core.List.{List, [], foldl}
 use lib.ListN.{length, getD, drop, length-take}
-use Rattle.resolution.specs.Table.{Urn}
-use Rattle.resolution.specs.Nodes.{addUrn}
-use Rattle.text_bytes.proofs.Fields.{upTo-le}
+use Rattle.theory_resolution.specs.Table.{Urn}
+use Rattle.theory_resolution.specs.Nodes.{addUrn}
+use Rattle.base_text.proofs.Fields.{upTo-le}
 use Rattle.table_nodes.proofs.NodeArrays.{PathDone, path-start, path-more, path-over, path-end, colon-start, colon-next, next-le}
 use borrow.Author.Needs.{needs}
 use Rattle.table_nodes.proofs.add_path.Statement.{statement}

@@ -1,9 +1,9 @@
 use native.Mathlib.Omega.{arith}
 use mathlib.Core.Path.{ap, _∙_}
 use mathlib.Core.List.{foldl, []}
-use Rattle.resolution.specs.Lists.{tabulate}
-use Rattle.resolution.specs.Nodes.{number, addUrn}
-use Rattle.text_bytes.specs.Text.{fields}
+use Rattle.theory_resolution.specs.Lists.{tabulate}
+use Rattle.theory_resolution.specs.Nodes.{number, addUrn}
+use Rattle.base_text.specs.Text.{fields}
 use Rattle.table_nodes.specs.Nodes.{nodeUrn}
 use Rattle.table_nodes.proofs.NodeArrays.{none-of, whole-found}
 use borrow.Author.Needs.{needs}

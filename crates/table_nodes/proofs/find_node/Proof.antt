@@ -2,10 +2,10 @@ use native.Mathlib.Omega.{arith}
 use Prim.Native.Nat.{_≤_, _-_}
 use mathlib.Core.Path.{_≡_}
 use mathlib.Core.Bool.{false}
-use Rattle.resolution.specs.Lists.{tabulate, memberBy}
-use Rattle.resolution.specs.Table.{urn}
-use Rattle.resolution.specs.Nodes.{sameUrn}
-use Rattle.text_bytes.specs.Text.{fields}
+use Rattle.theory_resolution.specs.Lists.{tabulate, memberBy}
+use Rattle.theory_resolution.specs.Table.{urn}
+use Rattle.theory_resolution.specs.Nodes.{sameUrn}
+use Rattle.base_text.specs.Text.{fields}
 use Rattle.table_nodes.specs.Nodes.{nodeUrn}
 use Rattle.table_sections.proofs.Tabulated.{index-start, index-next}
 use Rattle.table_nodes.proofs.NodeArrays.{number-hit, number-none}

@@ -1,7 +1,7 @@
 use native.Mathlib.Omega.{arith}
 use mathlib.Core.Path.{sym}
-use Rattle.resolution.specs.Lists.{tabulate}
-use Rattle.text_bytes.specs.Text.{fields}
+use Rattle.theory_resolution.specs.Lists.{tabulate}
+use Rattle.base_text.specs.Text.{fields}
 use Rattle.table_nodes.specs.Nodes.{nodeUrn}
 use Rattle.table_nodes.proofs.NodeArrays.{no-number}
 use borrow.Author.Needs.{needs}

@@ -1,5 +1,5 @@
 use mathlib.Core.Path.{sym, _∙_}
-use Rattle.text_bytes.proofs.Turns.{ends-other}
+use Rattle.base_text.proofs.Turns.{ends-other}
 use Rattle.table_nodes.proofs.NodeArrays.{node-same, node-other}
 use Rattle.node_search.proofs.TextLaws.{text-in}
 use borrow.Author.Needs.{needs}

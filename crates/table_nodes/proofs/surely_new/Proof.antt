@@ -1,4 +1,3 @@
-use mathlib.Core.Path.{refl}
 use borrow.Author.Needs.{needs}
 use Rattle.table_nodes.proofs.surely_new.Statement.{statement}
 use Rattle.table_nodes.proofs.surely_new.Tie as tie

@@ -3,7 +3,7 @@ use Prim.Native.Nat.{ℕ, _-_, _≤_}
 use mathlib.Core.Path.{_≡_, _∙_}
 use lib.ListN.{length, getD, length-set}
 use lib.Seq.{getD-set-other}
-use Rattle.text_bytes.proofs.Turns.{common-le}
+use Rattle.base_text.proofs.Turns.{common-le}
 use Rattle.node_search.specs.Arrays.{SharedIn}
 use Rattle.node_search.proofs.MarkLaws.{shared-more}
 use Rattle.node_search.proofs.TextLaws.{text-in}

@@ -1,4 +1,4 @@
-use Rattle.text_bytes.specs.Text.{lowered}
+use Rattle.base_text.specs.Text.{lowered}
 use Rattle.node_search.proofs.UseLaws.{departs-there, departs-not}
 use borrow.Author.Needs.{needs}
 use Rattle.node_search.proofs.uses.departs.Statement.{statement}

@@ -1,9 +1,9 @@
-use Rattle.text_bytes.specs.Text.{lowered}
+use Rattle.base_text.specs.Text.{lowered}
 use native.Mathlib.Omega.{arith}
 use Prim.Native.Nat.{_≤_, _-_}
 use mathlib.Core.Path.{_≡_, ap, sym, _∙_}
 use native.Mathlib.Nat.{sub-zero}
-use Rattle.resolution.specs.Names.{sameName}
+use Rattle.theory_resolution.specs.Names.{sameName}
 use Rattle.node_search.specs.Search.{findName}
 use Rattle.node_search.proofs.UseLaws.{name-found, name-more, name-none}
 use Rattle.node_search.proofs.TextLaws.{text-in}

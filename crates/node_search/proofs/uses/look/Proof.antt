@@ -1,6 +1,6 @@
-use Rattle.text_bytes.specs.Text.{lowered}
-use Rattle.text_bytes.specs.Words.{commonNext}
-use Rattle.text_bytes.proofs.Cases.{taken-small}
+use Rattle.base_text.specs.Text.{lowered}
+use Rattle.base_text.specs.Words.{commonNext}
+use Rattle.base_text.proofs.Cases.{taken-small}
 use native.Mathlib.Omega.{arith}
 use mathlib.Core.Path.{ap, _∙_}
 use Rattle.node_search.specs.declared.uses.Search.{Search}

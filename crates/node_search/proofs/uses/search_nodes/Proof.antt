@@ -1,5 +1,5 @@
-use Rattle.text_bytes.specs.Text.{lowered}
-use Rattle.text_bytes.proofs.Cases.{test-as-is}
+use Rattle.base_text.specs.Text.{lowered}
+use Rattle.base_text.proofs.Cases.{test-as-is}
 use native.Mathlib.Omega.{arith}
 use Prim.Native.Nat.{ℕ, _+_, _*_, _-_, _≤_}
 use mathlib.Core.Path.{_≡_, refl, ap, sym, subst}

@@ -7,8 +7,8 @@ use Rattle.node_step.proofs.stored.fits.Tie as tie
 use Rattle.node_step.proofs.stored.fits.Reads as reads
 use Rattle.node_step.proofs.stored.fits.Lts as lts
 use Rattle.node_step.proofs.stored.beyond.Reads as beyond-reads
-use Rattle.text_bytes.proofs.compare.at_most.Reads as at-most-reads
-use Rattle.text_bytes.proofs.cut.wide.Reads as wide-reads
+use Rattle.base_text.proofs.compare.at_most.Reads as at-most-reads
+use Rattle.base_text.proofs.cut.wide.Reads as wide-reads
 
 -- src/stored.rt:166:9
 returns : tie.Need-returns

@@ -7,7 +7,7 @@ use Rattle.node_step.proofs.stored.step_packed.Tie as tie
 use Rattle.node_step.proofs.stored.step_packed.Reads as reads
 use Rattle.node_step.proofs.stored.step_packed.Lts as lts
 use Rattle.node_step.proofs.digit_at.Reads as digit-at-reads
-use Rattle.text_bytes.proofs.compare.at_most.Reads as at-most-reads
+use Rattle.base_text.proofs.compare.at_most.Reads as at-most-reads
 use Rattle.node_step.proofs.row_at.Reads as row-at-reads
 use Rattle.node_step.proofs.seek_from.Reads as seek-from-reads
 use Rattle.node_step.proofs.stored.moved_packed.Reads as moved-packed-reads

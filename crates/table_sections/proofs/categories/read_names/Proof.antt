@@ -1,8 +1,8 @@
 use native.Mathlib.Omega.{arith}
-use Prim.Native.Nat.{_≤_, _-_, _<_}
+use Prim.Native.Nat.{_≤_, _-_}
 use mathlib.Core.Path.{_≡_}
 use lib.ListN.{length}
-use Rattle.resolution.specs.Lists.{tabulate}
+use Rattle.theory_resolution.specs.Lists.{tabulate}
 use Rattle.node_search.specs.Arrays.{stretch}
 use Rattle.table_sections.specs.Stored.{text, times}
 use Rattle.table_sections.specs.Held.{Padded}

@@ -2,8 +2,7 @@ use native.Mathlib.Omega.{arith}
 use Prim.Native.Nat.{_≤_, _-_, _+_, _*_}
 use mathlib.Core.Path.{_≡_}
 use mathlib.Core.List.{_++_}
-use lib.ListN.{length}
-use Rattle.resolution.specs.Lists.{tabulate}
+use Rattle.theory_resolution.specs.Lists.{tabulate}
 use Rattle.table_sections.specs.Stored.{text, times, counted}
 use Rattle.table_sections.specs.Held.{taggedFrom, urnAt, Room, mapRead}
 use Rattle.table_sections.proofs.SectionLaws.{signals-start, signals-more, signals-stop, signals-done, at-most-got}

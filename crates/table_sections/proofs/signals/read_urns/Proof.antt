@@ -1,8 +1,8 @@
 use native.Mathlib.Omega.{arith}
-use Prim.Native.Nat.{_≤_, _-_, _<_}
+use Prim.Native.Nat.{_≤_, _-_}
 use mathlib.Core.Path.{_≡_, refl, _∙_}
-use lib.ListN.{length, length-set}
-use Rattle.resolution.specs.Lists.{tabulate}
+use lib.ListN.{length-set}
+use Rattle.theory_resolution.specs.Lists.{tabulate}
 use Rattle.table_sections.specs.Stored.{text, times}
 use Rattle.table_sections.specs.Held.{tag, urnAt, Room}
 use Rattle.table_sections.proofs.Readings.{after, run-more, run-stop, run-done, text-was, text-was-fault, text-inside, stored-urn, urn-keep}

@@ -4,9 +4,9 @@ use mathlib.Core.Path.{_≡_}
 use mathlib.Core.Bool.{true}
 use lib.ListN.{getD}
 use lib.Dec.{eqb}
-use Rattle.resolution.specs.Lists.{tabulate}
-use Rattle.text_bytes.specs.Text.{all}
-use Rattle.signal_places.proofs.TestLaws.{all-start}
+use Rattle.theory_resolution.specs.Lists.{tabulate}
+use Rattle.base_text.specs.Text.{all}
+use Rattle.table_places.proofs.TestLaws.{all-start}
 use Rattle.tree_nodes.proofs.Tests.{link-next, link-fails, link-ends}
 use borrow.Author.Needs.{needs}
 use Rattle.tree_nodes.proofs.order.linked.Statement.{statement}

@@ -3,10 +3,10 @@ use Prim.Native.Nat.{_≤_, _-_}
 use mathlib.Core.Path.{_≡_, ap, _∙_}
 use mathlib.Core.Bool.{true}
 use lib.ListN.{getD}
-use Rattle.resolution.specs.Lists.{tabulate}
-use Rattle.ascii.specs.Ascii.{within}
-use Rattle.text_bytes.specs.Text.{all}
-use Rattle.signal_places.proofs.TestLaws.{all-start, all-next, all-fails, all-ends}
+use Rattle.theory_resolution.specs.Lists.{tabulate}
+use Rattle.base_ascii.specs.Ascii.{within}
+use Rattle.base_text.specs.Text.{all}
+use Rattle.table_places.proofs.TestLaws.{all-start, all-next, all-fails, all-ends}
 use borrow.Author.Needs.{needs}
 use Rattle.tree_nodes.proofs.order.numbers_known.Statement.{statement}
 use Rattle.tree_nodes.proofs.order.numbers_known.Tie as tie

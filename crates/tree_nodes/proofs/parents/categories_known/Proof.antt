@@ -4,9 +4,9 @@ use mathlib.Core.Path.{_≡_}
 use mathlib.Core.Bool.{true}
 use lib.ListN.{getD}
 use lib.Dec.{ltb}
-use Rattle.resolution.specs.Lists.{tabulate}
-use Rattle.text_bytes.specs.Text.{all}
-use Rattle.signal_places.proofs.TestLaws.{all-start, all-ends}
+use Rattle.theory_resolution.specs.Lists.{tabulate}
+use Rattle.base_text.specs.Text.{all}
+use Rattle.table_places.proofs.TestLaws.{all-start, all-ends}
 use Rattle.tree_nodes.proofs.Tests.{lower-next, lower-fails}
 use borrow.Author.Needs.{needs}
 use Rattle.tree_nodes.proofs.parents.categories_known.Statement.{statement}

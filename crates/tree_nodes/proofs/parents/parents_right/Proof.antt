@@ -2,9 +2,9 @@ use native.Mathlib.Omega.{arith}
 use Prim.Native.Nat.{_≤_, _-_}
 use mathlib.Core.Path.{_≡_}
 use mathlib.Core.Bool.{true}
-use Rattle.resolution.specs.Lists.{tabulate}
-use Rattle.text_bytes.specs.Text.{all}
-use Rattle.signal_places.proofs.TestLaws.{all-start, all-next, all-fails, all-ends}
+use Rattle.theory_resolution.specs.Lists.{tabulate}
+use Rattle.base_text.specs.Text.{all}
+use Rattle.table_places.proofs.TestLaws.{all-start, all-next, all-fails, all-ends}
 use Rattle.tree_nodes.specs.Tests.{underAt}
 use borrow.Author.Needs.{needs}
 use Rattle.tree_nodes.proofs.parents.parents_right.Statement.{statement}

@@ -2,9 +2,9 @@ use native.Mathlib.Omega.{arith}
 use Prim.Native.Nat.{_≤_, _-_}
 use mathlib.Core.Path.{_≡_, sym, _∙_}
 use mathlib.Core.Bool.{true}
-use Rattle.resolution.specs.Lists.{tabulate}
-use Rattle.signal_places.specs.Tests.{noTwo}
-use Rattle.signal_places.proofs.TestLaws.{two-start, two-next, two-fails, two-ends}
+use Rattle.theory_resolution.specs.Lists.{tabulate}
+use Rattle.table_places.specs.Tests.{noTwo}
+use Rattle.table_places.proofs.TestLaws.{two-start, two-next, two-fails, two-ends}
 use Rattle.tree_nodes.specs.Scan.{sameNode}
 use Rattle.tree_sections.specs.Held.{nodeFrom}
 use borrow.Author.Needs.{needs}

@@ -2,11 +2,11 @@ use native.Mathlib.Omega.{arith}
 use Prim.Native.Nat.{_≤_, _-_}
 use mathlib.Core.Path.{_≡_, ap, _∙_}
 use mathlib.Core.Bool.{true}
-use Rattle.resolution.specs.Lists.{tabulate}
-use Rattle.text_bytes.specs.Text.{all}
-use Rattle.alert_urn.specs.Urn.{storedName}
+use Rattle.theory_resolution.specs.Lists.{tabulate}
+use Rattle.base_text.specs.Text.{all}
+use Rattle.urn_names.specs.Urn.{storedName}
 use Rattle.node_search.specs.Arrays.{stretch}
-use Rattle.signal_places.proofs.TestLaws.{all-start, all-next, all-fails, all-ends}
+use Rattle.table_places.proofs.TestLaws.{all-start, all-next, all-fails, all-ends}
 use Rattle.node_search.proofs.TextLaws.{text-in}
 use Rattle.tree_nodes.proofs.ByArrays.{lasts-over, lasts-within}
 use borrow.Author.Needs.{needs}

@@ -2,7 +2,7 @@ use native.Mathlib.Omega.{arith}
 use Prim.Native.Nat.{_≤_, _-_, _<_}
 use mathlib.Core.Path.{_≡_, refl, _∙_}
 use lib.ListN.{length, length-set}
-use Rattle.resolution.specs.Lists.{tabulate}
+use Rattle.theory_resolution.specs.Lists.{tabulate}
 use Rattle.table_sections.specs.Stored.{times}
 use Rattle.table_sections.specs.Held.{tag}
 use Rattle.table_sections.proofs.Padding.{one-byte}

@@ -3,7 +3,7 @@ use Prim.Native.Nat.{_≤_, _-_, _*_}
 use mathlib.Core.Path.{_≡_}
 use mathlib.Core.List.{_++_}
 use lib.ListN.{length}
-use Rattle.resolution.specs.Lists.{tabulate}
+use Rattle.theory_resolution.specs.Lists.{tabulate}
 use Rattle.table_sections.specs.Stored.{times, counted}
 use Rattle.table_sections.specs.Held.{taggedFrom, mapRead}
 use Rattle.table_sections.proofs.Padding.{one-byte}

@@ -1,0 +1,27 @@
+use mathlib.Core.Path.{ap, _∙_}
+use Rattle.machine_image.specs.Image.{placeOf, signalIn}
+use Rattle.machine_check.proofs.ImageLaws.{signal-is}
+use borrow.Author.Needs.{needs}
+use Rattle.machine_check.proofs.image.signal.Statement.{statement}
+use Rattle.machine_check.proofs.image.signal.Tie as tie
+
+at-most-requires : tie.Need-at-most-requires
+at-most-requires c κs = search needs
+
+wide-requires : tie.Need-wide-requires
+wide-requires c κs = search needs
+
+place-requires : tie.Need-place-requires
+place-requires c κs = search needs
+
+byte-requires : tie.Need-byte-requires
+byte-requires c κs = search needs
+
+returns : tie.Need-returns
+returns c = let a = c .before .before .before .before .before .args in
+    signal-is (a .im .now) (c .before .before .before .at-most .result) (a .j) (c .before .place .ensures .0 ∙ ap (placeOf (c .before .before .before .at-most .result) (a .im .now)) (c .before .before .wide .ensures .0)) (c .byte .ensures)
+    ∙ ap (λ z. signalIn z (a .im .now) (a .j)) (c .before .before .before .at-most .ensures .0)
+
+pub signal-spec : {M : Type 1} → statement M
+signal-spec =
+    tie.close (tie.spec at-most-requires wide-requires place-requires byte-requires returns)

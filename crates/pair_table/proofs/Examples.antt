@@ -1,9 +1,0 @@
--- The example, computed from the definitions.
-use mathlib.Core.Path.{refl}
-use Rattle.resolution.specs.Direct.{step}
-use Rattle.resolution.specs.Nodes.{nodes}
-use Rattle.pair_table.specs.Examples.{PairExample}
-
-pub pair-example : PairExample
-unfolding step nodes
-pair-example = record { all-pairs = refl; ring = refl; lamp = refl; number = refl; pair = refl }

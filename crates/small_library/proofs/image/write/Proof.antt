@@ -1,0 +1,73 @@
+use mathlib.Core.Path.{_∙_}
+use lib.ListN.{length}
+use Rattle.small_library.proofs.AnswerLaws.{rows-is, front-is, write-read}
+use borrow.Author.Needs.{needs}
+use Rattle.small_library.proofs.image.write.Statement.{statement}
+use Rattle.small_library.proofs.image.write.Tie as tie
+
+at-requires : tie.Need-at-requires
+at-requires c κs = search needs
+
+state-count-requires : tie.Need-state-count-requires
+state-count-requires c κs = search needs
+
+mul-f : tie.Need-mul-f
+mul-f c = search needs
+
+add-f : tie.Need-add-f
+add-f c = search needs
+
+mul-a : tie.Need-mul-a
+mul-a c = search needs
+
+add-a : tie.Need-add-a
+add-a c = search needs
+
+sub-write : tie.Need-sub-write
+sub-write c = search needs
+
+part-write-start : tie.Need-part-write-start
+part-write-start c = search needs
+
+part-write-end : tie.Need-part-write-end
+part-write-end c = search needs
+
+sub-write-2 : tie.Need-sub-write-2
+sub-write-2 c = search needs
+
+part-write-start-2 : tie.Need-part-write-start-2
+part-write-start-2 c = search needs
+
+part-write-end-2 : tie.Need-part-write-end-2
+part-write-end-2 c = search needs
+
+write-requires : tie.Need-write-requires
+write-requires c κs = search needs
+
+same-length : tie.Need-same-length
+same-length c = search needs
+
+returns : tie.Need-returns
+returns c = let a = c .before .before .before .before .before .before .before .before .before .before .before .args in
+    let e = write-read (a .im .now) _ (c .before .before .before .before .before .before .state-count .result) (c .before .before .before .before .before .before .before .at .result) (a .head) (rows-is (a .im .now) (c .before .before .before .before .before .before .before .at .result) (c .before .before .before .before .before .before .before .at .ensures .0)) (c .before .before .before .before .before .before .state-count .ensures .0) (c .before .before .before .before .before .before .before .at .ensures .0) _ (a .p .now) (length (a .buf .now)) (front-is (a .im .now) (c .before .before .before .before .before .before .before .at .result) (c .before .before .before .before .before .before .before .at .ensures .0)) in
+    (c .before .before .write .ensures .0 ∙ e .0, c .before .before .write .ensures .1 ∙ e .1)
+
+pub write-spec : {M : Type 1} → statement M
+write-spec =
+    tie.close
+    (tie.spec
+    at-requires
+    state-count-requires
+    mul-f
+    add-f
+    mul-a
+    add-a
+    sub-write
+    part-write-start
+    part-write-end
+    sub-write-2
+    part-write-start-2
+    part-write-end-2
+    write-requires
+    same-length
+    returns)

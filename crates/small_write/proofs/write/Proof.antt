@@ -1,0 +1,45 @@
+use mathlib.Core.Path.{sym, _∙_}
+use borrow.Author.Tests.{not-true, not-false}
+use lib.ListN.{length}
+use Rattle.small_rounds.specs.Stored.{storedMachine}
+use Rattle.small_write.specs.Written.{smallBy}
+use Rattle.small_write.proofs.WriteLaws.{fit-no, fit-yes}
+use borrow.Author.Needs.{needs}
+use Rattle.small_write.proofs.write.Statement.{statement}
+use Rattle.small_write.proofs.write.Tie as tie
+
+check-requires : tie.Need-check-requires
+check-requires c κs = search needs
+
+refuse-requires : tie.Need-refuse-requires
+refuse-requires c κs = search needs
+
+same-length : tie.Need-same-length
+same-length c = search needs
+
+returns : tie.Need-returns
+returns c = let a = c .before .before .before .before .before .before .before .before .before .before .args in
+    let e = fit-no (a .rows .now) (a .n) (a .head) (a .k) (a .p .now) (smallBy (a .front .now) (storedMachine (a .rows .now) (a .n) (a .head) (a .k)) (a .p .now)) (length (a .buf .now)) (sym (c .before .before .before .before .before .check .ensures) ∙ not-true _ (c .before .before .before .before .if1 .taken)) in
+    (c .before .before .refuse .ensures .0 ∙ e .0, c .before .before .refuse .ensures .1 ∙ e .1)
+
+write-small-requires : tie.Need-write-small-requires
+write-small-requires c κs = sym (c .before .before .check .ensures) ∙ not-false _ (c .before .if1 .left)
+
+same-length-2 : tie.Need-same-length-2
+same-length-2 c = search needs
+
+returns-2 : tie.Need-returns-2
+returns-2 c = let a = c .before .before .before .before .before .before .before .before .before .before .args in
+    fit-yes (a .rows .now) (a .n) (a .head) (a .k) (a .p .now) (smallBy (a .front .now) (storedMachine (a .rows .now) (a .n) (a .head) (a .k)) (a .p .now)) (length (a .buf .now)) (sym (c .before .before .before .before .before .check .ensures) ∙ not-false _ (c .before .before .before .before .if1 .left)) _ _ (c .before .before .write-small .ensures .0, c .before .before .write-small .ensures .1)
+
+pub write-spec : {M : Type 1} → statement M
+write-spec =
+    tie.close
+    (tie.spec
+    check-requires
+    refuse-requires
+    same-length
+    returns
+    write-small-requires
+    same-length-2
+    returns-2)

@@ -1,0 +1,57 @@
+use native.Mathlib.Omega.{arith}
+use Prim.Native.Nat.{_≤_, _-_}
+use mathlib.Core.Path.{_≡_, ap, _∙_}
+use mathlib.Core.Bool.{true}
+use Rattle.theory_resolution.specs.Lists.{tabulate}
+use Rattle.base_text.specs.Text.{all}
+use Rattle.urn_names.specs.Urn.{storedName}
+use Rattle.node_search.specs.Arrays.{textIn}
+use Rattle.table_places.proofs.TestLaws.{all-start, all-next, all-fails, all-ends}
+use borrow.Author.Needs.{needs}
+use Rattle.table_names.proofs.names_formed.Statement.{statement}
+use Rattle.table_names.proofs.names_formed.Tie as tie
+
+abbrev Inv-loop : tie.InvT-loop
+Inv-loop t n at len i₀ i = (i ≤ n) × (all storedName (tabulate (textIn 8 t at len) i) ≡ true)
+
+abbrev μ-loop : tie.MeasureT-loop
+μ-loop t n at len i₀ i = n - i
+
+loop-holds : tie.Need-loop-holds Inv-loop μ-loop
+loop-holds c = (omega arith, all-start _ _)
+
+name-text-requires : tie.Need-name-text-requires Inv-loop μ-loop
+name-text-requires c κs = search needs
+
+stored-name-requires : tie.Need-stored-name-requires Inv-loop μ-loop
+stored-name-requires c κs = search needs
+
+add-i : tie.Need-add-i Inv-loop μ-loop
+add-i c = search needs
+
+loop-less : tie.Need-loop-less Inv-loop μ-loop
+loop-less c = omega arith
+
+loop-again : tie.Need-loop-again Inv-loop μ-loop
+loop-again c = (omega arith, all-next _ _ _ (c .before .before .before .before .loop .inv .1) (c .before .stored-name .ensures ∙ ap storedName (c .before .before .name-text .ensures .0)) (c .if1 .taken))
+
+returns : tie.Need-returns Inv-loop μ-loop
+returns c = all-fails _ _ _ _ (c .before .before .before .loop-test .taken) (c .before .stored-name .ensures ∙ ap storedName (c .before .before .name-text .ensures .0)) (c .if1 .left)
+
+returns-2 : tie.Need-returns-2 Inv-loop μ-loop
+returns-2 c = all-ends _ _ _ _ (c .before .loop .inv .1) (c .before .loop .inv .0) (c .loop-test .left)
+
+pub names-formed-spec : {M : Type 1} → statement M
+names-formed-spec =
+    tie.close
+    (tie.spec
+    Inv-loop
+    μ-loop
+    loop-holds
+    name-text-requires
+    stored-name-requires
+    add-i
+    loop-less
+    loop-again
+    returns
+    returns-2)

@@ -1,0 +1,53 @@
+use native.Mathlib.Omega.{arith}
+use Prim.Native.Nat.{_≤_, _-_}
+use mathlib.Core.Path.{_≡_, sym, _∙_}
+use mathlib.Core.Bool.{true}
+use lib.ListN.{getD}
+use lib.Dec.{eqb}
+use Rattle.theory_resolution.specs.Lists.{tabulate}
+use Rattle.table_places.specs.Tests.{noTwo}
+use Rattle.table_places.proofs.TestLaws.{two-start, two-next, two-fails, two-ends}
+use borrow.Author.Needs.{needs}
+use Rattle.table_places.proofs.places.rows_distinct.Statement.{statement}
+use Rattle.table_places.proofs.places.rows_distinct.Tie as tie
+
+abbrev Inv-loop : tie.InvT-loop
+Inv-loop n rows i₀ i = (i ≤ n) × (noTwo eqb (tabulate (λ s. getD rows s 0) i) ≡ true)
+
+abbrev μ-loop : tie.MeasureT-loop
+μ-loop n rows i₀ i = n - i
+
+loop-holds : tie.Need-loop-holds Inv-loop μ-loop
+loop-holds c = (omega arith, two-start _ _)
+
+row-again-requires : tie.Need-row-again-requires Inv-loop μ-loop
+row-again-requires c κs = search needs
+
+returns : tie.Need-returns Inv-loop μ-loop
+returns c = two-fails _ _ _ _ (c .before .before .loop-test .taken) (sym (c .before .row-again .ensures) ∙ c .if1 .taken)
+
+add-i : tie.Need-add-i Inv-loop μ-loop
+add-i c = search needs
+
+loop-less : tie.Need-loop-less Inv-loop μ-loop
+loop-less c = omega arith
+
+loop-again : tie.Need-loop-again Inv-loop μ-loop
+loop-again c = (omega arith, two-next _ _ _ (c .before .before .before .before .args .n) (c .before .before .before .loop .inv .1) (sym (c .before .row-again .ensures) ∙ c .if1 .left))
+
+returns-2 : tie.Need-returns-2 Inv-loop μ-loop
+returns-2 c = two-ends _ _ _ _ (c .before .loop .inv .1) (c .before .loop .inv .0) (c .loop-test .left)
+
+pub rows-distinct-spec : {M : Type 1} → statement M
+rows-distinct-spec =
+    tie.close
+    (tie.spec
+    Inv-loop
+    μ-loop
+    loop-holds
+    row-again-requires
+    returns
+    add-i
+    loop-less
+    loop-again
+    returns-2)

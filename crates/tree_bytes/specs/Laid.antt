@@ -1,0 +1,69 @@
+-- How a form is written to a lent buffer: from the front, as far as there is room.
+use Prim.Native.Nat.{ℕ, _+_, _≤_, max}
+use mathlib.Core.Path.{_≡_}
+use mathlib.Core.Bool.{Bool, cond, _&&_}
+use mathlib.Core.List.{List, [], _∷_, _++_, foldl}
+use lib.ListN.{length, take, drop, set}
+use lib.Dec.{eqb, leb, ltb}
+use Rattle.theory_resolution.specs.Lists.{tabulate}
+use Rattle.table_sections.specs.Held.{Tagged}
+use Rattle.node_search.specs.Arrays.{stretch}
+use Rattle.tree_sections.specs.Held.{numberAt}
+use Rattle.tree_forms.specs.Bytes.{textBytes, section}
+use Rattle.tree_forms.specs.Conversion.{Converted, converted}
+use Rattle.tree_bytes.specs.declared.Converted.{Converted as Answer}
+
+-- what a conversion answers, without the buffer
+abbrev pub answer : Converted → Answer
+answer c = record { refusal = c .refusal; len = c .len }
+
+-- the first n bytes of a buffer, with zeros after them, or 22
+unfoldable pub finished : List ℕ → ℕ → Bool → Converted
+finished b n fits = converted 0 (fits && leb n (length b)) (take n b) (length b)
+
+-- a buffer, and a position in it or past its end
+pub record Spot : Type 0 where
+  pub buffer : List ℕ
+  pub at : ℕ
+
+abbrev pub spot : List ℕ → ℕ → Spot
+spot b at = record { buffer = b; at = at }
+
+-- one byte at the position, if that is in the buffer, and the position after it; 1,000,000,000 is passed only inside a buffer
+abbrev pub putByte : Spot → ℕ → Spot
+putByte s v = spot (set (s .buffer) (s .at) v) (cond (ltb (s .at) (max (length (s .buffer)) 1000000000)) (s .at + 1) (s .at))
+
+-- these bytes, one after the other
+unfoldable pub putAll : Spot → List ℕ → Spot
+putAll s bytes = foldl putByte s bytes
+
+-- these bytes were put into the buffer old from a position on: the buffer is new then, and r the position after them
+pub record Wrote (old new : List ℕ) (at : ℕ) (bytes : List ℕ) (r : ℕ) : Type 0 where
+  pub is : spot new r ≡ putAll (spot old at) bytes
+
+-- p laid over the front of b, as far as b goes
+unfoldable pub laid : List ℕ → List ℕ → List ℕ
+laid p b = take (length b) p ++ drop (length p) b
+
+-- where a form was laid up to `at`, these bytes are laid behind it; r is the position after them
+pub record Puts (old new : List ℕ) (at : ℕ) (bytes : List ℕ) (r : ℕ) : Type 0 where
+  pub end : r ≡ at + length bytes
+  pub long : length new ≡ length old
+  pub goes-on : (p b : List ℕ) → length p ≡ at → old ≡ laid p b → new ≡ laid (p ++ bytes) b
+
+-- what the things of signal s are, in order
+unfoldable pub ofSignal : {A : Type 0} → ℕ → List (Tagged A) → List A
+ofSignal s [] = []
+ofSignal s (x ∷ xs) = cond (eqb (x .signal) s) (x .what ∷ ofSignal s xs) (ofSignal s xs)
+
+-- how many of the first m numbers are of signal s; 0 for over 256
+unfoldable pub countOf : List ℕ → List ℕ → ℕ → ℕ → ℕ
+countOf signal number m s = cond (leb m 256) (length (ofSignal s (tabulate (numberAt signal number) m))) 0
+
+-- the section of n categories at the front of the buffer b; nothing for over 8
+unfoldable pub namesAt : (t nameAt nameLen : List ℕ) → ℕ → List ℕ → Spot
+namesAt t nameAt nameLen n b = cond (leb n 8) (putAll (spot b 0) (section textBytes (tabulate (stretch t nameAt nameLen) n))) (spot b 0)
+
+-- no signal has over 8 numbers
+abbrev pub Eight : (signal number : List ℕ) → ℕ → Type 0
+Eight signal number m = (s : ℕ) → length (ofSignal s (tabulate (numberAt signal number) m)) ≤ 8

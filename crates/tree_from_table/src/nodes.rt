@@ -1,0 +1,74 @@
+use base_text::cut::text_in;
+use table_sections::bytes::small;
+use tree_bytes::put::byte;
+use tree_bytes::put::text;
+ghost use mathlib.Core.Path.{_≡_};
+ghost use Prim.Native.Nat.{_+_, _≤_, _<_};
+ghost use lib.ListN.{length, take, drop};
+ghost use Rattle.theory_resolution.specs.Lists.{tabulate};
+ghost use Rattle.base_text.specs.Text.{fields};
+ghost use Rattle.tree_forms.specs.Bytes.{section, nodeBytes};
+ghost use Rattle.tree_forms.specs.Meaning.{lastName};
+ghost use Rattle.tree_bytes.specs.Laid.{Puts};
+ghost use Rattle.tree_from_table.specs.Stored.{storedNode};
+
+// Where the last name of a path begins: after its last colon.
+fn last_start(w: &[u8]) -> usize
+    ensures { λ r. ⌜ (r ≤ length (now (w .entry))) × (drop r (now (w .entry)) ≡ lastName (fields 58 (now (w .entry)))) ⌝ }
+{
+    let mut i = w.len();
+    while 0 < i {
+        if w[i - 1] == 58 {
+            return i;
+        }
+        i -= 1;
+    }
+    i
+}
+
+// One node: its category, its parent and the last name of its path.
+fn put_node(
+    t: &[u8],
+    category: u8,
+    parent: u8,
+    at: u16,
+    len: u8,
+    buf: &mut [u8],
+    from: usize,
+) -> usize
+    requires { ⌜ from < 500000000 ⌝ }
+    ensures { λ r. ⌜ Puts (now (buf .entry)) (now (buf .exit)) from (nodeBytes (record { category = category; parent = parent; last = lastName (fields 58 (take len (drop at (now (t .entry))))) })) r ⌝ }
+    ensures { λ r. ⌜ r ≤ from + 300 ⌝ }
+{
+    let p = byte(buf, from, category);
+    let q = byte(buf, p, parent);
+    let w = text_in(t, at, len);
+    let a = last_start(w);
+    let e = w.len();
+    text(buf, q, &w[a..e])
+}
+
+// The section of n nodes.
+pub(crate) fn put_nodes(
+    t: &[u8],
+    n: usize,
+    category: &[u8; 64],
+    parent: &[u8; 64],
+    at: &[u16; 64],
+    len: &[u8; 64],
+    buf: &mut [u8],
+    from: usize,
+) -> usize
+    requires { ⌜ (n ≤ 64) × (from ≤ 4000) ⌝ }
+    ensures { λ r. ⌜ Puts (now (buf .entry)) (now (buf .exit)) from
+        (section nodeBytes (tabulate (storedNode (now (t .entry)) (now (category .entry)) (now (parent .entry)) (now (at .entry)) (now (len .entry))) n)) r ⌝ }
+    ensures { λ r. ⌜ r < 100000 ⌝ }
+{
+    let mut p = byte(buf, from, small(n));
+    let mut i = 0;
+    while i < n {
+        p = put_node(t, category[i], parent[i], at[i], len[i], buf, p);
+        i += 1;
+    }
+    p
+}
