@@ -3,7 +3,7 @@ pub mod Bytes
 -- what is claimed of it
 pub mod Claims
 pub mod Characters
--- what the promises are equations with; the claims of the crate alert_info tie it to the grammar
+-- what the promises are equations with; the claims of the crate value_reader tie it to the grammar
 pub mod Walk
 pub mod Parts
 pub mod Reading

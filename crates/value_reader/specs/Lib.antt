@@ -1,4 +1,4 @@
--- what a reader has to believe, beside the byte rules of the crate alert_cursor
+-- what a reader has to believe, beside the byte rules of the crate value_cursor
 pub mod Grammar
 -- what is claimed of it
 pub mod Claims

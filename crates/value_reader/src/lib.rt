@@ -4,7 +4,7 @@
 // One pass over the bytes; nothing is copied.
 //
 //   lib.rt    the four questions
-//   value.rt  what is answered about a value, from one pass of the crate alert_cursor over it
+//   value.rt  what is answered about a value, from one pass of the crate value_cursor over it
 //   c.rt      the four questions for C
 mod c;
 mod value;
