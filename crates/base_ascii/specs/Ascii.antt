@@ -2,9 +2,7 @@
 use Prim.Native.Nat.{ℕ, zero, suc}
 use Prim.Native.String.{String, len, charAt}
 use Prim.Native.Char.{code}
-use mathlib.Core.Bool.{Bool, _&&_}
 use mathlib.Core.List.{List, [], _∷_}
-use lib.Dec.{leb}
 
 -- n characters of an ASCII text from the i-th on, as bytes
 abbrev pub bytesFrom : String → ℕ → ℕ → List ℕ
@@ -14,7 +12,3 @@ bytesFrom s i (suc n) = code (charAt s i) ∷ bytesFrom s (suc i) n
 -- an ASCII text as bytes
 abbrev pub bytes : String → List ℕ
 bytes s = bytesFrom s 0 (len s)
-
--- lo ≤ x ≤ hi
-abbrev pub within : ℕ → ℕ → ℕ → Bool
-within lo hi x = leb lo x && leb x hi

@@ -9,12 +9,13 @@ use lib.ListN.{length, getD, drop, drop-of-length-le}
 use lib.Seq.{drop-cons}
 use lib.Dec.{eqb, ltb, leb}
 use borrow.Author.Tests.{ne-eqb, eqb-true, eqb-false, leb-true, lt-ltb, le-ltb, ltb-true}
+use Rattle.base_lists.proofs.Bools.{byTest}
+use Rattle.base_lists.specs.Cuts.{upTo, past}
+use Rattle.base_lists.specs.Numbers.{within}
 use Rattle.theory_resolution.specs.Names.{sameName}
-use Rattle.base_ascii.specs.Ascii.{within}
-use Rattle.base_text.specs.Text.{upTo, past, onFirst, fields, lower, lowered}
+use Rattle.base_text.specs.Text.{onFirst, fields, lower, lowered}
 use Rattle.base_text.specs.Words.{differAt, endsAt}
 use Rattle.theory_resolution.proofs.Names.{name-exact}
-use Rattle.base_text.proofs.Fields.{byTest}
 use Rattle.base_text.proofs.Turns.{same-lengths}
 
 pub upper-le : (x : ℕ) {b : Bool} → b ≡ within 65 90 x → b ≡ true → x ≤ 90
@@ -100,7 +101,11 @@ module _ (p s : List ℕ) (n : ℕ) where
 
   pub differ-there : {y : ℕ} → n < length p → n < length s → y ≡ lower (getD s n 0) → not (eqb (getD p n 0) y) ≡ differAt p (lowered s) n
   unfolding differAt
-  differ-there h k e = ap (λ z. not (eqb (getD p n 0) z)) (e ∙ sym (lowered-at s n k)) ∙ sym (rw (lt-ltb n (length p) h, lowered-length s, lt-ltb n (length s) k))
+  differ-there h k e = ap (λ z. not (eqb (getD p n 0) z)) (e ∙ sym (lowered-at s n k)) ∙ sym (rw (
+    lt-ltb n (length p) h,
+    lowered-length s,
+    lt-ltb n (length s) k,
+  ))
 
 -- a byte of the lowered text, as the code has it
 pub small-byte : (s : List ℕ) (i : ℕ) {r : ℕ} → i < length s → getD s i 0 < 256 → r ≡ lower (getD s i 0) → (r ≡ getD (lowered s) i 0) × (r < 256)
@@ -116,7 +121,8 @@ module _ (s p : List ℕ) (e : length p ≡ length s) where
   small-before i z h v f g =
       let m : suc (i - 1) ≡ i = omega arith in
       drop-cons (lowered s) (i - 1) 0 (omega (arith, e, lowered-length s))
-      ∙ ap₂ (λ (x : ℕ) (l : List ℕ). x ∷ l) (lowered-at s (i - 1) (omega arith) ∙ sym f ∙ sym g) (ap (λ k. drop k (lowered s)) m ∙ v ∙ ap (λ k. drop k p) (sym m))
+      ∙ ap₂ (λ (x : ℕ) (l : List ℕ). x ∷ l) (lowered-at s (i - 1) (omega arith) ∙ sym f ∙ sym g) (ap (λ k. drop k (lowered s)) m ∙ v
+      ∙ ap (λ k. drop k p) (sym m))
       ∙ sym (drop-cons p (i - 1) 0 (omega arith))
 
   pub small-other : (k : ℕ) {y : ℕ} → k < length p → y ≡ lower (getD s k 0) → (getD p k 0 ≡ y → ⊥) → false ≡ sameName (lowered s) p

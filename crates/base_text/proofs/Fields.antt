@@ -1,36 +1,18 @@
 -- Laws of the texts between colons: comparing bytes is comparing lists of names.
-use Prim.Native.Nat.{ℕ, suc, _+_, _-_, _≤_, _<_}
+use Prim.Native.Nat.{ℕ, _≤_, _<_}
 use mathlib.Core.Path.{_≡_, refl, ap, ap₂, sym, _∙_}
 use mathlib.Core.Bool.{Bool, true, false, _&&_, and-assoc}
 use mathlib.Core.List.{List, [], _∷_, _++_}
 use native.Mathlib.Omega.{arith}
-use lib.ListN.{length, getD, take, drop, length-drop, drop-of-length-le}
-use lib.Seq.{drop-cons, drop-drop, take-all}
+use lib.ListN.{length, drop, drop-of-length-le}
+use lib.Seq.{drop-cons}
 use lib.Dec.{eqb, ltb}
 use borrow.Author.Tests.{eq-eqb, ne-eqb, eqb-true, eqb-false, ltb-true, ltb-false}
+use Rattle.base_lists.proofs.Cuts.{past-drop, upTo-stop}
+use Rattle.base_lists.proofs.Bools.{byTest}
+use Rattle.base_lists.specs.Cuts.{upTo, past}
 use Rattle.theory_resolution.specs.Names.{sameName, sameParts}
-use Rattle.base_text.specs.Text.{upTo, past, fields, onFirst, afterColons, textOf, covers}
-
--- by the two values of a test
-pub byTest : {P : Type 0} (b : Bool) → (b ≡ true → P) → (b ≡ false → P) → P
-byTest true f g = f refl
-byTest false f g = g refl
-
--- where the first c stands
-pub upTo-take : (c : ℕ) (s : List ℕ) → take (length (upTo c s)) s ≡ upTo c s
-unfolding upTo
-upTo-take c [] = refl
-upTo-take c (x ∷ xs) = byTest (eqb x c) (λ e. simp e) (λ e. simp e (ap (λ (l : List ℕ). x ∷ l) (upTo-take c xs)))
-
-pub upTo-le : (c : ℕ) (s : List ℕ) → length (upTo c s) ≤ length s
-unfolding upTo
-upTo-le c [] = omega arith
-upTo-le c (x ∷ xs) = byTest (eqb x c) (λ e. simp e (omega arith)) (λ e. simp e (omega (arith, upTo-le c xs)))
-
-pub past-drop : (c : ℕ) (s : List ℕ) → drop (suc (length (upTo c s))) s ≡ past c s
-unfolding upTo past
-past-drop c [] = refl
-past-drop c (x ∷ xs) = byTest (eqb x c) (λ e. simp e) (λ e. simp e (past-drop c xs))
+use Rattle.base_text.specs.Text.{fields, onFirst, afterColons, textOf, covers}
 
 -- the first of the fields, with a c after it, or with none
 pub fields-more : (c : ℕ) (s : List ℕ) → length (upTo c s) < length s → fields c s ≡ upTo c s ∷ fields c (past c s)
@@ -52,13 +34,6 @@ fields-first c s =
     byTest (ltb (length (upTo c s)) (length s))
     (λ e. (fields c (past c s), fields-more c s (ltb-true _ _ e)))
     (λ e. ([], fields-last c s (ltb-false _ _ e)))
-
--- parts of a slice, as the code lends them
-pub part-end : (s : List ℕ) (a : ℕ) → take (length s - a) (drop a s) ≡ drop a s
-part-end s a = take-all (length s - a) (drop a s) (simp length-drop (omega arith))
-
-pub past-at : (c : ℕ) (s : List ℕ) (at k : ℕ) → k ≡ length (upTo c (drop at s)) → drop (at + k + 1) s ≡ past c (drop at s)
-past-at c s at k e = let q : at + k + 1 ≡ at + suc k = omega arith in rw (q, ← drop-drop (suc k) at s, e) (past-drop c (drop at s))
 
 -- texts are equal exactly where their fields are
 pub same-fields : (c : ℕ) (a b : List ℕ) → sameParts (fields c a) (fields c b) ≡ sameName a b
@@ -139,14 +114,6 @@ pub fields-upTo : (c : ℕ) (s : List ℕ) → fields c (upTo c s) ≡ upTo c s 
 unfolding fields upTo onFirst
 fields-upTo c [] = refl
 fields-upTo c (x ∷ xs) = byTest (eqb x c) (λ e. simp e) (λ e. simp (e, fields-upTo c xs))
-
--- the byte at which a field ends
-pub upTo-stop : (c : ℕ) (s : List ℕ) → length (upTo c s) < length s → getD s (length (upTo c s)) 0 ≡ c
-unfolding upTo
-upTo-stop c [] h = absurd (omega arith)
-upTo-stop c (x ∷ xs) h =
-    byTest (eqb x c) (λ e. simp e (eqb-true x c e))
-    (λ e. let k : length (upTo c xs) < length xs = omega (arith, simp e at h) in simp e (upTo-stop c xs k))
 
 -- the fields after the first, wherever the first ends
 pub fields-tail : (c : ℕ) (s : List ℕ) → drop 1 (fields c (drop (length (upTo c s)) s)) ≡ drop 1 (fields c s)

@@ -1,5 +1,4 @@
 pub mod Fields
-pub mod Lesser
 pub mod Turns
 pub mod Cases
 pub mod LetterCase

@@ -5,38 +5,19 @@ use mathlib.Core.Bool.{Bool, true, false, cond, not, _&&_, and-false, and-eq-tru
 use mathlib.Core.List.{List, [], _∷_}
 use native.Mathlib.Numerals.{add-one}
 use native.Mathlib.Omega.{arith}
-use native.Mathlib.Nat.{zero-add, add-zero, sub-self}
+use native.Mathlib.Nat.{zero-add, add-zero}
 use native.Mathlib.Decide.{decLe}
-use lib.ListN.{length, getD, take, drop, length-drop, drop-of-length-le}
-use lib.Seq.{drop-cons, drop-length, take-all, take-nil}
+use lib.ListN.{length, getD, drop, drop-of-length-le}
+use lib.Seq.{drop-cons}
 use lib.Dec.{eqb, ltb}
 use borrow.Author.Tests.{eq-eqb, ne-eqb, eqb-true, eqb-false, lt-ltb, le-ltb, ltb-true, ltb-false, not-true}
+use Rattle.base_lists.proofs.Bools.{byTest}
+use Rattle.base_lists.specs.Numbers.{wordOf}
 use Rattle.theory_resolution.specs.Names.{sameName}
 use Rattle.theory_resolution.proofs.Names.{name-exact}
-use Rattle.base_text.specs.Text.{upTo, covers, common}
-use Rattle.base_text.specs.Words.{wordOf, commonNext, differAt, endsDiffer, endsAt}
-use Rattle.base_text.proofs.Fields.{byTest, coversBytes, covers-fields}
-
--- the search for a byte, one byte further
-pub upTo-hit : (c : ℕ) (s : List ℕ) (i : ℕ) → i < length s → eqb (getD s i 0) c ≡ true → length (upTo c (drop i s)) ≡ 0
-unfolding upTo
-upTo-hit c s i h e = rw (drop-cons s i 0, e)
-
-pub upTo-miss : (c : ℕ) (s : List ℕ) (i : ℕ) → i < length s → eqb (getD s i 0) c ≡ false → length (upTo c (drop i s)) ≡ suc (length (upTo c (drop (i + 1) s)))
-unfolding upTo
-upTo-miss c s i h e = rw (add-one, drop-cons s i 0, e)
-
-pub upTo-end : (c : ℕ) (s : List ℕ) (i : ℕ) → length s ≤ i → i ≤ length s → length (upTo c (drop i s)) ≡ 0
-unfolding upTo
-upTo-end c s i h k = let e : i ≡ length s = omega arith in rw (e, drop-length)
-
--- a part of the table, as far as it goes
-pub part-none : (t : List ℕ) (at len n : ℕ) → length t ≤ at → n ≡ length t → take (n - n) (drop n t) ≡ take len (drop at t)
-part-none t at len n h e = simp (sub-self, drop-of-length-le t {i = at} h, take-nil)
-
-pub part-all : (t : List ℕ) (at len : ℕ) → length t - at ≤ len → take (length t - at) (drop at t) ≡ take len (drop at t)
-part-all t at len h =
-    take-all (length t - at) (drop at t) (omega (arith, length-drop at t)) ∙ sym (take-all len (drop at t) (omega (arith, length-drop at t)))
+use Rattle.base_text.specs.Text.{covers, common}
+use Rattle.base_text.specs.Words.{commonNext, differAt, endsDiffer, endsAt}
+use Rattle.base_text.proofs.Fields.{coversBytes, covers-fields}
 
 -- two texts, one byte further
 module _ (a b : List ℕ) (i : ℕ) {x : Bool} (v : x ≡ sameName (drop i a) (drop i b)) where
@@ -86,7 +67,8 @@ ends-alike : (a : List ℕ) → endsDiffer a a ≡ false
 unfolding endsDiffer
 ends-alike a =
     rw (eq-eqb (length a) (length a) refl, eq-eqb (getD a (length a - 1) 0) (getD a (length a - 1) 0) refl)
-    (go (eqb (length a) 0) (ltb (length a) 8) (eqb (wordOf a (length a - 8) 8) (wordOf a (length a - 8) 8)) (eq-eqb (wordOf a (length a - 8) 8) (wordOf a (length a - 8) 8) refl))
+    (go (eqb (length a) 0) (ltb (length a) 8) (eqb (wordOf a (length a - 8) 8) (wordOf a (length a - 8) 8))
+    (eq-eqb (wordOf a (length a - 8) 8) (wordOf a (length a - 8) 8) refl))
   where
     go : (b c d : Bool) → d ≡ true → cond b false (cond c (not true) (not d)) ≡ false
     go true c d e = refl

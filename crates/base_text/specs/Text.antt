@@ -1,27 +1,11 @@
 -- Texts as bytes: the parts between colons, what two of them have in common, and letter case.
 use Prim.Native.Nat.{ℕ, suc, _+_, min}
-use mathlib.Core.Bool.{Bool, true, false, cond, _&&_}
-use mathlib.Core.Option.{Option, none, some}
+use mathlib.Core.Bool.{Bool, cond}
 use mathlib.Core.List.{List, [], _∷_, _++_}
 use lib.ListN.{length}
 use lib.Dec.{eqb}
-use Rattle.theory_resolution.specs.Names.{Parts, below}
-use Rattle.base_ascii.specs.Ascii.{within}
-
--- every element passes the test
-unfoldable pub all : {A : Type 0} → (A → Bool) → List A → Bool
-all p [] = true
-all p (x ∷ xs) = p x && all p xs
-
--- the bytes before the first c, or all of them where there is none
-unfoldable pub upTo : ℕ → List ℕ → List ℕ
-upTo c [] = []
-upTo c (x ∷ xs) = cond (eqb x c) [] (x ∷ upTo c xs)
-
--- the bytes after the first c, or none where there is none
-unfoldable pub past : ℕ → List ℕ → List ℕ
-past c [] = []
-past c (x ∷ xs) = cond (eqb x c) xs (past c xs)
+use Rattle.base_lists.specs.Numbers.{within}
+use Rattle.theory_resolution.specs.Names.{Parts, below, someBelow}
 
 -- a byte put before the first of some texts
 unfoldable pub onFirst : ℕ → List (List ℕ) → List (List ℕ)
@@ -33,11 +17,6 @@ onFirst x (f ∷ fs) = (x ∷ f) ∷ fs
 unfoldable pub fields : ℕ → List ℕ → List (List ℕ)
 fields c [] = [] ∷ []
 fields c (x ∷ xs) = cond (eqb x c) ([] ∷ fields c xs) (onFirst x (fields c xs))
-
--- there is something left of a path below another: the other is the path or an ancestor of it
-abbrev pub someBelow : Option Parts → Bool
-someBelow none = false
-someBelow (some r) = true
 
 -- the path that p says is the path that w says, or an ancestor of it
 unfoldable pub covers : List ℕ → List ℕ → Bool

@@ -1,9 +1,10 @@
 -- How the code compares texts: from a byte on up to which they are known to agree, eight bytes at once, and at their ends first.
-use Prim.Native.Nat.{ℕ, zero, suc, _+_, _-_, _*_, min}
+use Prim.Native.Nat.{ℕ, _+_, _-_, min}
 use mathlib.Core.Bool.{Bool, true, false, cond, not, _&&_}
 use mathlib.Core.List.{List}
 use lib.ListN.{length, getD, drop}
 use lib.Dec.{ltb, eqb}
+use Rattle.base_lists.specs.Numbers.{wordOf}
 use Rattle.base_text.specs.Text.{common}
 
 -- how many bytes p and w have in common, where another text has k in common with w and l with p
@@ -17,11 +18,6 @@ differAt p w n = ltb n (length p) && (ltb n (length w) && not (eqb (getD p n 0) 
 -- a part of the text ends before the byte at n: with the text, or at a colon
 unfoldable pub endsAt : List ℕ → ℕ → Bool
 endsAt w n = cond (ltb n (length w)) (eqb (getD w n 0) 58) true
-
--- n bytes from i on as one number, the first lowest
-abbrev pub wordOf : List ℕ → ℕ → ℕ → ℕ
-wordOf s i zero = 0
-wordOf s i (suc n) = getD s i 0 + 256 * wordOf s (i + 1) n
 
 -- the texts differ in n bytes from i on, taken as one number
 abbrev pub wordsDiffer : List ℕ → List ℕ → ℕ → ℕ → Bool

@@ -1,21 +1,11 @@
 // Texts compared byte by byte, eight bytes at once where there are eight.
 ghost use mathlib.Core.Path.{_≡_};
-ghost use Prim.Native.Nat.{_≤_, _<_, _+_, min};
+ghost use Prim.Native.Nat.{_≤_, _<_, _+_};
 ghost use lib.ListN.{length, drop, getD};
+ghost use Rattle.base_lists.specs.Numbers.{wordOf};
 ghost use Rattle.theory_resolution.specs.Names.{sameName};
-ghost use Rattle.base_ascii.specs.Ascii.{within};
 ghost use Rattle.base_text.specs.Text.{common};
-ghost use Rattle.base_text.specs.Words.{endsDiffer, wordOf};
-
-// lo ≤ x ≤ hi
-pub fn in_range(x: u8, lo: u8, hi: u8) -> bool
-    ensures { λ r. ⌜ r ≡ within lo hi x ⌝ }
-{
-    if x < lo {
-        return false;
-    }
-    x <= hi
-}
+ghost use Rattle.base_text.specs.Words.{endsDiffer};
 
 // A byte as a wide number.
 fn byte_at(s: &[u8], i: usize) -> u64
@@ -97,21 +87,11 @@ pub fn same(a: &[u8], b: &[u8]) -> bool
     false
 }
 
-// n, or m if that is less.
-pub fn at_most(n: usize, m: usize) -> usize
-    ensures { λ r. ⌜ (r ≡ min n m) × (r ≤ m) ⌝ }
-{
-    if n <= m {
-        return n;
-    }
-    m
-}
-
 // From a byte on, up to which two texts agree: the first at which they do not, or that one of them lacks. One by one.
 fn common_bytes(p: &[u8], w: &[u8], from: usize) -> usize
     ensures { λ r. ⌜ r ≡ from + common (drop from (now (p .entry))) (drop from (now (w .entry))) ⌝ }
 {
-    let n = at_most(p.len(), w.len());
+    let n = base_bytes::numbers::at_most(p.len(), w.len());
     let mut i = from;
     while i < n {
         if p[i] == w[i] {
@@ -127,7 +107,7 @@ fn common_bytes(p: &[u8], w: &[u8], from: usize) -> usize
 pub fn common_from(p: &[u8], w: &[u8], from: usize) -> usize
     ensures { λ r. ⌜ r ≡ from + common (drop from (now (p .entry))) (drop from (now (w .entry))) ⌝ }
 {
-    let n = at_most(p.len(), w.len());
+    let n = base_bytes::numbers::at_most(p.len(), w.len());
     let mut i = from;
     while i < n {
         if n - i < 8 {

@@ -1,32 +1,9 @@
-// Texts cut, and searched for a byte; stored numbers as indices into them.
+// Texts cut, and searched for a byte.
 ghost use mathlib.Core.Path.{_≡_};
 ghost use Prim.Native.Nat.{_≤_, _<_};
-ghost use lib.ListN.{length, getD, take, drop};
-ghost use Rattle.base_text.specs.Text.{upTo};
+ghost use lib.ListN.{length, take, drop};
+ghost use Rattle.base_lists.specs.Cuts.{upTo};
 ghost use Rattle.base_text.specs.Words.{endsAt};
-
-// A number as an index.
-pub fn wide(x: u8) -> usize
-    ensures { λ r. ⌜ (r ≡ x) × (r < 256) ⌝ }
-{
-    x as usize
-}
-
-pub fn wider(x: u16) -> usize
-    ensures { λ r. ⌜ (r ≡ x) × (r < 65536) ⌝ }
-{
-    x as usize
-}
-
-// The byte at i, or 0 past the end.
-pub fn byte(s: &[u8], i: usize) -> u8
-    ensures { λ r. ⌜ r ≡ getD (now (s .entry)) i 0 ⌝ }
-{
-    if i < s.len() {
-        return s[i];
-    }
-    0
-}
 
 // How many bytes stand before the first c.
 pub fn find(s: &[u8], c: u8) -> usize

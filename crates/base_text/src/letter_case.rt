@@ -3,15 +3,16 @@ ghost use mathlib.Core.Path.{_≡_};
 ghost use mathlib.Core.Bool.{cond};
 ghost use Prim.Native.Nat.{_+_, _≤_, _<_};
 ghost use lib.ListN.{length, drop, getD};
+ghost use Rattle.base_lists.specs.Numbers.{wordOf};
 ghost use Rattle.theory_resolution.specs.Names.{sameName};
 ghost use Rattle.base_text.specs.Text.{common, lower, lowered};
-ghost use Rattle.base_text.specs.Words.{wordOf, commonNext, differAt};
+ghost use Rattle.base_text.specs.Words.{commonNext, differAt};
 
 // A letter as a small one.
 pub fn lower_of(x: u8) -> u8
     ensures { λ r. ⌜ r ≡ lower x ⌝ }
 {
-    if crate::compare::in_range(x, 65, 90) {
+    if base_bytes::numbers::in_range(x, 65, 90) {
         return x + 32;
     }
     x
@@ -45,7 +46,7 @@ fn lower_word_at(s: &[u8], i: usize) -> u64
 fn common_lowered_bytes(p: &[u8], w: &[u8], from: usize) -> usize
     ensures { λ r. ⌜ r ≡ from + common (drop from (now (p .entry))) (drop from (lowered (now (w .entry)))) ⌝ }
 {
-    let n = crate::compare::at_most(p.len(), w.len());
+    let n = base_bytes::numbers::at_most(p.len(), w.len());
     let mut i = from;
     while i < n {
         if p[i] == lower_of(w[i]) {
@@ -61,7 +62,7 @@ fn common_lowered_bytes(p: &[u8], w: &[u8], from: usize) -> usize
 fn common_lowered_from(p: &[u8], w: &[u8], from: usize) -> usize
     ensures { λ r. ⌜ r ≡ from + common (drop from (now (p .entry))) (drop from (lowered (now (w .entry)))) ⌝ }
 {
-    let n = crate::compare::at_most(p.len(), w.len());
+    let n = base_bytes::numbers::at_most(p.len(), w.len());
     let mut i = from;
     while i < n {
         if n - i < 8 {
@@ -82,7 +83,7 @@ pub fn is_lowered(s: &[u8]) -> bool
 {
     let mut i = 0;
     while i < s.len() {
-        if crate::compare::in_range(s[i], 65, 90) {
+        if base_bytes::numbers::in_range(s[i], 65, 90) {
             return false;
         }
         i += 1;
@@ -101,7 +102,7 @@ pub fn common_lowered_next(p: &[u8], w: &[u8], small: bool, k: usize, l: usize) 
         }
         return common_lowered_from(p, w, k);
     }
-    crate::compare::at_most(k, l)
+    base_bytes::numbers::at_most(k, l)
 }
 
 // Both texts have a byte at n, and w's, taken as a small letter, is another than p's.

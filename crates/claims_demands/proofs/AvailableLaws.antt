@@ -8,8 +8,8 @@ use lib.Dec.{eqb}
 use lib.ListN.{length}
 use native.Mathlib.Omega.{arith}
 use borrow.Author.Tests.{eq-eqb, ne-eqb, eqb-true, eqb-false}
+use Rattle.base_lists.proofs.Bools.{byTest}
 use Rattle.value_reader.specs.Value.{urisOf}
-use Rattle.base_text.proofs.Fields.{byTest}
 use Rattle.table_decode.specs.Tables.{tableOf}
 use Rattle.resolve_run.specs.Answers.{numberOf}
 use Rattle.resolve_run.proofs.AnswerLaws.{unless-number}
@@ -64,8 +64,11 @@ module _ (t v : List ℕ) where
           strange = λ e. answer-claim t set v .strange (none e);
           counted = λ e n.
               let a = answer-claim t set v .given (none e) n in
-              let p = plain-given (none e) in
-              (ap (λ (r : Resolution). r .refusal) a, ap (λ (r : Resolution). r .used) a ∙ sym (ap (λ (r : Resolution). r .used) p), ap (λ (r : Resolution). r .skipped) a ∙ sym (ap (λ (r : Resolution). r .skipped) p));
+              let p = plain-given (none e) in (
+                ap (λ (r : Resolution). r .refusal) a,
+                ap (λ (r : Resolution). r .used) a ∙ sym (ap (λ (r : Resolution). r .used) p),
+                ap (λ (r : Resolution). r .skipped) a ∙ sym (ap (λ (r : Resolution). r .skipped) p),
+              );
           everyone = everyone;
         }
 

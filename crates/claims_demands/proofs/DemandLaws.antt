@@ -1,22 +1,23 @@
 -- The demands hold.
-use Prim.Native.Nat.{ℕ, _+_, _-_, _≤_, _<_}
+use Prim.Native.Nat.{ℕ, _-_, _≤_, _<_}
 use mathlib.Core.Path.{_≡_, refl, sym, ap, ap₂, _∙_, subst}
 use mathlib.Core.Logic.{_↔_}
 use mathlib.Core.Bool.{Bool, true, false, cond}
-use mathlib.Core.List.{List, [], _∷_, _++_, map}
+use mathlib.Core.List.{List, [], _++_}
 use lib.Dec.{eqb}
 use lib.ListN.{length, take, replicate}
 use lib.Seq.{take-at}
 use borrow.Author.Tests.{eq-eqb, eqb-false}
 use native.Mathlib.Decide.{decLt}
 use native.Mathlib.Omega.{arith}
+use Rattle.base_bytes.specs.Built.{refused as without}
+use Rattle.theory_resolution.proofs.Direct.{changes-map}
 use Rattle.value_reader.specs.Value.{refusalOf, urisOf}
 use Rattle.value_reader.proofs.Agree.{refused-exactly}
 use Rattle.theory_resolution.specs.Table.{Table}
-use Rattle.theory_resolution.specs.Direct.{AllUsed, stepUri, changed, changes}
+use Rattle.theory_resolution.specs.Direct.{AllUsed, stepUri}
 use Rattle.node_search.specs.Uses.{usedUrn}
 use Rattle.machine_image.specs.Image.{signalIn, machineImage}
-use Rattle.machine_image.specs.Refusals as image
 use Rattle.machine_image.specs.Walk.{stepIn}
 use Rattle.machine_image.specs.Claim.{ImageClaim}
 use Rattle.machine_image.proofs.Check.{check-to}
@@ -24,9 +25,9 @@ use Rattle.machine_image.proofs.Walk.{image-claim}
 use Rattle.table_decode.specs.Tables.{tableRefusal, tableOf, categoryNames}
 use Rattle.table_decode.proofs.Accepting.{accepted}
 use Rattle.table_decode.proofs.Exactly.{refused-exactly as table-exactly}
-use Rattle.machine_build.specs.Built.{refused as without, builtOf}
+use Rattle.machine_build.specs.Built.{builtOf}
 use Rattle.machine_library.specs.Built.{builtFrom, bufferFrom, checkFrom}
-use Rattle.machine_build.specs.declared.Built.{Built}
+use Rattle.base_bytes.specs.declared.Built.{Built}
 use Rattle.machine_library.specs.Claims.{TooManyStates}
 use Rattle.machine_library.proofs.Claims.{every-build, refused-build, checked}
 use Rattle.machine_library.proofs.Exactly.{build-exactly}
@@ -40,7 +41,7 @@ use Rattle.resolve_library.proofs.TableLaws.{taken-append}
 use Rattle.claims_demands.proofs.EarlyLaws.{plain-answer, all-counted, early-number, early-refused, early-signal}
 use Rattle.claims_demands.proofs.MachineLaws.{machine-walks, machine-fifteen}
 use Rattle.small_image.specs.Small.{smallForm}
-use Rattle.resolve_small.specs.Resolve.{walkedSmall, resolvedSmall}
+use Rattle.resolve_small.specs.Resolve.{walkedSmall, resolvedSmall, resolvedOver}
 use Rattle.resolve_small.proofs.Claims.{answers-claim}
 use Rattle.claims_demands.specs.BesideMachine.{GoesWith}
 use Rattle.claims_demands.proofs.FirstNumber.{first-number}
@@ -48,11 +49,13 @@ use Rattle.claims_demands.proofs.SmallLaws.{one-of-two, small-machine, 
 use Rattle.resolve_pair.proofs.PairLaws.{pair-claim}
 use Rattle.resolve_pair.proofs.Together.{together-claim}
 use Rattle.claims_demands.proofs.AvailableLaws.{beside-plain, available-number, available-refused, available-signal}
-use Rattle.claims_demands.proofs.RefusalLaws.{value-number, entry-number, plain-number, machine-number, small-number, build-number, check-number, pair-number, pair-refused}
+use Rattle.claims_demands.proofs.RefusalLaws.{value-number, entry-number, plain-number, machine-number, small-number, build-number}
+use Rattle.claims_demands.proofs.RefusalLaws.{check-number, pair-number, pair-refused}
 use Rattle.claims_demands.proofs.OneValueLaws.{feed-number, one-value}
 use Rattle.claims_demands.proofs.FeedingLaws.{ends-direct, never-refused, joined-alike}
 use Rattle.value_reader.proofs.EntryLaws.{refused-entry}
 use Rattle.table_decode.proofs.RefusalNumbers.{refusal-numbers}
+use Rattle.machine_image.specs.Refusals as image
 
 -- an answer that is refused is refused as a whole, where the answer within is
 by-number : (t v : List ℕ) (r : Resolution) → ((r .refusal ≡ 0 → ⊥) → r ≡ refused (r .refusal))
@@ -60,7 +63,8 @@ by-number : (t v : List ℕ) (r : Resolution) → ((r .refusal ≡ 0 → ⊥) �
 by-number t v r h = go (eqb (refusalOf v) 0) (eqb (tableRefusal t) 0)
   where
     go : (a b : Bool) → (cond a (cond b r (refused (tableRefusal t))) (refused (refusalOf v)) .refusal ≡ 0 → ⊥)
-        → cond a (cond b r (refused (tableRefusal t))) (refused (refusalOf v)) ≡ refused (cond a (cond b r (refused (tableRefusal t))) (refused (refusalOf v)) .refusal)
+        → cond a (cond b r (refused (tableRefusal t))) (refused (refusalOf v))
+        ≡ refused (cond a (cond b r (refused (tableRefusal t))) (refused (refusalOf v)) .refusal)
     go true true n = h n
     go true false n = refl
     go false b n = refl
@@ -70,7 +74,7 @@ unfolding plainOf
 plain-refused t v = by-number t v _ (λ n. absurd (n refl))
 
 machine-refused : (t im v : List ℕ) → (machineOf t im v .refusal ≡ 0 → ⊥) → machineOf t im v ≡ refused (machineOf t im v .refusal)
-unfolding machineOf
+unfolding resolvedOver
 machine-refused t im v = by-number t v _ (go (image.formOf (tableOf t) im))
   where
     given : Resolution
@@ -81,7 +85,7 @@ machine-refused t im v = by-number t v _ (go (image.formOf (tableOf t) im))
     go false n = refl
 
 small-refused : (t small v : List ℕ) → (resolvedSmall t small v .refusal ≡ 0 → ⊥) → resolvedSmall t small v ≡ refused (resolvedSmall t small v .refusal)
-unfolding resolvedSmall
+unfolding resolvedOver
 small-refused t small v = by-number t v _ (go (smallForm (tableOf t) small))
   where
     given : Resolution
@@ -163,18 +167,12 @@ demand-two t =
       checked = checked t;
     }
 
--- changes over a list whose members are seen through a function
-changes-map : {S A B : Type 0} (signalOf : S → ℕ) (next : S → B → S) (g : A → B) (s : S) (l : List A)
-    → changes signalOf next s (map g l) ≡ changes signalOf (λ x a. next x (g a)) s l
-changes-map signalOf next g s [] = refl
-changes-map signalOf next g s (a ∷ l) = ap (λ n. changed (eqb (signalOf (next s (g a))) (signalOf s)) + n) (changes-map signalOf next g (next s (g a)) l)
-
 module _ (t : List ℕ) (ok : tableRefusal t ≡ 0) where
   check-image : (im : List ℕ) → checkFrom t im ≡ image.checkOf (tableOf t) im
   unfolding checkFrom
   check-image im = simp (eq-eqb (tableRefusal t) 0 ok)
 
-  pub walk-claim : (im : List ℕ) → checkFrom t im ≡ 0 → (before after : List (List ℕ)) → WalkClaim t im before after
+  pub walk-claim : (im : List ℕ) → checkFrom t im ≡ 0 → (before after : List (List ℕ)) → WalkClaim (tableOf t .cats) t im before after
   walk-claim im e before after =
       record {
         agrees = c .agrees;
@@ -201,7 +199,7 @@ module _ (t : List ℕ) (ok : tableRefusal t ≡ 0) where
   form-right im e = check-to (tableOf t) im (sym (check-image im) ∙ e) .0
 
   alike : (im : List ℕ) → checkFrom t im ≡ 0 → (v : List ℕ) → machineOf t im v ≡ plainOf t v
-  unfolding machineOf plainOf
+  unfolding plainOf resolvedOver
   alike im e v =
       ap (λ b. unlessRefused t v (cond b (answered t (urisOf v) (walkedSignal t im (urisOf v))) (refused 15))) (form-right im e)
       ∙ ap (λ s. unlessRefused t v (answered t (urisOf v) s)) (same-signal im e (urisOf v))
@@ -223,7 +221,8 @@ module _ (t : List ℕ) (ok : tableRefusal t ≡ 0) where
     left-checked e =
         let w = image-written t room e in
         ap₂ (λ n l. checkFrom t (take n l)) (w .0) (w .1)
-        ∙ ap (checkFrom t) (take-at (machineImage (tableOf t)) (replicate (room - length (machineImage (tableOf t))) 0) (length (machineImage (tableOf t))) refl)
+        ∙ ap (checkFrom t) (take-at (machineImage (tableOf t)) (replicate (room - length (machineImage (tableOf t))) 0)
+        (length (machineImage (tableOf t))) refl)
         ∙ every-build t ok few .checked
 
   pub small-alike : (im small : List ℕ) → checkFrom t im ≡ 0 → GoesWith t im small → (v : List ℕ) → resolvedSmall t small v ≡ plainOf t v

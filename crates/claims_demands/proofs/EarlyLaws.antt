@@ -6,7 +6,7 @@ use mathlib.Core.Bool.{Bool, true, false, cond}
 use mathlib.Core.Option.{Option, none, some}
 use mathlib.Core.List.{List, [], _∷_}
 use native.Mathlib.Omega.{arith}
-use lib.ListN.{length}
+use lib.ListN.{length, length-map}
 use lib.Dec.{eqb}
 use borrow.Author.Tests.{eq-eqb, eqb-true, eqb-false}
 use Rattle.value_reader.specs.Value.{refusalOf, urisOf}
@@ -14,7 +14,6 @@ use Rattle.theory_resolution.specs.Table.{Urn}
 use Rattle.theory_resolution.specs.Direct.{usedCount, skippedCount}
 use Rattle.node_search.specs.Uses.{usedUrn}
 use Rattle.table_decode.specs.Tables.{tableRefusal, categoryNames}
-use Rattle.table_decode.proofs.Judging.{map-length}
 use Rattle.resolve_early.specs.Early.{numberOf, refused as notAnswered, earlyOf}
 use Rattle.resolve_early.specs.declared.Early.{Early}
 use Rattle.resolve_early.proofs.Claims.{zero-number, early-claim}
@@ -40,7 +39,8 @@ module _ (t v : List ℕ) where
   number-is = go (eqb (refusalOf v) 0) (eqb (tableRefusal t) 0) refl
     where
       go : (a b : Bool) → eqb (tableRefusal t) 0 ≡ b
-          → cond a (tableRefusal t) (refusalOf v) ≡ cond a (cond b (answered t (urisOf v) (directSignal t (urisOf v))) (refused (tableRefusal t))) (refused (refusalOf v)) .refusal
+          → cond a (tableRefusal t) (refusalOf v)
+          ≡ cond a (cond b (answered t (urisOf v) (directSignal t (urisOf v))) (refused (tableRefusal t))) (refused (refusalOf v)) .refusal
       go true true e = eqb-true (tableRefusal t) 0 e
       go true false e = refl
       go false b e = refl
@@ -48,7 +48,8 @@ module _ (t v : List ℕ) where
   pub all-counted : plainOf t v .refusal ≡ 0 → plainOf t v .used + plainOf t v .skipped ≡ length (urisOf v)
   all-counted e =
       let z = zero-number t v (number-is ∙ e) in
-      ap (λ (x : Resolution). x .used + x .skipped) (plain-answer (z .0) (z .1)) ∙ count-all (takenAs t (urisOf v)) ∙ map-length (usedUrn (categoryNames t)) (urisOf v)
+      ap (λ (x : Resolution). x .used + x .skipped) (plain-answer (z .0) (z .1)) ∙ count-all (takenAs t (urisOf v))
+      ∙ length-map (urisOf v) (usedUrn (categoryNames t))
 
   pub early-refused : (earlyOf t v .refusal ≡ 0 → ⊥) → earlyOf t v ≡ notAnswered (plainOf t v .refusal)
   early-refused n = early-claim t v .otherwise n ∙ ap notAnswered number-is

@@ -9,9 +9,9 @@ use lib.ListN.{length, take, length-append}
 use lib.Seq.{take-all}
 use borrow.Author.Tests.{eq-eqb, eqb-true, eqb-false}
 use native.Mathlib.Omega.{arith}
+use Rattle.base_lists.proofs.Bools.{byTest}
 use Rattle.value_reader.specs.Value.{refusalOf, urisOf}
 use Rattle.value_reader.proofs.ValueLaws.{refused-uris}
-use Rattle.base_text.proofs.Fields.{byTest}
 use Rattle.theory_resolution.specs.Table.{Urn}
 use Rattle.theory_resolution.specs.Direct.{State, start, envOf, step, usedOf, usedCount, skippedCount, StateOf}
 use Rattle.theory_resolution.proofs.Claim.{used-append}
@@ -81,7 +81,8 @@ module _ (t : List ℕ) (ok : tableRefusal t ≡ 0) where
       none-left (suc k) = let e : n ≡ min 16 (n + 0) = omega arith in ap (carry st) e
   fed-from (v ∷ vs) st n g h =
       byTest (eqb n 16) (λ q. full (eqb-true n 16 q) (fed-from vs st n g h))
-      (λ q. let m = eqb-false n 16 q in more m (fed-from vs (stateAfter t st (urisOf v)) (n + 1) (state-run t ok (usedOf (takenAs t (urisOf v))) st g) (omega arith)))
+      (λ q. let m = eqb-false n 16 q in
+      more m (fed-from vs (stateAfter t st (urisOf v)) (n + 1) (state-run t ok (usedOf (takenAs t (urisOf v))) st g) (omega arith)))
     where
       full : n ≡ 16 → fedAll t (carry st n) vs ≡ carry (stateAfter t st (allUris (take (16 - n) vs))) (min 16 (n + length vs))
           → fedAll t (feedOf t (carry st n) v .carried) vs ≡ carry (stateAfter t st (allUris (take (16 - n) (v ∷ vs)))) (min 16 (n + suc (length vs)))
@@ -150,7 +151,8 @@ module _ (t : List ℕ) (ok : tableRefusal t ≡ 0) where
   listed vs = takenAs t (allUris vs)
 
   one-answer : (st : State) → StateOf (tableOf t) st → (n : ℕ) → n < 16 → (v : List ℕ) → refusalOf v ≡ 0
-      → (feedOf t (carry st n) v .answer .used ≡ usedCount (takenAs t (urisOf v))) × (feedOf t (carry st n) v .answer .skipped ≡ skippedCount (takenAs t (urisOf v)))
+      → (feedOf t (carry st n) v .answer .used ≡ usedCount (takenAs t (urisOf v)))
+      × (feedOf t (carry st n) v .answer .skipped ≡ skippedCount (takenAs t (urisOf v)))
   one-answer st g n h v z =
       let e = fed-read (carry st n) (fit-carried st g n (omega arith)) v (λ q. omega arith)
       ∙ ap (λ (b : Bool). cond b (goesOn t (carry st n) v) (onlyCounted (refusalOf v) (carry st n))) (eq-eqb (refusalOf v) 0 z) in
@@ -165,7 +167,8 @@ module _ (t : List ℕ) (ok : tableRefusal t ≡ 0) where
       let s = sums vs (stateAfter t st (urisOf v)) (n + 1) (state-run t ok (usedOf (takenAs t (urisOf v))) st g) (omega arith) a in
       let j = taken-append t (urisOf v) (allUris vs) in (
         ap₂ _+_ (o .0) (ap (λ (x : Carried). allUsed (answersTo t x vs)) c ∙ s .0)
-            ∙ sym (ap usedCount j ∙ ap length (used-append (takenAs t (urisOf v)) (listed vs)) ∙ length-append (usedOf (takenAs t (urisOf v))) (usedOf (listed vs))),
+            ∙ sym (ap usedCount j ∙ ap length (used-append (takenAs t (urisOf v)) (listed vs))
+            ∙ length-append (usedOf (takenAs t (urisOf v))) (usedOf (listed vs))),
         ap₂ _+_ (o .1) (ap (λ (x : Carried). allSkipped (answersTo t x vs)) c ∙ s .1)
             ∙ sym (ap skippedCount j ∙ skipped-append (takenAs t (urisOf v)) (listed vs)),
       )
@@ -191,7 +194,8 @@ joined-alike t ok v vs (h, a, short, few) =
     let n = sums t ok (v ∷ vs) (start (tableOf t .cats)) 0 (start-state t ok) (omega arith) a in
     let f = fresh-carried t ok in
     let l : take 16 (v ∷ vs) ≡ v ∷ vs = take-all 16 (v ∷ vs) h in
-    let e : stateAfter t (start (tableOf t .cats)) (urisOf s) .signal ≡ fedAll t fresh (v ∷ vs) .signal = ap (λ x. stateAfter t (start (tableOf t .cats)) x .signal) (u ∙ ap allUris (sym l))
+    let e : stateAfter t (start (tableOf t .cats)) (urisOf s) .signal ≡ fedAll t fresh (v ∷ vs) .signal =
+    ap (λ x. stateAfter t (start (tableOf t .cats)) x .signal) (u ∙ ap allUris (sym l))
     ∙ sym (ap (λ (r : Carried). r .signal) (ends-direct t ok (v ∷ vs))) in
     let p = ap (λ x. usedCount (takenAs t x)) u ∙ sym (ap (λ (r : Carried). allUsed (answersTo t r (v ∷ vs))) f ∙ n .0) in
     let q = ap (λ x. skippedCount (takenAs t x)) u ∙ sym (ap (λ (r : Carried). allSkipped (answersTo t r (v ∷ vs))) f ∙ n .1) in

@@ -1,5 +1,5 @@
 -- The value's number comes first, then the table's, then the resolver's own.
-use Prim.Native.Nat.{ℕ, zero, suc, _<_}
+use Prim.Native.Nat.{ℕ}
 use mathlib.Core.Path.{_≡_, refl, sym, subst, _∙_}
 use mathlib.Core.Logic.{_↔_, inl, inr}
 use mathlib.Core.Bool.{Bool, true, false, cond, true≢false}
@@ -7,6 +7,7 @@ use mathlib.Core.List.{List}
 use native.Mathlib.Omega.{arith}
 use lib.Dec.{eqb}
 use borrow.Author.Tests.{eq-eqb, ne-eqb, eqb-true, eqb-false}
+use Rattle.base_lists.proofs.Numbers.{pos-of-ne}
 use Rattle.value_reader.specs.Value.{refusalOf, urisOf}
 use Rattle.value_reader.specs.Grammar.{White}
 use Rattle.value_reader.specs.Claims.{Given}
@@ -17,14 +18,10 @@ use Rattle.table_decode.proofs.Exactly.{refused-exactly as table-exactly}
 use Rattle.machine_library.proofs.FormRight.{form-to-right, right-to-form}
 use Rattle.small_image.specs.Small.{smallForm}
 use Rattle.resolve_run.specs.declared.Resolution.{Resolution}
-use Rattle.resolve_small.specs.Resolve.{walkedSmall, resolvedSmall}
+use Rattle.resolve_small.specs.Resolve.{walkedSmall, resolvedOver}
 use Rattle.resolve_small.proofs.FormLaws.{small-to, small-of}
-use Rattle.resolve_library.specs.Resolve.{directSignal, walkedSignal, refused, answered, unlessRefused, plainOf, machineOf}
+use Rattle.resolve_library.specs.Resolve.{directSignal, walkedSignal, refused, answered, unlessRefused, plainOf}
 use Rattle.claims_demands.specs.FirstNumber.{NumberGiven, of-value, of-table, own, FifteenUnless, FirstNumber}
-
-some-number : (n : ℕ) → (n ≡ 0 → ⊥) → 0 < n
-some-number zero h = absurd (h refl)
-some-number (suc n) h = omega arith
 
 -- an answer where neither value nor table is refused, with the numbers that it can have
 module _ (t v : List ℕ) (r : Resolution) (Own : ℕ → Type 0) (due : (n : ℕ) → r .refusal ≡ n ↔ Own n) where
@@ -38,8 +35,8 @@ module _ (t v : List ℕ) (r : Resolution) (Own : ℕ → Type 0) (due : (n : �
           → NumberGiven t v Own (cond a (cond b r (refused (tableRefusal t))) (refused (refusalOf v)) .refusal)
       go true e true f = own (no-value (eqb-true (refusalOf v) 0 e)) (table-exactly t 0 .0 (eqb-true (tableRefusal t) 0 f)) (due (r .refusal) .0 refl)
       go true e false f =
-          of-table (some-number (tableRefusal t) (eqb-false (tableRefusal t) 0 f)) (no-value (eqb-true (refusalOf v) 0 e)) (table-exactly t (tableRefusal t) .0 refl)
-      go false e b f = of-value (some-number (refusalOf v) (eqb-false (refusalOf v) 0 e)) (value-exactly v (refusalOf v) .0 refl)
+          of-table (pos-of-ne (eqb-false (tableRefusal t) 0 f)) (no-value (eqb-true (refusalOf v) 0 e)) (table-exactly t (tableRefusal t) .0 refl)
+      go false e b f = of-value (pos-of-ne (eqb-false (refusalOf v) 0 e)) (value-exactly v (refusalOf v) .0 refl)
 
   given-is : (n : ℕ) → NumberGiven t v Own n → unlessRefused t v r .refusal ≡ n
   given-is n (of-value h g) =
@@ -74,12 +71,14 @@ by-form false walked Right z to of n = (λ e. inr (sym e, λ x. true≢false (sy
     back (inr o) = sym (o .0)
 
 pub first-number : (t : List ℕ) → FirstNumber t
-unfolding plainOf machineOf resolvedSmall
+unfolding plainOf resolvedOver
 first-number t =
     record {
       plain = λ v. both-ways t v (answered t (urisOf v) (directSignal t (urisOf v))) (λ k. k ≡ 0) (λ n. (sym, sym));
       machine = λ im v. both-ways t v _ _
-          (by-form (formOf (tableOf t) im) (answered t (urisOf v) (walkedSignal t im (urisOf v))) _ refl (form-to-right (tableOf t) im) (right-to-form (tableOf t) im));
+          (by-form (formOf (tableOf t) im) (answered t (urisOf v) (walkedSignal t im (urisOf v))) _ refl (form-to-right (tableOf t) im)
+          (right-to-form (tableOf t) im));
       small = λ small v. both-ways t v _ _
-          (by-form (smallForm (tableOf t) small) (answered t (urisOf v) (walkedSmall t small (urisOf v))) _ refl (small-to (tableOf t) small) (small-of (tableOf t) small));
+          (by-form (smallForm (tableOf t) small) (answered t (urisOf v) (walkedSmall t small (urisOf v))) _ refl
+          (small-to (tableOf t) small) (small-of (tableOf t) small));
     }

@@ -3,6 +3,7 @@ use Prim.Native.Nat.{ℕ, _≤_}
 use mathlib.Core.Path.{_≡_, sym, subst}
 use mathlib.Core.List.{List, [], _∷_, _++_, append-assoc, append-nil}
 use lib.ListN.{length}
+use Rattle.base_numbers.specs.Numbers.{mostEntries, mostValueBytes}
 use Rattle.value_reader.specs.Value.{refusalOf, urisOf}
 use Rattle.value_reader.specs.Grammar.{White, Value}
 use Rattle.value_reader.specs.Grammar as G
@@ -24,7 +25,7 @@ join-value v [] (z, a) = subst (Value White v) (sym (append-nil (urisOf v))) (ac
 join-value v (w ∷ vs) (z, a) = joins (accepted-list v z) (join-value w vs a)
 
 -- within the limits they are accepted, with the URIs of all
-pub joined-read : (v : List ℕ) (vs : List (List ℕ)) → AllAccepted (v ∷ vs) → length (joined v vs) ≤ 4096 → length (allUris (v ∷ vs)) ≤ 64
+pub joined-read : (v : List ℕ) (vs : List (List ℕ)) → AllAccepted (v ∷ vs) → length (joined v vs) ≤ mostValueBytes → length (allUris (v ∷ vs)) ≤ mostEntries
     → (refusalOf (joined v vs) ≡ 0) × (urisOf (joined v vs) ≡ allUris (v ∷ vs))
 joined-read v vs a short few =
     let s = joined v vs in

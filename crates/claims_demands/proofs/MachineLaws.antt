@@ -15,11 +15,12 @@ use Rattle.table_decode.proofs.RefusalNumbers.{refusal-numbers}
 use Rattle.machine_library.specs.Claims.{RightForm}
 use Rattle.machine_library.proofs.FormRight.{form-to-right, right-to-form}
 use Rattle.resolve_run.specs.declared.Resolution.{Resolution}
+use Rattle.resolve_small.specs.Resolve.{resolvedOver}
 use Rattle.resolve_library.specs.Resolve.{walkedSignal, refused, answered, machineOf}
 
 module _ (t im v : List ℕ) where
   pub machine-walks : refusalOf v ≡ 0 → tableRefusal t ≡ 0 → RightForm (tableOf t) im → machineOf t im v ≡ answered t (urisOf v) (walkedSignal t im (urisOf v))
-  unfolding machineOf
+  unfolding resolvedOver
   machine-walks e z r = simp (eq-eqb (refusalOf v) 0 e, eq-eqb (tableRefusal t) 0 z, right-to-form (tableOf t) im r)
 
   no-table : (tableRefusal t ≡ 0) ⊎ ((4 ≤ tableRefusal t) × (tableRefusal t ≤ 12)) → tableRefusal t ≡ 15 → ⊥
@@ -27,7 +28,7 @@ module _ (t im v : List ℕ) where
   no-table (inr h) z = omega (arith, h .1, z)
 
   fifteen-to : machineOf t im v .refusal ≡ 15 → (refusalOf v ≡ 0) × (tableRefusal t ≡ 0) × (RightForm (tableOf t) im → ⊥)
-  unfolding machineOf
+  unfolding resolvedOver
   fifteen-to = go (eqb (refusalOf v) 0) refl (eqb (tableRefusal t) 0) refl (formOf (tableOf t) im) refl
     where
       given : Resolution
@@ -42,7 +43,7 @@ module _ (t im v : List ℕ) where
       go false e b f c g z = absurd (omega (arith, value-numbers v, z))
 
   fifteen-of : refusalOf v ≡ 0 → tableRefusal t ≡ 0 → (RightForm (tableOf t) im → ⊥) → machineOf t im v .refusal ≡ 15
-  unfolding machineOf
+  unfolding resolvedOver
   fifteen-of e z n = simp (eq-eqb (refusalOf v) 0 e, eq-eqb (tableRefusal t) 0 z, wrong (formOf (tableOf t) im) refl)
     where
       wrong : (b : Bool) → formOf (tableOf t) im ≡ b → formOf (tableOf t) im ≡ false

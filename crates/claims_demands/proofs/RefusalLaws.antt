@@ -8,10 +8,11 @@ use lib.Dec.{eqb, ltb}
 use lib.ListN.{length}
 use borrow.Author.Tests.{eqb-false}
 use native.Mathlib.Omega.{arith}
+use Rattle.base_bytes.specs.Built.{refused as without}
+use Rattle.base_lists.specs.Lists.{allBelow}
 use Rattle.value_reader.specs.Value.{refusalOf, urisOf, entryRefusalOf}
 use Rattle.value_reader.proofs.Agree.{refusal-numbers as value-numbers}
 use Rattle.value_reader.proofs.EntryLaws.{entry-refusal-numbers}
-use Rattle.theory_resolution.specs.Lists.{allBelow}
 use Rattle.theory_resolution.specs.Direct.{start, sameState}
 use Rattle.theory_resolution.specs.Machine.{machineState, rowRight}
 use Rattle.theory_resolution.specs.Build.{discovered}
@@ -19,12 +20,12 @@ use Rattle.machine_image.specs.Image.{machineImage, machineIn}
 use Rattle.machine_image.specs.Refusals.{buildRefusal, formOf, checkOf}
 use Rattle.table_decode.specs.Tables.{tableRefusal, tableOf, categoryNames}
 use Rattle.table_decode.proofs.RefusalNumbers.{refusal-numbers}
-use Rattle.machine_build.specs.Built.{refused as without, builtOf}
+use Rattle.machine_build.specs.Built.{builtOf}
 use Rattle.machine_library.specs.Built.{builtFrom, checkFrom}
 use Rattle.resolve_run.specs.declared.Resolution.{Resolution}
 use Rattle.resolve_library.specs.Resolve.{refused, answered, walkedSignal, unlessRefused, plainOf, machineOf}
 use Rattle.small_image.specs.Small.{smallForm}
-use Rattle.resolve_small.specs.Resolve.{walkedSmall, resolvedSmall}
+use Rattle.resolve_small.specs.Resolve.{walkedSmall, resolvedSmall, resolvedOver}
 use Rattle.resolve_pair.specs.declared.Pair.{Pair}
 use Rattle.resolve_pair.specs.Pair.{apart, pairRefusal, signalIn, refused as noPair, pairOf}
 use Rattle.claims_demands.specs.Demands.{Among, ValueNumber, EntryNumber, TableNumber, PlainNumber, MachineNumber, BuildNumber, CheckNumber, PairNumber}
@@ -84,7 +85,7 @@ unfolding plainOf
 plain-number t v = resolver-number PlainNumber (λ n h. inr h) t v _ (inl refl)
 
 pub machine-number : (t im v : List ℕ) → MachineNumber (machineOf t im v .refusal)
-unfolding machineOf
+unfolding resolvedOver
 machine-number t im v = resolver-number MachineNumber (λ n h. inr (inl h)) t v _ (go (formOf (tableOf t) im))
   where
     go : (b : Bool) → MachineNumber (cond b (answered t (urisOf v) (walkedSignal t im (urisOf v))) (refused 15) .refusal)
@@ -92,7 +93,7 @@ machine-number t im v = resolver-number MachineNumber (λ n h. inr (inl h)) t v 
     go false = inr (inr refl)
 
 pub small-number : (t small v : List ℕ) → MachineNumber (resolvedSmall t small v .refusal)
-unfolding resolvedSmall
+unfolding resolvedOver
 small-number t small v = resolver-number MachineNumber (λ n h. inr (inl h)) t v _ (go (smallForm (tableOf t) small))
   where
     go : (b : Bool) → MachineNumber (cond b (answered t (urisOf v) (walkedSmall t small (urisOf v))) (refused 15) .refusal)
@@ -125,7 +126,8 @@ check-number t im =
     of-table CheckNumber (λ n h. inr (inl h)) t
     (by-cond CheckNumber (formOf (tableOf t) im)
     (by-cond CheckNumber (sameState (machineState (machineIn (tableOf t) im) 0 .pair) (start (tableOf t .cats)))
-    (by-cond CheckNumber (allBelow (length (machineIn (tableOf t) im)) (rowRight (tableOf t) (machineIn (tableOf t) im))) (inl refl) (inr (inr (omega arith, omega arith))))
+    (by-cond CheckNumber (allBelow (length (machineIn (tableOf t) im)) (rowRight (tableOf t) (machineIn (tableOf t) im))) (inl refl)
+    (inr (inr (omega arith, omega arith))))
     (inr (inr (omega arith, omega arith))))
     (inr (inr (omega arith, omega arith))))
 
@@ -140,7 +142,8 @@ module _ (ring lamp v : List ℕ) where
   number-due : PairNumber number
   number-due =
       by-zero PairNumber (refusalOf v)
-      (of-table PairNumber of-one ring (of-table PairNumber of-one lamp (by-cond PairNumber (apart (categoryNames ring) (categoryNames lamp)) (inl refl) (inr (inr refl)))))
+      (of-table PairNumber of-one ring
+      (of-table PairNumber of-one lamp (by-cond PairNumber (apart (categoryNames ring) (categoryNames lamp)) (inl refl) (inr (inr refl)))))
       (λ n. of-value n (value-number v))
     where
       of-one : (n : ℕ) → Among 4 12 n → PairNumber n

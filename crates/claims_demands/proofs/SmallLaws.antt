@@ -3,12 +3,13 @@ use Prim.Native.Nat.{ℕ, zero, suc, _+_, _*_, _≤_, _<_}
 use mathlib.Core.Path.{_≡_, refl, sym, ap, ap₂, _∙_, subst}
 use mathlib.Core.Bool.{Bool, true, false, cond}
 use mathlib.Core.Option.{Option}
-use mathlib.Core.List.{List, [], _∷_, _++_, map, foldl}
+use mathlib.Core.List.{List, [], _∷_, _++_, foldl, foldl-map}
 use lib.Dec.{eqb}
 use lib.ListN.{length}
 use native.Mathlib.Omega.{arith}
 use native.Mathlib.Nat.{suc-mul, zero-mul}
 use borrow.Author.Tests.{eq-eqb, eqb-true, eqb-false}
+use Rattle.base_lists.specs.Search.{highest}
 use Rattle.value_reader.specs.Value.{refusalOf, urisOf}
 use Rattle.theory_resolution.specs.Table.{Urn, Table, mostParts}
 use Rattle.theory_resolution.specs.Direct.{stepUri, changed, changes}
@@ -17,8 +18,7 @@ use Rattle.node_search.specs.Uses.{usedUrn}
 use Rattle.machine_image.specs.Image.{symbolCount, stateCount, signalIn}
 use Rattle.machine_image.specs.Refusals.{formOf}
 use Rattle.machine_image.specs.Walk.{stepIn}
-use Rattle.machine_image.proofs.Form as image
-use Rattle.theory_minimal.specs.Proposal.{classOf, highest, classCount, small}
+use Rattle.theory_minimal.specs.Proposal.{classOf, classCount, small}
 use Rattle.small_image.specs.Small.{smallForm, smallStep}
 use Rattle.small_image.specs.Numbers.{numbersIn, smallOf}
 use Rattle.small_image.proofs.Placed.{image-formed}
@@ -31,17 +31,13 @@ use Rattle.resolve_run.specs.Answers.{numberOf}
 use Rattle.resolve_run.specs.declared.Resolution.{Resolution}
 use Rattle.resolve_run.proofs.AnswerLaws.{unless-number}
 use Rattle.resolve_run.proofs.TakenLaws.{taken-used}
-use Rattle.resolve_small.specs.Resolve.{walkedSmall, resolvedSmall}
+use Rattle.resolve_small.specs.Resolve.{walkedSmall, resolvedSmall, resolvedOver}
 use Rattle.resolve_small.specs.Claims.{RightSmall}
 use Rattle.resolve_small.proofs.FormLaws.{small-to, small-of}
 use Rattle.resolve_library.specs.Resolve.{takenAs, walkedSignal, refused, answered, unlessRefused, machineOf}
 use Rattle.claims_demands.specs.Demands.{WalkClaim}
-use Rattle.claims_demands.specs.BesideMachine.{GoesWith, OneOfTwo, Proposed, SmallWalkClaim}
-
--- a run over a list whose members are seen through a function
-run-map : {S A B : Type 0} (next : S → B → S) (g : A → B) (s : S) (l : List A) → foldl next s (map g l) ≡ foldl (λ x a. next x (g a)) s l
-run-map next g s [] = refl
-run-map next g s (a ∷ l) = run-map next g (next s (g a)) l
+use Rattle.claims_demands.specs.BesideMachine.{GoesWith, OneOfTwo, Proposed}
+use Rattle.machine_image.proofs.Form as image
 
 -- two runs that have the same signal after every list change it equally often
 same-changes : {S U A : Type 0} (f : S → ℕ) (next : S → A → S) (g : U → ℕ) (go : U → A → U) (l : List A) (s : S) (u : U)
@@ -61,30 +57,33 @@ module _ (t im small : List ℕ) (with : GoesWith t im small) where
   taken uri = usedUrn (categoryNames t) uri
 
   -- after every list of URIs as bytes
-  same-point : (uris : List (List ℕ)) → signalIn 0 small (foldl (λ j uri. stepUri (smallStep T small) j (taken uri)) 0 uris) ≡ signalIn (T .cats) im (foldl (λ j uri. stepUri (stepIn T im) j (taken uri)) 0 uris)
+  same-point : (uris : List (List ℕ)) → signalIn 0 small (foldl (λ j uri. stepUri (smallStep T small) j (taken uri)) 0 uris)
+      ≡ signalIn (T .cats) im (foldl (λ j uri. stepUri (stepIn T im) j (taken uri)) 0 uris)
   same-point uris =
-      ap (signalIn 0 small) (sym (run-map (stepUri (smallStep T small)) taken 0 uris))
+      ap (signalIn 0 small) (sym (foldl-map taken (stepUri (smallStep T small)) uris 0))
       ∙ same-signal uris
-      ∙ ap (signalIn (T .cats) im) (run-map (stepUri (stepIn T im)) taken 0 uris)
+      ∙ ap (signalIn (T .cats) im) (foldl-map taken (stepUri (stepIn T im)) uris 0)
 
-  pub small-walks : (before after : List (List ℕ)) → ((before after : List (List ℕ)) → WalkClaim t im before after) → SmallWalkClaim t small before after
+  pub small-walks : (before after : List (List ℕ)) → ((before after : List (List ℕ)) → WalkClaim (T .cats) t im before after) → WalkClaim 0 t small before after
   small-walks before after claim =
       record {
         agrees = same-signal before ∙ c .agrees;
         only-given = λ k p s. c .only-given k p (subst (λ (n : ℕ). Says T n k p) (same-signal before) s);
-        still-says = λ k p s. subst (λ (n : ℕ). Says T n k p) (sym (same-signal (before ++ after))) (c .still-says k p (subst (λ (n : ℕ). Says T n k p) (same-signal before) s));
+        still-says = λ k p s. subst (λ (n : ℕ). Says T n k p) (sym (same-signal (before ++ after)))
+            (c .still-says k p (subst (λ (n : ℕ). Says T n k p) (same-signal before) s));
         few-changes = subst (λ (n : ℕ). n ≤ mostParts (T .signals))
-            (sym (same-changes (signalIn 0 small) (λ j uri. stepUri (smallStep T small) j (taken uri)) (signalIn (T .cats) im) (λ j uri. stepUri (stepIn T im) j (taken uri)) (before ++ after) 0 0 same-point))
+            (sym (same-changes (signalIn 0 small) (λ j uri. stepUri (smallStep T small) j (taken uri)) (signalIn (T .cats) im)
+            (λ j uri. stepUri (stepIn T im) j (taken uri)) (before ++ after) 0 0 same-point))
             (c .few-changes);
       }
     where
-      c : WalkClaim t im before after
+      c : WalkClaim (T .cats) t im before after
       c = claim before after
 
 -- so the resolvers answer alike, whatever the value
 module _ (t im small v : List ℕ) where
   pub small-machine : RightForm (tableOf t) im → GoesWith t im small → resolvedSmall t small v ≡ machineOf t im v
-  unfolding resolvedSmall machineOf
+  unfolding resolvedOver
   small-machine r with =
       ap (λ b. unlessRefused t v (cond b (answered t (urisOf v) (walkedSmall t small (urisOf v))) (refused 15))) (small-of (tableOf t) small (with .formed))
       ∙ ap (λ s. unlessRefused t v (answered t (urisOf v) s)) (same-signal t im small with (urisOf v))
@@ -127,7 +126,8 @@ module _ (t b v : List ℕ) where
 
   -- where nothing is refused before, the table has a category
   one-form : numberOf t v ≡ 0 → formOf (tableOf t) b ≡ true → smallForm (tableOf t) b ≡ true → ⊥
-  one-form z f g = no-both (tableOf t) b (accepted t (formed (eqb (refusalOf v) 0) refl z) .some-category) (form-to-right (tableOf t) b f) (small-to (tableOf t) b g)
+  one-form z f g = no-both (tableOf t) b (accepted t (formed (eqb (refusalOf v) 0) refl z) .some-category) (form-to-right (tableOf t) b f)
+      (small-to (tableOf t) b g)
     where
       formed : (a : Bool) → eqb (refusalOf v) 0 ≡ a → cond a (tableRefusal t) (refusalOf v) ≡ 0 → tableRefusal t ≡ 0
       formed true q e = e
@@ -140,7 +140,7 @@ module _ (t b v : List ℕ) where
       ap (λ (r : Resolution). r .refusal) (unless-number t v (refused 15) ∙ ap (λ a. cond a (refused 15) (refused (numberOf t v))) (eq-eqb (numberOf t v) 0 z))
 
   pub one-of-two : OneOfTwo t b v
-  unfolding machineOf resolvedSmall
+  unfolding resolvedOver
   one-of-two =
       record {
         large = λ e.

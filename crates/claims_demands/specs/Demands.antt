@@ -12,7 +12,7 @@ use Rattle.theory_resolution.specs.Direct.{usedOf, usedCount, skippedCount, ste
 use Rattle.theory_resolution.specs.Says.{Says, Given}
 use Rattle.node_search.specs.Uses.{usedUrn}
 use Rattle.machine_image.specs.Image.{signalIn, machineImage}
-use Rattle.machine_image.specs.Walk.{stepIn}
+use Rattle.machine_image.specs.Walk.{stepOver}
 use Rattle.small_image.specs.Numbers.{smallOf}
 use Rattle.table_decode.specs.Tables.{tableRefusal, tableOf, categoryNames}
 use Rattle.table_decode.specs.Claims.{TableRefusedExactly}
@@ -24,13 +24,13 @@ use Rattle.resolve_early.specs.Claims.{EarlyClaims}
 use Rattle.resolve_available.specs.Available.{availableSignal, availableOf}
 use Rattle.resolve_pair.specs.Pair.{pairOf}
 use Rattle.resolve_pair.specs.Claims.{Shared, PairAnswers, Together}
-use Rattle.resolve_small.specs.Resolve.{resolvedSmall}
+use Rattle.resolve_small.specs.Resolve.{walkedOver, resolvedSmall}
 use Rattle.resolve_small.specs.Claims.{SmallAnswers}
 use Rattle.resolve_library.specs.Resolve.{takenAs, directSignal, walkedSignal, answered, plainOf, machineOf}
 use Rattle.resolve_library.specs.Feed.{feedOf}
 use Rattle.claims_demands.specs.Feeding.{OneValue, EndsDirect, NeverRefused, JoinedAlike}
 use Rattle.claims_demands.specs.BesidePlain.{BesidePlain}
-use Rattle.claims_demands.specs.BesideMachine.{GoesWith, OneOfTwo, Proposed, SmallWalkClaim}
+use Rattle.claims_demands.specs.BesideMachine.{GoesWith, OneOfTwo, Proposed}
 use Rattle.claims_demands.specs.FirstNumber.{FirstNumber}
 
 -- a number from lo to hi
@@ -161,16 +161,17 @@ pub record Demand2 (t : List ℕ) : Type 0 where
   -- the checker accepts exactly the right machines
   pub checked : (im : List ℕ) → (checkFrom t im ≡ 0) ↔ RightImage t im
 
--- an image walked over URIs as bytes, used and skipped, at the point between before and after
-pub record WalkClaim (t im : List ℕ) (before after : List (List ℕ)) : Type 0 where
+-- an image walked over URIs as bytes, used and skipped, at the point between before and after; its states have a byte for each of n
+-- categories: the table's in an image, none in a small one
+pub record WalkClaim (n : ℕ) (t im : List ℕ) (before after : List (List ℕ)) : Type 0 where
   -- its signal is direct resolution's: at the start, where before is empty, and after each URI
-  pub agrees : walkedSignal t im before ≡ directSignal t before
+  pub agrees : walkedOver n t im before ≡ directSignal t before
   -- it says only given URNs or their ancestors
-  pub only-given : (c : ℕ) (p : Parts) → Says (tableOf t) (walkedSignal t im before) c p → Given (usedOf (takenAs t before)) c p
+  pub only-given : (c : ℕ) (p : Parts) → Says (tableOf t) (walkedOver n t im before) c p → Given (usedOf (takenAs t before)) c p
   -- what it said at this point it still says at every later one
-  pub still-says : (c : ℕ) (p : Parts) → Says (tableOf t) (walkedSignal t im before) c p → Says (tableOf t) (walkedSignal t im (before ++ after)) c p
+  pub still-says : (c : ℕ) (p : Parts) → Says (tableOf t) (walkedOver n t im before) c p → Says (tableOf t) (walkedOver n t im (before ++ after)) c p
   -- over the list it changes at most as often as the largest number of parts that one signal names in all its URNs
-  pub few-changes : changes (signalIn (tableOf t .cats) im) (λ j uri. stepUri (stepIn (tableOf t) im) j (usedUrn (categoryNames t) uri)) 0 (before ++ after)
+  pub few-changes : changes (signalIn n im) (λ j uri. stepUri (stepOver n (tableOf t) im) j (usedUrn (categoryNames t) uri)) 0 (before ++ after)
       ≤ mostParts (tableOf t .signals)
 
 -- Demand 3, for a well-formed table with at most 256 reachable states
@@ -179,11 +180,11 @@ pub record Demand3 (t : List ℕ) : Type 0 where
   pub builds : (room : ℕ) → (builtFrom t room .refusal ≡ 0) ↔ (length (machineImage (tableOf t)) ≤ room)
   pub checked : (room : ℕ) → builtFrom t room .refusal ≡ 0 → checkFrom t (take (builtFrom t room .len) (bufferFrom t room)) ≡ 0
   -- for that image or any other that the checker accepts, over every list of URIs
-  pub walks : (im : List ℕ) → checkFrom t im ≡ 0 → (before after : List (List ℕ)) → WalkClaim t im before after
+  pub walks : (im : List ℕ) → checkFrom t im ≡ 0 → (before after : List (List ℕ)) → WalkClaim (tableOf t .cats) t im before after
   -- for all bytes as a value both resolvers answer alike, in all four numbers
   pub alike : (im : List ℕ) → checkFrom t im ≡ 0 → (v : List ℕ) → machineOf t im v ≡ plainOf t v
   -- a small image that goes with an accepted image has the same over every list of URIs, and its resolver answers alike
-  pub small-walks : (im small : List ℕ) → checkFrom t im ≡ 0 → GoesWith t im small → (before after : List (List ℕ)) → SmallWalkClaim t small before after
+  pub small-walks : (im small : List ℕ) → checkFrom t im ≡ 0 → GoesWith t im small → (before after : List (List ℕ)) → WalkClaim 0 t small before after
   pub small-alike : (im small : List ℕ) → checkFrom t im ≡ 0 → GoesWith t im small → (v : List ℕ) → resolvedSmall t small v ≡ plainOf t v
   -- for an accepted value these are the walk's signal over the value's list, the numbers of its used and skipped entries, and 0
   pub answers : (im : List ℕ) → checkFrom t im ≡ 0 → (v : List ℕ) → refusalOf v ≡ 0

@@ -5,6 +5,7 @@ use mathlib.Core.Path.{_≡_}
 use mathlib.Core.Bool.{true, false}
 use mathlib.Core.List.{List, [], _∷_, _++_}
 use lib.ListN.{length, take}
+use Rattle.base_numbers.specs.Numbers.{mostCategories, mostEntries, mostValueBytes, mostValues}
 use Rattle.value_reader.specs.Value.{refusalOf, urisOf}
 use Rattle.theory_resolution.specs.Direct.{usedOf, direct}
 use Rattle.resolve_record.specs.Record.{fresh, carriedAs, carriedFits, counted}
@@ -19,8 +20,8 @@ pub record OneValue (t : List ℕ) (r : Carried) (v : List ℕ) : Type 0 where
   -- the number: the table's, then 28, then 19, then the value's
   pub of-table : (tableRefusal t ≡ 0 → ⊥) → feedOf t r v .answer .refusal ≡ tableRefusal t
   pub of-record : tableRefusal t ≡ 0 → carriedFits (tableOf t) r ≡ false → feedOf t r v .answer .refusal ≡ 28
-  pub seventeenth : tableRefusal t ≡ 0 → carriedFits (tableOf t) r ≡ true → r .values ≡ 16 → feedOf t r v .answer .refusal ≡ 19
-  pub of-value : tableRefusal t ≡ 0 → carriedFits (tableOf t) r ≡ true → (r .values ≡ 16 → ⊥) → feedOf t r v .answer .refusal ≡ refusalOf v
+  pub seventeenth : tableRefusal t ≡ 0 → carriedFits (tableOf t) r ≡ true → r .values ≡ mostValues → feedOf t r v .answer .refusal ≡ 19
+  pub of-value : tableRefusal t ≡ 0 → carriedFits (tableOf t) r ≡ true → (r .values ≡ mostValues → ⊥) → feedOf t r v .answer .refusal ≡ refusalOf v
   -- accepted: the carried signal, and the value's own counts
   pub accepted : feedOf t r v .answer .refusal ≡ 0 → feedOf t r v .answer ≡ answered t (urisOf v) (feedOf t r v .carried .signal)
   -- refused: signal 0 and counts 0
@@ -47,13 +48,13 @@ allUris (v ∷ vs) = urisOf v ++ allUris vs
 -- from a fresh record the end is direct resolution over the accepted ones among the first 16 values, in order
 abbrev pub EndsDirect : List ℕ → Type 0
 EndsDirect t = tableRefusal t ≡ 0 → (vs : List (List ℕ))
-    → fedAll t fresh vs ≡ carriedAs (tableOf t) (direct (tableOf t) (usedOf (takenAs t (allUris (take 16 vs))))) (min 16 (length vs))
+    → fedAll t fresh vs ≡ carriedAs (tableOf t) (direct (tableOf t) (usedOf (takenAs t (allUris (take mostValues vs))))) (min mostValues (length vs))
 
 -- a fresh record is taken, and so is every record that feeding gives to one that was taken: none is refused with 28
 abbrev pub NeverRefused : List ℕ → Type 0
 NeverRefused t = tableRefusal t ≡ 0
     → (carriedFits (tableOf t) fresh ≡ true) ×
-    ((r : Carried) → length (r .status) ≡ 8 → carriedFits (tableOf t) r ≡ true → (vs : List (List ℕ)) → carriedFits (tableOf t) (fedAll t r vs) ≡ true)
+    ((r : Carried) → length (r .status) ≡ mostCategories → carriedFits (tableOf t) r ≡ true → (vs : List (List ℕ)) → carriedFits (tableOf t) (fedAll t r vs) ≡ true)
 
 -- one or more values with commas between them
 abbrev pub joined : List ℕ → List (List ℕ) → List ℕ
@@ -75,7 +76,7 @@ allSkipped (a ∷ l) = a .skipped + allSkipped l
 
 -- 1 to 16 values, all accepted, that joined by commas have at most 4,096 bytes and 64 entries
 abbrev pub Joinable : List ℕ → List (List ℕ) → Type 0
-Joinable v vs = (length (v ∷ vs) ≤ 16) × AllAccepted (v ∷ vs) × (length (joined v vs) ≤ 4096) × (length (allUris (v ∷ vs)) ≤ 64)
+Joinable v vs = (length (v ∷ vs) ≤ mostValues) × AllAccepted (v ∷ vs) × (length (joined v vs) ≤ mostValueBytes) × (length (allUris (v ∷ vs)) ≤ mostEntries)
 
 -- what such values give joined is the signal at their end, and their counts in all
 abbrev pub JoinedAlike : List ℕ → Type 0

@@ -2,6 +2,7 @@
 use Prim.Native.Nat.{ℕ, _≤_}
 use mathlib.Core.Path.{_≡_}
 use mathlib.Core.List.{List}
+use Rattle.base_numbers.specs.Numbers.{mostTries}
 use Rattle.value_reader.specs.Value.{urisOf}
 use Rattle.theory_resolution.specs.Table.{Urn}
 use Rattle.theory_resolution.specs.Nodes.{nodes}
@@ -23,7 +24,7 @@ pub record Tried (t : List ℕ) : Type 0 where
   pub counted : (v : List ℕ) → plainOf t v .refusal ≡ 0 → plainWith t v .tries ≡ triesIn t (urisOf v)
   pub none : (v : List ℕ) → (plainWith t v .refusal ≡ 0 → ⊥) → plainWith t v ≡ record { refusal = plainWith t v .refusal; signal = 0; used = 0; skipped = 0; tries = 0 }
   -- at most 9 tries for one URN, in any state
-  pub few : tableRefusal t ≡ 0 → (st : State) (u : Urn) → tries (envOf (tableOf t)) (nodes (tableOf t)) st u ≤ 9
+  pub few : tableRefusal t ≡ 0 → (st : State) (u : Urn) → tries (envOf (tableOf t)) (nodes (tableOf t)) st u ≤ mostTries
   -- what is deeper than the deepest node need not be looked up: no search changes, and what is counted is what is looked up
   pub law : tableRefusal t ≡ 0 → TriesLaw (tableOf t)
 

@@ -9,6 +9,8 @@ use lib.ListN.{length}
 use borrow.Author.Tests.{leb-true, leb-false, eqb-true, eqb-false, eq-eqb, ne-eqb, lt-ltb}
 use native.Mathlib.Omega.{arith}
 use native.Mathlib.Nat.{zero-div}
+use Rattle.base_bytes.specs.Built.{refused as without}
+use Rattle.base_lists.proofs.Bools.{byTest}
 use Rattle.value_reader.specs.Value.{refusalOf, urisOf, entryRefusalOf}
 use Rattle.value_reader.specs.Examples.{entriesMore}
 use Rattle.value_reader.proofs.Agree.{refused-exactly}
@@ -16,7 +18,6 @@ use Rattle.value_reader.proofs.Examples.{each-number as each-value, each-entry-
 use Rattle.theory_resolution.specs.Build.{discovered}
 use Rattle.theory_resolution.proofs.Theorems.{build-law}
 use Rattle.base_ascii.specs.Ascii.{bytes}
-use Rattle.base_text.proofs.Fields.{byTest}
 use Rattle.machine_image.specs.Image.{machineImage}
 use Rattle.machine_image.specs.Refusals.{buildRefusal, formOf, checkOf}
 use Rattle.table_decode.specs.Tables.{tableOf, tableRefusal}
@@ -24,7 +25,7 @@ use Rattle.table_decode.specs.Examples.{least}
 use Rattle.table_decode.proofs.Examples.{from-list, least-formed, each-number as each-table}
 use Rattle.resolve_record.specs.Record.{fresh}
 use Rattle.resolve_record.specs.declared.Carried.{Carried}
-use Rattle.machine_build.specs.Built.{refused as without, builtOf}
+use Rattle.machine_build.specs.Built.{builtOf}
 use Rattle.machine_library.specs.Built.{builtFrom, checkFrom}
 use Rattle.resolve_run.specs.declared.Resolution.{Resolution}
 use Rattle.resolve_library.specs.Resolve.{unlessRefused, refused, answered, directSignal, walkedSignal, plainOf, machineOf}
@@ -38,15 +39,18 @@ use Rattle.resolve_pair.specs.Pair.{pairRefusal, signalIn, refused as noPair, p
 use Rattle.resolve_pair.proofs.PairLaws.{pair-claim}
 use Rattle.resolve_available.specs.Available.{availableOf}
 use Rattle.small_image.specs.Small.{smallForm}
-use Rattle.resolve_small.specs.Resolve.{walkedSmall, resolvedSmall}
-use Rattle.claims_demands.specs.Demands.{ValueNumber, EntryNumber, PlainNumber, MachineNumber, AvailableNumber, PairNumber, FeedNumber, BuildNumber, CheckNumber}
+use Rattle.resolve_small.specs.Resolve.{walkedSmall, resolvedSmall, resolvedOver}
+use Rattle.claims_demands.specs.Demands.{ValueNumber, EntryNumber, PlainNumber, MachineNumber, AvailableNumber, PairNumber, FeedNumber, BuildNumber}
+use Rattle.claims_demands.specs.Demands.{CheckNumber}
 use Rattle.claims_numbers.specs.Numbers.{EachNumber, image, smaller, wrongImages, manyStates, other, afterValues}
 use Rattle.resolve_run.proofs.AnswerLaws.{value-refused, table-refused, none-refused}
 use Rattle.claims_demands.proofs.AvailableLaws.{beside-plain}
 use Rattle.claims_demands.proofs.EarlyLaws.{early-refused, early-signal}
 use Rattle.claims_demands.proofs.OneValueLaws.{one-value}
 use Rattle.claims_demands.proofs.FeedingLaws.{never-refused}
-use Rattle.claims_numbers.proofs.NumberExamples.{many-formed, over-many, none-early, many-early, fits-room, no-room, right-image, wrong-images, right-form, no-form, right-small, no-small, two-signals, sixteen-fit, seventeen-unfit, other-formed, other-apart, least-shared}
+use Rattle.claims_numbers.proofs.NumberExamples.{many-formed, over-many, none-early, many-early, fits-room, no-room, right-image, wrong-images}
+use Rattle.claims_numbers.proofs.NumberExamples.{right-form, no-form, right-small, no-small, two-signals, sixteen-fit, seventeen-unfit}
+use Rattle.claims_numbers.proofs.NumberExamples.{other-formed, other-apart, least-shared}
 
 -- an accepted value
 value : (v : List ℕ) × (refusalOf v ≡ 0)
@@ -86,7 +90,8 @@ plain-value v n e h = sym (ap (λ (x : Resolution). x .refusal) (value-refused l
 plain-table : (t : List ℕ) (n : ℕ) → tableRefusal t ≡ n → (tableRefusal t ≡ 0 → ⊥) → plainOf t (value .0) .refusal ≡ n
 unfolding plainOf
 plain-table t n e z =
-    sym (ap (λ (x : Resolution). x .refusal) (table-refused t (value .0) (answered t (urisOf (value .0)) (directSignal t (urisOf (value .0)))) (value .1) z)) ∙ e
+    sym (ap (λ (x : Resolution). x .refusal)
+    (table-refused t (value .0) (answered t (urisOf (value .0)) (directSignal t (urisOf (value .0)))) (value .1) z)) ∙ e
 
 plain-each : (n : ℕ) → PlainNumber n → (t v : List ℕ) × (plainOf t v .refusal ≡ n)
 unfolding plainOf
@@ -127,7 +132,7 @@ form-number : (im : List ℕ) (b : Bool) → formOf (tableOf least) im ≡ b
 form-number im b f = ap (λ (x : Bool). cond x (answered least (urisOf (value .0)) (walkedSignal least im (urisOf (value .0)))) (refused 15) .refusal) f
 
 machine-each : (n : ℕ) → MachineNumber n → (t im v : List ℕ) × (machineOf t im v .refusal ≡ n)
-unfolding machineOf
+unfolding resolvedOver
 machine-each n (inl e) = (least, image 0 1, value .0, own-number (walked (image 0 1) least (value .0)) ∙ form-number (image 0 1) true right-form ∙ sym e)
 machine-each n (inr (inl h)) = let r = first-numbers (walked []) n (h .0) (h .1) in (r .0, [], r .1, r .2)
 machine-each n (inr (inr e)) = (least, [], value .0, own-number (walked [] least (value .0)) ∙ form-number [] false no-form ∙ sym e)
@@ -141,7 +146,7 @@ small-number : (small : List ℕ) (b : Bool) → smallForm (tableOf least) small
 small-number small b f = ap (λ (x : Bool). cond x (answered least (urisOf (value .0)) (walkedSmall least small (urisOf (value .0)))) (refused 15) .refusal) f
 
 small-each : (n : ℕ) → MachineNumber n → (t small v : List ℕ) × (resolvedSmall t small v .refusal ≡ n)
-unfolding resolvedSmall
+unfolding resolvedOver
 small-each n (inl e) = (least, smaller, value .0, own-number (walkedBy smaller least (value .0)) ∙ small-number smaller true right-small ∙ sym e)
 small-each n (inr (inl h)) = let r = first-numbers (walkedBy []) n (h .0) (h .1) in (r .0, [], r .1, r .2)
 small-each n (inr (inr e)) = (least, [], value .0, own-number (walkedBy [] least (value .0)) ∙ small-number [] false no-small ∙ sym e)
@@ -166,14 +171,24 @@ available-each n (inr (inr e)) =
 pair-given : pairOf other least (value .0) .refusal ≡ 0
 unfolding pairOf
 pair-given =
-    let k : pairRefusal other least (value .0) ≡ 0 = simp (eq-eqb (refusalOf (value .0)) 0 (value .1), eq-eqb (tableRefusal other) 0 other-formed, eq-eqb (tableRefusal least) 0 least-formed, other-apart) in
+    let k : pairRefusal other least (value .0) ≡ 0 = simp (
+      eq-eqb (refusalOf (value .0)) 0 (value .1),
+      eq-eqb (tableRefusal other) 0 other-formed,
+      eq-eqb (tableRefusal least) 0 least-formed,
+      other-apart,
+    ) in
     ap (λ n. cond (eqb n 0) (record { refusal = 0; ring = signalIn other (value .0); lamp = signalIn least (value .0) }) (noPair n) .refusal) k
 
 -- ring and lamp by two tables, the lamp table being the least one
 pair-each : (n : ℕ) → PairNumber n → (ring lamp v : List ℕ) × (pairOf ring lamp v .refusal ≡ n)
 pair-each n (inl e) = (other, least, value .0, pair-given ∙ sym e)
-pair-each n (inr (inr e)) =
-    (least, least, value .0, ap (λ (p : Pair). p .refusal) (pair-claim least least (value .0) .shared (value .1) least-formed least-formed .1 (bytes "c", least-shared, least-shared)) ∙ sym e)
+pair-each n (inr (inr e)) = (
+  least,
+  least,
+  value .0,
+  ap (λ (p : Pair). p .refusal) (pair-claim least least (value .0) .shared (value .1) least-formed
+      least-formed .1 (bytes "c", least-shared, least-shared)) ∙ sym e,
+)
 pair-each n (inr (inl h)) = go (whose n (h .0) (h .1))
   where
     go : (n ≤ 3) ⊎ ((4 ≤ n) × (n ≤ 12)) → (ring lamp v : List ℕ) × (pairOf ring lamp v .refusal ≡ n)
@@ -181,8 +196,17 @@ pair-each n (inr (inl h)) = go (whose n (h .0) (h .1))
         let v = each-value n few in
         (least, least, v .0, ap (λ (p : Pair). p .refusal) (pair-claim least least (v .0) .of-value (λ z. omega (arith, v .1, z, h .0))) ∙ v .1)
     go (inr due) =
-        let t = each-table n (inr due) in
-        (t .0, least, value .0, ap (λ (p : Pair). p .refusal) (pair-claim (t .0) least (value .0) .of-ring (value .1) (λ z. omega (arith, t .1, z, due .0))) ∙ t .1)
+        let t = each-table n (inr due) in (
+          t .0,
+          least,
+          value .0,
+          ap (λ (p : Pair). p .refusal) (pair-claim (t .0) least (value .0) .of-ring (value .1) (λ z. omega (
+            arith,
+            t .1,
+            z,
+            due .0,
+          ))) ∙ t .1,
+        )
 
 feed-each : (n : ℕ) → FeedNumber n → (t : List ℕ) × (r : Carried) × (v : List ℕ) × (feedOf t r v .answer .refusal ≡ n)
 feed-each n h = go h

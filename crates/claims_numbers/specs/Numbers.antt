@@ -15,7 +15,8 @@ use Rattle.resolve_available.specs.Available.{availableOf}
 use Rattle.resolve_pair.specs.Pair.{pairOf}
 use Rattle.resolve_small.specs.Resolve.{resolvedSmall}
 use Rattle.resolve_library.specs.Feed.{feedOf}
-use Rattle.claims_demands.specs.Demands.{ValueNumber, EntryNumber, TableNumber, PlainNumber, MachineNumber, AvailableNumber, PairNumber, FeedNumber, BuildNumber, CheckNumber}
+use Rattle.claims_demands.specs.Demands.{ValueNumber, EntryNumber, TableNumber, PlainNumber, MachineNumber, AvailableNumber, PairNumber, FeedNumber}
+use Rattle.claims_demands.specs.Demands.{BuildNumber, CheckNumber}
 
 pub record EachNumber : Type 0 where
   pub by-value : (n : ℕ) → ValueNumber n → (v : List ℕ) × (refusalOf v ≡ n)

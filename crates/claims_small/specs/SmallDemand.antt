@@ -8,12 +8,12 @@ use Rattle.small_image.specs.Numbers.{smallOf}
 use Rattle.small_library.specs.Smaller.{classesRefusal}
 use Rattle.resolve_small.specs.Resolve.{resolvedSmall}
 use Rattle.resolve_library.specs.Resolve.{plainOf, machineOf}
-use Rattle.claims_demands.specs.BesideMachine.{SmallWalkClaim}
+use Rattle.claims_demands.specs.Demands.{WalkClaim}
 
 pub record SmallDemand (t im p : List ℕ) : Type 0 where
   -- over every list of URIs as bytes its walk has direct resolution's signal at every point, says only what was given, never
   -- unsays it, and changes at most as often as the largest number of parts in one signal
-  pub walks : (before after : List (List ℕ)) → SmallWalkClaim t (smallOf (tableOf t) im p) before after
+  pub walks : (before after : List (List ℕ)) → WalkClaim 0 t (smallOf (tableOf t) im p) before after
   -- whatever the value, its resolver answers as the plain resolver does, and as the machine resolver does by the large image
   pub plain-alike : (v : List ℕ) → resolvedSmall t (smallOf (tableOf t) im p) v ≡ plainOf t v
   pub machine-alike : (v : List ℕ) → resolvedSmall t (smallOf (tableOf t) im p) v ≡ machineOf t im v

@@ -8,9 +8,10 @@ use native.Mathlib.Omega.{arith}
 use lib.ListN.{length, getD}
 use lib.Dec.{eqb, leb, ltb}
 use borrow.Author.Tests.{eq-eqb, leb-true, leb-false, eqb-true, eqb-false, ltb-true, ltb-false}
+use Rattle.base_numbers.specs.Numbers.{mostLogBytes}
+use Rattle.base_lists.proofs.Lists.{mem-at}
+use Rattle.base_lists.proofs.Bools.{byTest}
 use Rattle.value_reader.specs.Value.{urisOf}
-use Rattle.base_text.proofs.Fields.{byTest}
-use Rattle.theory_resolution.proofs.Lists.{mem-at}
 use Rattle.table_decode.specs.Tables.{tableRefusal}
 use Rattle.table_decode.specs.Examples.{least}
 use Rattle.table_decode.proofs.RefusalNumbers.{refusal-numbers}
@@ -39,8 +40,10 @@ unfolding sameAnswer
 not-right t c e h =
     let r = plainOf t (c .value) in
     let z : agrees t c ≡ true =
-    and-eq-true-iff (eqb (r .signal) (c .signal)) (eqb (r .used) (c .used) && eqb (r .skipped) (c .skipped)) .1
-    (eq-eqb _ _ (sym (h .signal)), and-eq-true-iff (eqb (r .used) (c .used)) (eqb (r .skipped) (c .skipped)) .1 (eq-eqb _ _ (sym (h .used)), eq-eqb _ _ (sym (h .skipped)))) in
+    and-eq-true-iff (eqb (r .signal) (c .signal)) (eqb (r .used) (c .used) && eqb (r .skipped) (c .skipped)) .1 (
+      eq-eqb _ _ (sym (h .signal)),
+      and-eq-true-iff (eqb (r .used) (c .used)) (eqb (r .skipped) (c .skipped)) .1 (eq-eqb _ _ (sym (h .used)), eq-eqb _ _ (sym (h .skipped))),
+    ) in
     true≢false (sym z ∙ e)
 
 -- among calls counted from k: all are right, or here is the first that is not
@@ -104,10 +107,10 @@ no-log-false log h = byTest (isLog log) (λ e. absurd (no e)) (λ e. e)
   where
     no : isLog log ≡ true → ⊥
     no e =
-        let a = and-eq-true-iff (leb (length log) 32768) (eqb (endOf log) (length log)) .0 e in
+        let a = and-eq-true-iff (leb (length log) mostLogBytes) (eqb (endOf log) (length log)) .0 e in
         at (leb-true _ _ (a .0)) (eqb-true _ _ (a .1)) h
       where
-        at : length log ≤ 32768 → endOf log ≡ length log → NoLog log → ⊥
+        at : length log ≤ mostLogBytes → endOf log ≡ length log → NoLog log → ⊥
         at p q (inl x) = omega (arith, p, x)
         at p q (inr (inl x)) = omega (arith, q, x)
         at p q (inr (inr x)) = omega (arith, q, x)
@@ -115,7 +118,7 @@ no-log-false log h = byTest (isLog log) (λ e. absurd (no e)) (λ e. e)
 false-no-log : (log : List ℕ) → isLog log ≡ false → NoLog log
 unfolding isLog
 false-no-log log e =
-    byTest (leb (length log) 32768) (λ p. ends p) (λ p. inl (omega (arith, leb-false (length log) 32768 p)))
+    byTest (leb (length log) mostLogBytes) (λ p. ends p) (λ p. inl (omega (arith, leb-false (length log) mostLogBytes p)))
   where
     order : (endOf log ≡ length log → ⊥) → (length log < endOf log) ⊎ (endOf log < length log)
     order n = byTest (ltb (length log) (endOf log)) (λ p. inl (ltb-true _ _ p)) (λ p. inr (less (ltb-false _ _ p)))
@@ -123,8 +126,10 @@ false-no-log log e =
         less : endOf log ≤ length log → endOf log < length log
         less q = byTest (ltb (endOf log) (length log)) (λ p. ltb-true _ _ p) (λ p. absurd (n (omega (arith, q, ltb-false (endOf log) (length log) p))))
 
-    ends : leb (length log) 32768 ≡ true → NoLog log
-    ends p = byTest (eqb (endOf log) (length log)) (λ q. absurd (false≢true (sym e ∙ and-eq-true-iff (leb (length log) 32768) (eqb (endOf log) (length log)) .1 (p, q)))) (λ q. inr (order (eqb-false _ _ q)))
+    ends : leb (length log) mostLogBytes ≡ true → NoLog log
+    ends p = byTest (eqb (endOf log) (length log))
+        (λ q. absurd (false≢true (sym e ∙ and-eq-true-iff (leb (length log) mostLogBytes) (eqb (endOf log) (length log)) .1 (p, q))))
+        (λ q. inr (order (eqb-false _ _ q)))
 
 module _ (t log : List ℕ) where
   -- the calls of a log
@@ -216,7 +221,8 @@ judge-claim t log = judges t log
 plain-zeros : (t v : List ℕ) → (plainOf t v .refusal ≡ 0 → ⊥) → plainOf t v ≡ notResolved (plainOf t v .refusal)
 unfolding plainOf
 plain-zeros t v n =
-    byTest (eqb (numberOf t v) 0) (λ q. absurd (n (ap (λ (r : Resolution). r .refusal) (plain-is ∙ ap byNumber q ∙ refl)))) (λ q. other (plain-is ∙ ap byNumber q))
+    byTest (eqb (numberOf t v) 0) (λ q. absurd (n (ap (λ (r : Resolution). r .refusal) (plain-is ∙ ap byNumber q ∙ refl))))
+    (λ q. other (plain-is ∙ ap byNumber q))
   where
     byNumber : Bool → Resolution
     byNumber b = cond b (answered t (urisOf v) (directSignal t (urisOf v))) (notResolved (numberOf t v))

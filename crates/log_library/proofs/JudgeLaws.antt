@@ -40,7 +40,8 @@ module _ (t log : List ℕ) (n at k : ℕ) {v : Verdict} (inv : v ≡ judged t k
   turn-end z = sym (inv ∙ ap (λ (m : ℕ). judged t k (callsFrom log at m)) z)
 
   -- one call, with its length, value and answer
-  module _ (m : ℕ) (o : n ≡ suc m) {w : ℕ} (e : w ≡ wordAt log at) {val : List ℕ} (f : val ≡ take w (drop (at + 2) log)) {r : Resolution} (g : r ≡ plainOf t val) {q : Bool}
+  module _ (m : ℕ) (o : n ≡ suc m) {w : ℕ} (e : w ≡ wordAt log at) {val : List ℕ} (f : val ≡ take w (drop (at + 2) log)) {r : Resolution}
+      (g : r ≡ plainOf t val) {q : Bool}
       (h : q ≡ sameAnswer r (getD log (at + 2 + w) 0) (getD log (at + 2 + w + 1) 0) (getD log (at + 2 + w + 2) 0)) where
     right-answer : r ≡ plainOf t (callAt log at .value)
     right-answer = g ∙ ap (plainOf t) (f ∙ ap (λ (y : ℕ). take y (drop (at + 2) log)) e)

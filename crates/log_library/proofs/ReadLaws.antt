@@ -7,6 +7,7 @@ use native.Mathlib.Omega.{arith}
 use lib.ListN.{length}
 use lib.Dec.{eqb}
 use borrow.Author.Tests.{ne-eqb, le-leb, lt-leb}
+use Rattle.base_numbers.specs.Numbers.{mostLogBytes}
 use Rattle.log_library.specs.Log.{wordAt, afterCall, endFrom, endOf, isLog}
 
 -- a byte past the end counts as 0
@@ -16,14 +17,14 @@ unfolding endFrom
 ends-after log zero at = omega arith
 ends-after log (suc n) at = omega (arith, ends-after log n (afterCall log at))
 
-pub log-long : (log : List ℕ) → 32768 < length log → false ≡ isLog log
+pub log-long : (log : List ℕ) → mostLogBytes < length log → false ≡ isLog log
 unfolding isLog
-log-long log h = ap (λ (b : Bool). b && eqb (endOf log) (length log)) (sym (lt-leb (length log) 32768 h))
+log-long log h = ap (λ (b : Bool). b && eqb (endOf log) (length log)) (sym (lt-leb (length log) mostLogBytes h))
 
-pub log-start : (log : List ℕ) {w : ℕ} → length log ≤ 32768 → w ≡ wordAt log 0 → isLog log ≡ eqb (endFrom log 2 w) (length log)
+pub log-start : (log : List ℕ) {w : ℕ} → length log ≤ mostLogBytes → w ≡ wordAt log 0 → isLog log ≡ eqb (endFrom log 2 w) (length log)
 unfolding isLog
 log-start log h e =
-    ap (λ (b : Bool). b && eqb (endOf log) (length log)) (le-leb (length log) 32768 h)
+    ap (λ (b : Bool). b && eqb (endOf log) (length log)) (le-leb (length log) mostLogBytes h)
     ∙ ap (λ (n : ℕ). eqb (endFrom log 2 n) (length log)) (sym e)
 
 -- one call further

@@ -6,9 +6,11 @@ use mathlib.Core.List.{List, [], _∷_, _++_, append-assoc}
 use native.Mathlib.Omega.{arith}
 use native.Mathlib.Numerals.{add-one}
 use lib.ListN.{length, getD, take, drop, length-append, length-take, length-drop, take-append-drop, drop-of-length-le}
-use lib.Seq.{drop-cons, drop-drop, getD-drop, drop-append-seam, take-append-seam}
+use lib.Seq.{drop-cons, drop-drop, getD-drop, take-append-seam}
 use lib.Dec.{eqb, leb}
 use borrow.Author.Tests.{eq-eqb, le-leb, eqb-true}
+use Rattle.base_numbers.specs.Numbers.{mostLogBytes}
+use Rattle.base_lists.proofs.Cuts.{drop-next}
 use Rattle.log_library.specs.Log.{wordAt, Call, callWith, callAt, afterCall, callsFrom, endFrom, callsOf, endOf, isLog}
 use Rattle.log_library.specs.Written.{word, callBytes, allBytes, logBytes}
 use Rattle.log_library.specs.Claims.{WrittenRead, ReadWritten}
@@ -21,9 +23,6 @@ module _ (log : List ℕ) (at : ℕ) where
 
   first-of : {l : List ℕ} → drop at log ≡ l → getD log at 0 ≡ getD l 0 0
   first-of e = let z : at ≡ at + 0 = omega arith in ap (λ (k : ℕ). getD log k 0) z ∙ byte-of 0 e
-
-  rest-of : (p r : List ℕ) → drop at log ≡ p ++ r → drop (at + length p) log ≡ r
-  rest-of p r e = sym (drop-drop (length p) at log) ∙ ap (drop (length p)) e ∙ drop-append-seam p r
 
   inside : (p r : List ℕ) → at ≤ length log → drop at log ≡ p ++ r → at + length p ≤ length log
   inside p r h e = omega (arith, length-drop at log, ap length e, length-append p r, h)
@@ -40,10 +39,10 @@ module _ (log : List ℕ) (at : ℕ) (c : Call) (r : List ℕ) (e : drop at log 
   length-is = word-of log at (length (c .value)) ((c .value ++ three) ++ r) e
 
   from-value : drop (at + 2) log ≡ c .value ++ (three ++ r)
-  from-value = rest-of log at (word (length (c .value))) ((c .value ++ three) ++ r) e ∙ append-assoc (c .value) three r
+  from-value = drop-next log at (word (length (c .value))) ((c .value ++ three) ++ r) e ∙ append-assoc (c .value) three r
 
   from-answer : drop (at + 2 + length (c .value)) log ≡ three ++ r
-  from-answer = rest-of log (at + 2) (c .value) (three ++ r) from-value
+  from-answer = drop-next log (at + 2) (c .value) (three ++ r) from-value
 
   call-is : callWith log at (length (c .value)) ≡ c
   call-is = λ i.
@@ -58,7 +57,7 @@ module _ (log : List ℕ) (at : ℕ) (c : Call) (r : List ℕ) (e : drop at log 
   call-there = ap (callWith log at) length-is ∙ call-is
 
   after-there : drop (afterCall log at) log ≡ r
-  after-there = ap (λ (n : ℕ). drop (at + 2 + n + 3) log) length-is ∙ rest-of log (at + 2 + length (c .value)) three r from-answer
+  after-there = ap (λ (n : ℕ). drop (at + 2 + n + 3) log) length-is ∙ drop-next log (at + 2 + length (c .value)) three r from-answer
 
   after-inside : at ≤ length log → afterCall log at ≤ length log
   after-inside h =
@@ -84,8 +83,11 @@ unfolding isLog
 written-read cs h =
     let log = logBytes cs in
     let few : wordAt log 0 ≡ length cs = word-of log 0 (length cs) (allBytes cs) refl in
-    let there = calls-there log cs 2 (omega arith) refl in
-    (ap₂ (λ (a : Bool) (b : Bool). a && b) (le-leb (length log) 32768 h) (eq-eqb (endOf log) (length log) (ap (endFrom log 2) few ∙ there .1)), ap (callsFrom log 2) few ∙ there .0)
+    let there = calls-there log cs 2 (omega arith) refl in (
+      ap₂ (λ (a : Bool) (b : Bool). a && b) (le-leb (length log) mostLogBytes h)
+          (eq-eqb (endOf log) (length log) (ap (endFrom log 2) few ∙ there .1)),
+      ap (callsFrom log 2) few ∙ there .0,
+    )
 
 -- the bytes at a position, one by one
 module _ (log : List ℕ) where
@@ -139,7 +141,8 @@ calls-many log (suc n) at = ap suc (calls-many log n (afterCall log at))
 pub read-written : ReadWritten
 unfolding isLog
 read-written log bytes h =
-    let ends : endOf log ≡ length log = eqb-true _ _ (and-eq-true-iff (leb (length log) 32768) (eqb (endOf log) (length log)) .0 h .1) in
+    let ends : endOf log ≡ length log = eqb-true _ _ (and-eq-true-iff (leb (length log) mostLogBytes) (eqb (endOf log) (length log)) .0 h .1) in
     let two : 2 ≤ length log = omega (arith, ends-after log (wordAt log 0) 2, ends) in
-    ap₂ (λ (p : List ℕ) (q : List ℕ). p ++ q) (word-back log bytes 0 (length (callsOf log)) (calls-many log (wordAt log 0) 2)) (calls-back log bytes (wordAt log 0) 2 two ends)
+    ap₂ (λ (p : List ℕ) (q : List ℕ). p ++ q) (word-back log bytes 0 (length (callsOf log)) (calls-many log (wordAt log 0) 2))
+    (calls-back log bytes (wordAt log 0) 2 two ends)
     ∙ sym (front-two log 0 two)

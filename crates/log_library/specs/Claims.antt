@@ -5,6 +5,7 @@ use mathlib.Core.Logic.{_⊎_, _↔_}
 use mathlib.Core.Bool.{true}
 use mathlib.Core.List.{List, [], List·Memᴰ}
 use lib.ListN.{length, getD}
+use Rattle.base_numbers.specs.Numbers.{mostLogBytes}
 use Rattle.table_decode.specs.Tables.{tableRefusal}
 use Rattle.resolve_library.specs.Resolve.{plainOf}
 use Rattle.log_library.specs.Log.{Call, callsOf, endOf, isLog}
@@ -19,7 +20,7 @@ pub record Right (t : List ℕ) (c : Call) : Type 0 where
 
 -- no log: it is too long, or its calls end past its end, or before
 abbrev pub NoLog : List ℕ → Type 0
-NoLog log = (32768 < length log) ⊎ ((length log < endOf log) ⊎ (endOf log < length log))
+NoLog log = (mostLogBytes < length log) ⊎ ((length log < endOf log) ⊎ (endOf log < length log))
 
 -- every call is right
 abbrev pub AllRight : List ℕ → List ℕ → Type 0
@@ -70,7 +71,7 @@ RefusedClaim = (t : List ℕ) (c : Call) → RefusedCall t c
 
 -- the bytes of any calls, if they are not too many, are a log, and its calls are these
 abbrev pub WrittenRead : Type 0
-WrittenRead = (cs : List Call) → length (logBytes cs) ≤ 32768 → (isLog (logBytes cs) ≡ true) × (callsOf (logBytes cs) ≡ cs)
+WrittenRead = (cs : List Call) → length (logBytes cs) ≤ mostLogBytes → (isLog (logBytes cs) ≡ true) × (callsOf (logBytes cs) ≡ cs)
 
 -- and a log of bytes is the bytes of its calls: there is no other form
 abbrev pub ReadWritten : Type 0

@@ -5,6 +5,7 @@ use mathlib.Core.Bool.{Bool, _&&_}
 use mathlib.Core.List.{List, [], _∷_}
 use lib.Dec.{eqb, leb}
 use lib.ListN.{length, getD, take, drop}
+use Rattle.base_numbers.specs.Numbers.{mostLogBytes}
 
 -- the number that two bytes say, low first; past the end a byte counts as 0
 abbrev pub wordAt : List ℕ → ℕ → ℕ
@@ -52,4 +53,4 @@ endOf log = endFrom log 2 (wordAt log 0)
 
 -- a log has at most 32,768 bytes, and ends with its last call
 unfoldable pub isLog : List ℕ → Bool
-isLog log = leb (length log) 32768 && eqb (endOf log) (length log)
+isLog log = leb (length log) mostLogBytes && eqb (endOf log) (length log)

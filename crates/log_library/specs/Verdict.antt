@@ -3,6 +3,7 @@ use Prim.Native.Nat.{ℕ, suc}
 use mathlib.Core.Bool.{Bool, cond, _&&_}
 use mathlib.Core.List.{List, [], _∷_}
 use lib.Dec.{eqb}
+use Rattle.base_numbers.specs.Numbers.{badLog}
 use Rattle.table_decode.specs.Tables.{tableRefusal}
 use Rattle.resolve_run.specs.declared.Resolution.{Resolution}
 use Rattle.resolve_library.specs.Resolve.{plainOf}
@@ -37,4 +38,4 @@ judged t k (c ∷ cs) = cond (agrees t c) (judged t (suc k) cs) (differs k (plai
 -- the verdict: 4 to 12 by the table, 25 by the whole log, then the calls
 unfoldable pub verdictOf : List ℕ → List ℕ → Verdict
 verdictOf t log =
-    cond (eqb (tableRefusal t) 0) (cond (isLog log) (judged t 0 (callsOf log)) (refused 25)) (refused (tableRefusal t))
+    cond (eqb (tableRefusal t) 0) (cond (isLog log) (judged t 0 (callsOf log)) (refused badLog)) (refused (tableRefusal t))

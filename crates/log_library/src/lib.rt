@@ -6,7 +6,9 @@
 //   c.rt  the same for C
 mod c;
 
-use base_text::cut::byte;
+use base_bytes::lent::byte;
+use base_numbers::BAD_LOG;
+use base_numbers::MOST_LOG_BYTES;
 use base_text::cut::part;
 use resolve_run::Resolution;
 use table_decode::Decoded;
@@ -71,7 +73,7 @@ fn is_log(log: &[u8]) -> bool
     ensures { λ r. ⌜ r ≡ isLog (now (log .entry)) ⌝ }
 {
     let n = log.len();
-    if 32768 < n {
+    if MOST_LOG_BYTES < n {
         return false;
     }
     let mut left = word(log, 0);
@@ -135,5 +137,5 @@ pub fn check(t: &[u8], log: &[u8]) -> Verdict
     if is_log(log) {
         return judge(t, d, log);
     }
-    without_call(25, 0)
+    without_call(BAD_LOG, 0)
 }

@@ -9,9 +9,11 @@ use native.Mathlib.Omega.{arith}
 use native.Mathlib.Decide.{ℕ-discrete}
 use native.Mathlib.Numerals.{add-one}
 use native.Mathlib.Nat.{suc-mul, zero-mul}
-use Rattle.theory_resolution.specs.Lists.{memberBy, indexBy}
+use Rattle.base_numbers.specs.Numbers.{mostStates, mostSymbols}
+use Rattle.base_lists.proofs.Tabulated.{tabulate-length, tabulate-same}
+use Rattle.base_lists.proofs.Lists.{Extends, at-extends}
+use Rattle.base_lists.specs.Lists.{memberBy, indexBy}
 use Rattle.theory_resolution.specs.Discovery.{expand, discover, targets}
-use Rattle.theory_resolution.proofs.Lists.{Extends, at-extends, tabulate-length, tabulate-same}
 use Rattle.theory_resolution.proofs.Discovery.{discover-next, discover-extends, discover-closed, discover-done}
 use Rattle.node_step.specs.Step.{digit}
 use Rattle.node_step.specs.StatusByte.{samePacked}
@@ -83,7 +85,12 @@ module _ (next : Packed → ℕ → Packed) (cats count : ℕ) where
   bytes-length : (l : List Packed) (p : Packed) → length (bytesOf next cats count l p) ≡ width
   unfolding bytesOf
   bytes-length l p =
-      omega (arith, length-append (pairBytes cats p) (targets′ l p), tabulate-length (digit (p .statuses)) cats, tabulate-length (λ k. indexBy samePacked (next p k) l) count)
+      omega (
+        arith,
+        length-append (pairBytes cats p) (targets′ l p),
+        tabulate-length (digit (p .statuses)) cats,
+        tabulate-length (λ k. indexBy samePacked (next p k) l) count,
+      )
     where
       targets′ : List Packed → Packed → List ℕ
       targets′ l p = targets samePacked next count l p
@@ -105,7 +112,8 @@ module _ (next : Packed → ℕ → Packed) (cats count : ℕ) where
       (tabulate-same (λ x. indexBy samePacked (next (getD l j begin) x) k) (λ x. indexBy samePacked (next (getD l j begin) x) l) count
       (λ x i. index-extends (next (getD l j begin) x) e (c x i)))
 
-  states-stay : (i n : ℕ) → i ≤ n → n ≤ length (found next count n) → statesBytes next cats count (found next count (suc n)) i ≡ statesBytes next cats count (found next count n) i
+  states-stay : (i n : ℕ) → i ≤ n → n ≤ length (found next count n) → statesBytes next cats count (found next count (suc n)) i
+      ≡ statesBytes next cats count (found next count n) i
   unfolding statesBytes
   states-stay zero n h k = refl
   states-stay (suc i) n h k =
@@ -114,72 +122,97 @@ module _ (next : Packed → ℕ → Packed) (cats count : ℕ) where
       (λ x j. discover-closed samePacked packed-exact next count begin n i x (omega arith) (omega arith) j))
 
   -- what the loop keeps: i turns are done, and n states are found
-  pub record Discovering (part₀ part signal statuses hints numbers : List ℕ) (n i a : ℕ) : Type 0 where
+  pub record Discovering (part₀ part signal statuses slots numbers : List ℕ) (n i a : ℕ) : Type 0 where
     pub turns : i ≤ n
     pub stretch : (a ≡ i * (count + cats + 1)) × (a ≤ 137 * i)
-    pub wide : length numbers ≡ 128
+    pub wide : length numbers ≡ mostSymbols
     pub same-length : length part ≡ length part₀
-    pub kept : Kept signal statuses hints n (found next count i)
+    pub kept : Kept signal statuses slots n (found next count i)
     pub written : i * (count + cats + 1) ≤ length part₀ → take (i * (count + cats + 1)) part ≡ statesBytes next cats count (found next count i) i
 
-  pub start-kept : (signal statuses hints : List ℕ) → length signal ≡ 256 → length statuses ≡ 256 → length hints ≡ 4096 → stateAt signal statuses 0 ≡ begin → Kept signal statuses hints 1 (found next count 0)
+  pub start-kept : (signal statuses slots : List ℕ) → length signal ≡ mostStates → length statuses ≡ mostStates → length slots ≡ 4096
+      → stateAt signal statuses 0 ≡ begin → Kept signal statuses slots 1 (found next count 0)
   unfolding discover
-  start-kept signal statuses hints w x y e = record { wide = (w, x, y); all-kept = refl; few = omega arith; held = zero-at; distinct = (refl, tt); hinted = λ i g h. absurd (omega arith) }
+  start-kept signal statuses slots w x y e = record {
+    wide = (w, x, y);
+    all-kept = refl;
+    few = omega arith;
+    held = zero-at;
+    distinct = (refl, tt);
+    slotted = λ i g h. absurd (omega arith);
+  }
     where
       zero-at : (i : ℕ) → i < 1 → stateAt signal statuses i ≡ getD (begin ∷ []) i begin
       zero-at zero h = e
       zero-at (suc i) h = absurd (omega arith)
 
-  pub discovering-start : (part signal statuses hints numbers : List ℕ) → length numbers ≡ 128 → Kept signal statuses hints 1 (found next count 0) → Discovering part part signal statuses hints numbers 1 0 0
+  pub discovering-start : (part signal statuses slots numbers : List ℕ) → length numbers ≡ mostSymbols
+      → Kept signal statuses slots 1 (found next count 0) → Discovering part part signal statuses slots numbers 1 0 0
   unfolding statesBytes
-  discovering-start part signal statuses hints numbers w k =
-      record { turns = omega arith; stretch = (omega arith, omega arith); wide = w; same-length = refl; kept = k; written = λ h. ap (λ z. take z part) (zero-mul width) }
+  discovering-start part signal statuses slots numbers w k =
+      record {
+        turns = omega arith;
+        stretch = (omega arith, omega arith);
+        wide = w;
+        same-length = refl;
+        kept = k;
+        written = λ h. ap (λ z. take z part) (zero-mul width);
+      }
 
   found-longer : (i n : ℕ) → i ≤ n → length (found next count i) ≤ length (found next count n)
   found-longer i zero h = let e : i ≡ 0 = omega arith in rw e (omega arith)
   found-longer i (suc n) h = go (ℕ-discrete i (suc n)) (λ j. found-longer i n j)
     where
-      go : Dec (i ≡ suc n) → (i ≤ n → length (found next count i) ≤ length (found next count n)) → length (found next count i) ≤ length (found next count (suc n))
+      go : Dec (i ≡ suc n) → (i ≤ n → length (found next count i) ≤ length (found next count n))
+          → length (found next count i) ≤ length (found next count (suc n))
       go (yes e) ih = rw e (omega arith)
       go (no e) ih = omega (arith, ih (omega arith), extends-length (discover-extends samePacked packed-exact next count begin n))
 
-  module _ (part₀ part signal statuses hints numbers : List ℕ) (n i a : ℕ) (d : Discovering part₀ part signal statuses hints numbers n i a) where
+  module _ (part₀ part signal statuses slots numbers : List ℕ) (n i a : ℕ) (d : Discovering part₀ part signal statuses slots numbers n i a) where
     pub place-fits : i < n → a ≤ 65536
     place-fits h = omega (arith, d .stretch .1, d .kept .few)
 
-    module _ {r : ℕ} (h : i < n) (signal′ statuses′ hints′ numbers′ : List ℕ)
-        (t : Turned next count (found next count i) (stateAt signal statuses i) numbers′ signal′ statuses′ hints′ r) where
+    module _ {r : ℕ} (h : i < n) (signal′ statuses′ slots′ numbers′ : List ℕ)
+        (t : Turned next count (found next count i) (stateAt signal statuses i) numbers′ signal′ statuses′ slots′ r) where
       -- the list after the turn
       next-found : expand samePacked next (stateAt signal statuses i) count (found next count i) ≡ found next count (suc i)
       next-found =
           ap (λ z. expand samePacked next z count (found next count i)) (d .kept .held i h)
           ∙ sym (discover-next samePacked packed-exact next count begin i (omega (arith, d .kept .all-kept)))
 
-      pub discovering-over : 256 < r → Discovered next cats count part₀ part 257
+      pub discovering-over : mostStates < r → Discovered next cats count part₀ part (suc mostStates)
       discovering-over o =
           record {
             same-length = d .same-length;
             few = λ z. absurd (omega arith);
-            over = λ z. omega (arith, t .over o, ap length next-found, found-longer (suc i) 256 (omega (arith, d .kept .few)));
+            over = λ z. omega (arith, t .over o, ap length next-found, found-longer (suc i) mostStates (omega (arith, d .kept .few)));
             rows = λ z. absurd (omega arith);
           }
 
-      pub discovering-more : r ≤ 256 → count ≤ 128 → cats ≤ 8 → length numbers′ ≡ 128 → (part′ : List ℕ) → Placed cats count (stateAt signal statuses i) numbers′ a part part′
-          → Discovering part₀ part′ signal′ statuses′ hints′ numbers′ r (i + 1) (a + cats + 1 + count)
+      pub discovering-more : r ≤ mostStates → count ≤ mostSymbols → cats ≤ 8 → length numbers′ ≡ mostSymbols → (part′ : List ℕ)
+          → Placed cats count (stateAt signal statuses i) numbers′ a part part′
+          → Discovering part₀ part′ signal′ statuses′ slots′ numbers′ r (i + 1) (a + cats + 1 + count)
       unfolding statesBytes bytesOf
       discovering-more f few eight w part′ pl =
           let k = t .kept f in
           rw add-one
           (record {
-            turns = omega (arith, k .all-kept, d .kept .all-kept, ap length next-found, extends-length (discover-extends samePacked packed-exact next count begin i));
+            turns = omega (
+              arith,
+              k .all-kept,
+              d .kept .all-kept,
+              ap length next-found,
+              extends-length (discover-extends samePacked packed-exact next count begin i),
+            );
             stretch = (omega (arith, d .stretch .0, suc-mul i width), omega (arith, d .stretch .1));
             wide = w;
             same-length = pl .same-length ∙ d .same-length;
-            kept = subst (λ (z : List Packed). Kept signal′ statuses′ hints′ r z) next-found k;
+            kept = subst (λ (z : List Packed). Kept signal′ statuses′ slots′ r z) next-found k;
             written = written;
           })
         where
-          written : suc i * (count + cats + 1) ≤ length part₀ → take (suc i * (count + cats + 1)) part′ ≡ statesBytes next cats count (found next count (suc i)) (suc i)
+          written : suc i * (count + cats + 1) ≤ length part₀ → take (suc i * (count + cats + 1)) part′
+              ≡ statesBytes next cats count (found next count (suc i)) (suc i)
           written g =
               let s : suc i * (count + cats + 1) ≡ a + cats + 1 + count = omega (arith, d .stretch .0, suc-mul i width) in
               let b : i * (count + cats + 1) ≤ length part₀ = omega (arith, suc-mul i width) in
@@ -194,13 +227,14 @@ module _ (next : Packed → ℕ → Packed) (cats count : ℕ) where
     pub discovering-end : n ≤ i → Discovered next cats count part₀ part n
     discovering-end h =
         let e : n ≡ i = omega (arith, d .turns) in
-        let f : found next count 256 ≡ found next count i = ap (found next count) (the (256 ≡ i + (256 - i)) (omega (arith, d .kept .few))) ∙ discover-done samePacked packed-exact next count begin i (256 - i) (omega (arith, d .kept .all-kept)) in
+        let f : found next count mostStates ≡ found next count i = ap (found next count) (the (mostStates ≡ i + (mostStates - i)) (omega (arith, d .kept .few)))
+        ∙ discover-done samePacked packed-exact next count begin i (mostStates - i) (omega (arith, d .kept .all-kept)) in
         record {
           same-length = d .same-length;
           few = λ z. sym (ap length f ∙ d .kept .all-kept);
           over = λ z. absurd (omega (arith, d .kept .few));
           rows = λ z g.
-              subst (λ (x : ℕ). take (x * (count + cats + 1)) part ≡ statesBytes next cats count (found next count 256) x) (sym e)
+              subst (λ (x : ℕ). take (x * (count + cats + 1)) part ≡ statesBytes next cats count (found next count mostStates) x) (sym e)
               (d .written (subst (λ (x : ℕ). x * (count + cats + 1) ≤ length part₀) e g) ∙ ap (λ z. statesBytes next cats count z i) (sym f));
         }
       where

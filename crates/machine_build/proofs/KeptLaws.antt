@@ -9,19 +9,21 @@ use lib.ListN.{length, getD, set, length-append, length-set}
 use lib.Seq.{getD-set-same, getD-set-other}
 use native.Mathlib.Omega.{arith}
 use native.Mathlib.Decide.{ℕ-discrete, decLt}
-use Rattle.theory_resolution.specs.Lists.{memberBy, addBy, indexBy, Distinct}
-use Rattle.theory_resolution.proofs.Lists.{Extends, at-extends, index-member, index-at, distinct-add}
+use Rattle.base_numbers.specs.Numbers.{mostStates}
+use Rattle.base_lists.proofs.Lists.{Extends, at-extends, index-member, index-at, distinct-add}
+use Rattle.base_lists.specs.Lists.{memberBy, addBy, indexBy, Distinct}
 use Rattle.node_step.specs.StatusByte.{samePacked}
 use Rattle.node_step.specs.declared.stored.Packed.{Packed}
 use Rattle.node_step.proofs.PackedStep.{packed-exact}
 use Rattle.machine_symbols.specs.Steps.{begin, stateAt}
-use Rattle.machine_build.specs.States.{hintAt, Kept, longer}
+use Rattle.machine_build.specs.States.{Kept, longer, slotOf}
 
 pub index-none : (x : Packed) (l : List Packed) → memberBy samePacked x l ≡ false → indexBy samePacked x l ≡ length l
 index-none x [] h = refl
 index-none x (y ∷ l) h = go (samePacked x y) refl (index-none x l)
   where
-    go : (b : Bool) → samePacked x y ≡ b → (memberBy samePacked x l ≡ false → indexBy samePacked x l ≡ length l) → cond (samePacked x y) zero (suc (indexBy samePacked x l)) ≡ suc (length l)
+    go : (b : Bool) → samePacked x y ≡ b → (memberBy samePacked x l ≡ false → indexBy samePacked x l ≡ length l)
+        → cond (samePacked x y) zero (suc (indexBy samePacked x l)) ≡ suc (length l)
     go true e ih = absurd (true≢false (rw e at h))
     go false e ih = rw e (ap suc (ih (rw e at h)))
 
@@ -42,7 +44,8 @@ index-new : (x : Packed) (l : List Packed) → memberBy samePacked x l ≡ false
 index-new x [] h = rw (packed-exact .self x)
 index-new x (y ∷ l) h = go (samePacked x y) refl (index-new x l)
   where
-    go : (b : Bool) → samePacked x y ≡ b → (memberBy samePacked x l ≡ false → indexBy samePacked x (l ++ x ∷ []) ≡ length l) → cond (samePacked x y) zero (suc (indexBy samePacked x (l ++ x ∷ []))) ≡ suc (length l)
+    go : (b : Bool) → samePacked x y ≡ b → (memberBy samePacked x l ≡ false → indexBy samePacked x (l ++ x ∷ []) ≡ length l)
+        → cond (samePacked x y) zero (suc (indexBy samePacked x (l ++ x ∷ []))) ≡ suc (length l)
     go true e ih = absurd (true≢false (rw e at h))
     go false e ih = rw e (ap suc (ih (rw e at h)))
 
@@ -55,7 +58,8 @@ index-add x l = go (memberBy samePacked x l) refl
     go false e = index-new x l e ∙ sym (index-none x l e)
 
 -- a list is longer by one where its length is the number of the state added
-pub add-longer : (x : Packed) (l : List Packed) → length l ≤ indexBy samePacked x l → (memberBy samePacked x l ≡ false) × (length (addBy samePacked l x) ≡ length l + 1)
+pub add-longer : (x : Packed) (l : List Packed) → length l ≤ indexBy samePacked x l → (memberBy samePacked x l ≡ false)
+    × (length (addBy samePacked l x) ≡ length l + 1)
 add-longer x l h = go (memberBy samePacked x l) refl
   where
     go : (b : Bool) → memberBy samePacked x l ≡ b → (b ≡ false) × (length (cond b l (l ++ x ∷ [])) ≡ length l + 1)
@@ -66,7 +70,7 @@ last-at : (l : List Packed) (x : Packed) → getD (l ++ x ∷ []) (length l) beg
 last-at [] x = refl
 last-at (y ∷ l) x = last-at l x
 
-module _ (signal statuses hints : List ℕ) (n : ℕ) (l : List Packed) (k : Kept signal statuses hints n l) (p : Packed) where
+module _ (signal statuses slots : List ℕ) (n : ℕ) (l : List Packed) (k : Kept signal statuses slots n l) (p : Packed) where
   -- the state at j is that one: j is its number
   pub found-at : (j : ℕ) → j < n → samePacked (stateAt signal statuses j) p ≡ true → j ≡ indexBy samePacked p l
   found-at j h e =
@@ -89,12 +93,13 @@ module _ (signal statuses hints : List ℕ) (n : ℕ) (l : List Packed) (k : Kep
       go true e =
           let w = index-member samePacked packed-exact begin p l e in
           let i : indexBy samePacked p l < n = omega (arith, w .0, k .all-kept) in
-          absurd (true≢false (sym (packed-exact .self p) ∙ ap (λ z. samePacked z p) (sym (k .held (indexBy samePacked p l) i ∙ w .1)) ∙ h (indexBy samePacked p l) i))
+          absurd (true≢false (sym (packed-exact .self p) ∙ ap (λ z. samePacked z p) (sym (k .held (indexBy samePacked p l) i ∙ w .1))
+          ∙ h (indexBy samePacked p l) i))
 
-  -- its hint says the first state, which it is not: none is
-  pub none-hinted : {a j : ℕ} {b : Bool} → a ≡ hintAt p → j ≡ getD hints a 0 → b ≡ (ltb j n && samePacked (stateAt signal statuses j) p) → b ≡ false → j ≡ 0
+  -- its slot has the first state, which it is not: none is
+  pub none-hashed : {a j : ℕ} {b : Bool} → a ≡ slotOf p → j ≡ getD slots a 0 → b ≡ (ltb j n && samePacked (stateAt signal statuses j) p) → b ≡ false → j ≡ 0
       → n ≡ indexBy samePacked p l
-  none-hinted {a} {j} b d f u e = none-at (λ i h. go i h (samePacked (stateAt signal statuses i) p) refl)
+  none-hashed {a} {j} b d f u e = none-at (λ i h. go i h (samePacked (stateAt signal statuses i) p) refl)
     where
       go : (i : ℕ) → i < n → (b : Bool) → samePacked (stateAt signal statuses i) p ≡ b → b ≡ false
       go i h false g = refl
@@ -103,15 +108,15 @@ module _ (signal statuses hints : List ℕ) (n : ℕ) (l : List Packed) (k : Kep
           ∙ ap (λ z. ltb z n && samePacked (stateAt signal statuses z) p) (sym e) ∙ sym f ∙ u
       go (suc i) h true g =
           let q : getD l (suc i) begin ≡ p = sym (k .held (suc i) h) ∙ packed-exact .to (stateAt signal statuses (suc i)) p g in
-          let z : getD hints (hintAt (getD l (suc i) begin)) 0 ≡ 0 = ap (λ y. getD hints (hintAt y) 0) q ∙ ap (λ y. getD hints y 0) (sym b) ∙ sym d ∙ e in
-          absurd (omega (arith, k .hinted (suc i) (omega arith) h, z))
+          let z : getD slots (slotOf (getD l (suc i) begin)) 0 ≡ 0 = ap (λ y. getD slots (slotOf y) 0) q ∙ ap (λ y. getD slots y 0) (sym b) ∙ sym d ∙ e in
+          absurd (omega (arith, k .slotted (suc i) (omega arith) h, z))
 
   module _ {j : ℕ} (e : j ≡ indexBy samePacked p l) where
     -- one that is kept
-    pub keep-old : j < n → (j ≡ indexBy samePacked p l) × (j < 256 → Kept signal statuses hints (longer n j) (addBy samePacked l p))
+    pub keep-old : j < n → (j ≡ indexBy samePacked p l) × (j < 256 → Kept signal statuses slots (longer n j) (addBy samePacked l p))
     keep-old h = (e, λ f. go (memberBy samePacked p l) refl)
       where
-        go : (b : Bool) → memberBy samePacked p l ≡ b → Kept signal statuses hints (longer n j) (cond b l (l ++ p ∷ []))
+        go : (b : Bool) → memberBy samePacked p l ≡ b → Kept signal statuses slots (longer n j) (cond b l (l ++ p ∷ []))
         go true i = rw (ne-eqb j n (λ z. omega arith)) k
         go false i = absurd (omega (arith, e, index-none p l i, k .all-kept))
 
@@ -126,12 +131,13 @@ module _ (signal statuses hints : List ℕ) (n : ℕ) (l : List Packed) (k : Kep
     is-last h = sym (index-none p l (new h) ∙ k .all-kept)
 
     -- a new one, with no room
-    pub keep-full : n ≤ j → 256 ≤ n → (n ≡ indexBy samePacked p l) × (n < 256 → Kept signal statuses hints (longer n n) (addBy samePacked l p))
+    pub keep-full : n ≤ j → mostStates ≤ n → (n ≡ indexBy samePacked p l) × (n < mostStates → Kept signal statuses slots (longer n n) (addBy samePacked l p))
     keep-full h f = (is-last h, λ i. absurd (omega arith))
 
     -- a new one, with room
-    pub keep-new : {a : ℕ} → a ≡ hintAt p → a < 4096 → n ≤ j → n < 256
-        → (n ≡ indexBy samePacked p l) × (n < 256 → Kept (set signal n (p .signal)) (set statuses n (p .statuses)) (set hints a n) (longer n n) (addBy samePacked l p))
+    pub keep-new : {a : ℕ} → a ≡ slotOf p → a < 4096 → n ≤ j → n < mostStates
+        → (n ≡ indexBy samePacked p l)
+        × (n < mostStates → Kept (set signal n (p .signal)) (set statuses n (p .statuses)) (set slots a n) (longer n n) (addBy samePacked l p))
     keep-new {a} b d h f = (is-last h, λ i. rw (eq-eqb n n refl, new h) added)
       where
         first : (i : ℕ) → i < n → getD (l ++ p ∷ []) i begin ≡ getD l i begin
@@ -153,54 +159,56 @@ module _ (signal statuses hints : List ℕ) (n : ℕ) (l : List Packed) (k : Kep
                 ∙ k .held i (omega arith) ∙ sym (first i (omega arith))
 
         -- a slot says what it said, or n
-        says : (x : Packed) (i : ℕ) → 0 < i → i < n + 1 → (i < n → 0 < getD hints (hintAt x) 0) → (i ≡ n → x ≡ p) → 0 < getD (set hints a n) (hintAt x) 0
-        says x i g m u v = by (ℕ-discrete (hintAt x) a)
+        says : (x : Packed) (i : ℕ) → 0 < i → i < n + 1 → (i < n → 0 < getD slots (slotOf x) 0) → (i ≡ n → x ≡ p) → 0 < getD (set slots a n) (slotOf x) 0
+        says x i g m u v = by (ℕ-discrete (slotOf x) a)
           where
-            by : Dec (hintAt x ≡ a) → 0 < getD (set hints a n) (hintAt x) 0
-            by (yes z) = rw (z, getD-set-same hints a n 0 (omega (arith, k .wide .2))) (omega arith)
+            by : Dec (slotOf x ≡ a) → 0 < getD (set slots a n) (slotOf x) 0
+            by (yes z) = rw (z, getD-set-same slots a n 0 (omega (arith, k .wide .2))) (omega arith)
             by (no z) =
-                rw (getD-set-other hints a (hintAt x) n 0 z)
+                rw (getD-set-other slots a (slotOf x) n 0 z)
                 (u (less (ℕ-discrete i n)))
               where
                 less : Dec (i ≡ n) → i < n
-                less (yes w) = absurd (z (ap hintAt (v w) ∙ sym b))
+                less (yes w) = absurd (z (ap slotOf (v w) ∙ sym b))
                 less (no w) = omega arith
 
-        hinted : (i : ℕ) → 0 < i → i < n + 1 → 0 < getD (set hints a n) (hintAt (getD (l ++ p ∷ []) i begin)) 0
-        hinted i g m =
-            says (getD (l ++ p ∷ []) i begin) i g m (λ q. rw (first i q) (k .hinted i g q)) (λ q. ap (λ z. getD (l ++ p ∷ []) z begin) q ∙ last)
+        slotted : (i : ℕ) → 0 < i → i < n + 1 → 0 < getD (set slots a n) (slotOf (getD (l ++ p ∷ []) i begin)) 0
+        slotted i g m =
+            says (getD (l ++ p ∷ []) i begin) i g m (λ q. rw (first i q) (k .slotted i g q)) (λ q. ap (λ z. getD (l ++ p ∷ []) z begin) q ∙ last)
 
         apart : Distinct samePacked (l ++ p ∷ [])
         apart = rw (new h) at (distinct-add samePacked packed-exact l p (k .distinct))
 
-        added : Kept (set signal n (p .signal)) (set statuses n (p .statuses)) (set hints a n) (n + 1) (l ++ p ∷ [])
+        added : Kept (set signal n (p .signal)) (set statuses n (p .statuses)) (set slots a n) (n + 1) (l ++ p ∷ [])
         added =
             record {
-              wide = (length-set signal n (p .signal) ∙ k .wide .0, length-set statuses n (p .statuses) ∙ k .wide .1, length-set hints a n ∙ k .wide .2);
+              wide = (length-set signal n (p .signal) ∙ k .wide .0, length-set statuses n (p .statuses) ∙ k .wide .1, length-set slots a n ∙ k .wide .2);
               all-kept = length-append l (p ∷ []) ∙ ap (λ z. z + 1) (k .all-kept);
               few = omega arith;
               held = held;
               distinct = apart;
-              hinted = hinted;
+              slotted = slotted;
             }
 
 -- a search from the start: none of the first j is the one looked for
 abbrev pub Passed : List ℕ → List ℕ → Packed → ℕ → Type 0
 Passed signal statuses p j = (i : ℕ) → i < j → samePacked (stateAt signal statuses i) p ≡ false
 
-pub passed-more : (signal statuses : List ℕ) (p : Packed) (j : ℕ) {b : Bool} → Passed signal statuses p j → b ≡ samePacked (stateAt signal statuses j) p → b ≡ false → Passed signal statuses p (j + 1)
+pub passed-more : (signal statuses : List ℕ) (p : Packed) (j : ℕ) {b : Bool} → Passed signal statuses p j
+    → b ≡ samePacked (stateAt signal statuses j) p → b ≡ false → Passed signal statuses p (j + 1)
 passed-more signal statuses p j h e f i k = go (decLt i j)
   where
     go : Dec (i < j) → samePacked (stateAt signal statuses i) p ≡ false
     go (yes a) = h i a
     go (no a) = let z : i ≡ j = omega arith in rw z (sym e ∙ f)
 
-pub passed-all : (signal statuses : List ℕ) (p : Packed) (j n : ℕ) → j ≤ n → n ≤ j → Passed signal statuses p j → (hints : List ℕ) (l : List Packed) → Kept signal statuses hints n l → n ≡ indexBy samePacked p l
-passed-all signal statuses p j n a b h hints l k = none-at signal statuses hints n l k p (λ i c. h i (omega arith))
+pub passed-all : (signal statuses : List ℕ) (p : Packed) (j n : ℕ) → j ≤ n → n ≤ j → Passed signal statuses p j
+    → (slots : List ℕ) (l : List Packed) → Kept signal statuses slots n l → n ≡ indexBy samePacked p l
+passed-all signal statuses p j n a b h slots l k = none-at signal statuses slots n l k p (λ i c. h i (omega arith))
 
-pub longer-le : (n j : ℕ) {m : ℕ} → m ≡ longer n j → n ≤ 256 → j < 256 → m ≤ 256
+pub longer-le : (n j : ℕ) {m : ℕ} → m ≡ longer n j → n ≤ mostStates → j < 256 → m ≤ mostStates
 longer-le n j {m} e h k = go (eqb j n) refl
   where
-    go : (b : Bool) → eqb j n ≡ b → m ≤ 256
+    go : (b : Bool) → eqb j n ≡ b → m ≤ mostStates
     go true i = omega (arith, e ∙ ap (λ z. cond z (n + 1) n) i, eqb-true j n i)
     go false i = omega (arith, e ∙ ap (λ z. cond z (n + 1) n) i)

@@ -1,4 +1,3 @@
-pub mod Over
 pub mod KeptLaws
 pub mod TurnLaws
 pub mod DiscoverLaws

@@ -8,10 +8,11 @@ use lib.Seq.{length-take-le, drop-at, take-append-add}
 use native.Mathlib.Omega.{arith}
 use native.Mathlib.Nat.{sub-zero, mul-le-mul-right}
 use borrow.Rule.Slice.PartMut.{putMid}
+use Rattle.base_numbers.specs.Numbers.{mostStates, mostSymbols}
+use Rattle.base_bytes.specs.Built.{refused, accepted}
+use Rattle.base_lists.proofs.Tabulated.{tabulate-length}
+use Rattle.base_lists.specs.Lists.{tabulate}
 use Rattle.node_step.specs.declared.stored.Packed.{Packed}
-use Rattle.theory_resolution.specs.Lists.{tabulate}
-use Rattle.theory_resolution.proofs.Lists.{tabulate-length}
-use Rattle.machine_build.specs.Built.{refused, accepted}
 use Rattle.machine_build.specs.States.{symbolByte, headBytes, found, statesBytes, imageBy, sizeBy, builtBy, bufferBy, Discovered}
 
 -- a part lent up to the end
@@ -41,7 +42,8 @@ module _ (b y h z : List ℕ) (f head size : ℕ) (e : f ≡ head) (low : head �
       ez ∙ ap (λ w. replicate (length (take (length b - size) (drop size w))) 0) second
       ∙ ap (λ k. replicate k 0) (length-take-le (length b - size) (drop size (h ++ y)) (omega (arith, length-drop size (h ++ y), whole)))
 
-  pub three-lent : putMid size (length b - size) (putMid 0 (head - 0) (putMid f (length b - f) b y) h) z ≡ h ++ take (size - head) y ++ replicate (length b - size) 0
+  pub three-lent : putMid size (length b - size) (putMid 0 (head - 0) (putMid f (length b - f) b y) h) z ≡ h ++ take (size - head) y
+      ++ replicate (length b - size) 0
   three-lent =
       ap (λ w. putMid size (length b - size) w z) second
       ∙ ap (λ k. putMid size (k - size) (h ++ y) z) (sym whole)
@@ -58,54 +60,65 @@ first-length b y f h e =
 
 -- the answer
 module _ (next : Packed → ℕ → Packed) (cats count : ℕ) (sy : List ℕ) (room : ℕ) where
-  pub build-many : 256 < length (found next count 256) → (refused 13 ≡ builtBy next cats count room) × (replicate room 0 ≡ bufferBy next cats count sy room)
+  pub build-many : mostStates < length (found next count mostStates) → (refused 13 ≡ builtBy next cats count room)
+      × (replicate room 0 ≡ bufferBy next cats count sy room)
   unfolding builtBy bufferBy
-  build-many h = let a = lt-ltb 256 (length (found next count 256)) h in (sym (rw a), sym (rw a))
+  build-many h = let a = lt-ltb mostStates (length (found next count mostStates)) h in (sym (rw a), sym (rw a))
 
-  module _ (h : length (found next count 256) ≤ 256) where
+  module _ (h : length (found next count mostStates) ≤ mostStates) where
     pub build-short : room < sizeBy next cats count → (refused 14 ≡ builtBy next cats count room) × (replicate room 0 ≡ bufferBy next cats count sy room)
     unfolding builtBy bufferBy
-    build-short k = let a = le-ltb 256 (length (found next count 256)) h in let b = lt-ltb room (sizeBy next cats count) k in (sym (rw (a, b)), sym (rw (a, b)))
+    build-short k = let a = le-ltb mostStates (length (found next count mostStates)) h in let b = lt-ltb room (sizeBy next cats count) k in
+        (sym (rw (a, b)), sym (rw (a, b)))
 
     pub build-done : sizeBy next cats count ≤ room
-        → (accepted (sizeBy next cats count) ≡ builtBy next cats count room) × (imageBy next cats count sy ++ replicate (room - sizeBy next cats count) 0 ≡ bufferBy next cats count sy room)
+        → (accepted (sizeBy next cats count) ≡ builtBy next cats count room)
+        × (imageBy next cats count sy ++ replicate (room - sizeBy next cats count) 0 ≡ bufferBy next cats count sy room)
     unfolding builtBy bufferBy
-    build-done k = let a = le-ltb 256 (length (found next count 256)) h in let b = le-ltb room (sizeBy next cats count) k in (sym (rw (a, b)), sym (rw (a, b)))
+    build-done k = let a = le-ltb mostStates (length (found next count mostStates)) h in let b = le-ltb room (sizeBy next cats count) k in
+        (sym (rw (a, b)), sym (rw (a, b)))
 
   -- the image, from the head and the rows
-  pub image-is : (n : ℕ) (h y : List ℕ) → n ≡ length (found next count 256) → h ≡ headBytes sy count n
-      → take (n * (count + cats + 1)) y ≡ statesBytes next cats count (found next count 256) n → h ++ take (n * (count + cats + 1)) y ≡ imageBy next cats count sy
+  pub image-is : (n : ℕ) (h y : List ℕ) → n ≡ length (found next count mostStates) → h ≡ headBytes sy count n
+      → take (n * (count + cats + 1)) y ≡ statesBytes next cats count (found next count mostStates) n → h ++ take (n * (count + cats + 1)) y
+      ≡ imageBy next cats count sy
   unfolding imageBy
   image-is n h y e f g =
-      ap₂ _++_ (f ∙ ap (headBytes sy count) e) (g ∙ ap (statesBytes next cats count (found next count 256)) e)
+      ap₂ _++_ (f ∙ ap (headBytes sy count) e) (g ∙ ap (statesBytes next cats count (found next count mostStates)) e)
 
 -- the same from what discovery gave: n states, their rows in y
 module _ (next : Packed → ℕ → Packed) (cats count : ℕ) (sy : List ℕ) (b y part : List ℕ) (f n : ℕ) (d : Discovered next cats count part y n) where
-  pub built-many : 256 < n → (refused 13 ≡ builtBy next cats count (length b)) × (replicate (length b) 0 ≡ bufferBy next cats count sy (length b))
+  pub built-many : mostStates < n → (refused 13 ≡ builtBy next cats count (length b)) × (replicate (length b) 0 ≡ bufferBy next cats count sy (length b))
   built-many h = build-many next cats count sy (length b) (d .over h)
 
-  module _ (few : n ≤ 256) where
-    is : n ≡ length (found next count 256)
+  module _ (few : n ≤ mostStates) where
+    is : n ≡ length (found next count mostStates)
     is = d .few few
 
     sized : 3 + 3 * count + n * (count + cats + 1) ≡ sizeBy next cats count
     sized = ap (λ z. 3 + 3 * count + z * (count + cats + 1)) is
 
-    pub built-short : length b < 3 + 3 * count + n * (count + cats + 1) → (refused 14 ≡ builtBy next cats count (length b)) × (replicate (length b) 0 ≡ bufferBy next cats count sy (length b))
+    pub built-short : length b < 3 + 3 * count + n * (count + cats + 1) → (refused 14 ≡ builtBy next cats count (length b))
+        × (replicate (length b) 0 ≡ bufferBy next cats count sy (length b))
     built-short h = build-short next cats count sy (length b) (omega (arith, is)) (omega (arith, sized))
 
     module _ (fits : 3 + 3 * count + n * (count + cats + 1) ≤ length b) (h z : List ℕ) (e : f ≡ 3 + 3 * count)
         (p : part ≡ take (length b - f) (drop f b))
         (eh : h ≡ headBytes sy count n)
-        (ez : z ≡ replicate (length (take (length b - (3 + 3 * count + n * (count + cats + 1))) (drop (3 + 3 * count + n * (count + cats + 1)) (putMid 0 (3 + 3 * count - 0) (putMid f (length b - f) b y) h)))) 0) where
+        (ez : z ≡ replicate (length (take (length b - (3 + 3 * count + n * (count + cats + 1)))
+        (drop (3 + 3 * count + n * (count + cats + 1)) (putMid 0 (3 + 3 * count - 0) (putMid f (length b - f) b y) h)))) 0) where
       head-length : length h ≡ 3 + 3 * count
-      head-length = ap length eh ∙ length-append (count ∷ tabulate (symbolByte sy) (3 * count)) (n % 256 ∷ n / 256 ∷ []) ∙ omega (arith, tabulate-length (symbolByte sy) (3 * count))
+      head-length = ap length eh ∙ length-append (count ∷ tabulate (symbolByte sy) (3 * count)) (n % 256 ∷ n / 256 ∷ []) ∙ omega (
+        arith,
+        tabulate-length (symbolByte sy) (3 * count),
+      )
 
       part-length : length part ≡ length b - (3 + 3 * count)
       part-length = ap length p ∙ length-take-le (length b - f) (drop f b) (omega (arith, length-drop f b)) ∙ ap (λ z. length b - z) e
 
       pub built-done : (accepted (3 + 3 * count + n * (count + cats + 1)) ≡ builtBy next cats count (length b))
-          × (putMid (3 + 3 * count + n * (count + cats + 1)) (length b - (3 + 3 * count + n * (count + cats + 1))) (putMid 0 (3 + 3 * count - 0) (putMid f (length b - f) b y) h) z
+          × (putMid (3 + 3 * count + n * (count + cats + 1)) (length b - (3 + 3 * count + n * (count + cats + 1)))
+          (putMid 0 (3 + 3 * count - 0) (putMid f (length b - f) b y) h) z
           ≡ bufferBy next cats count sy (length b))
       built-done =
           let w = build-done next cats count sy (length b) (omega (arith, is)) (omega (arith, sized)) in
@@ -117,5 +130,5 @@ module _ (next : Packed → ℕ → Packed) (cats count : ℕ) (sy : List ℕ) (
                 ∙ w .1,
           )
 
-pub rows-fit : (n count cats : ℕ) → n ≤ 256 → count ≤ 128 → cats ≤ 8 → n * (count + cats + 1) ≤ 35072
+pub rows-fit : (n count cats : ℕ) → n ≤ mostStates → count ≤ mostSymbols → cats ≤ 8 → n * (count + cats + 1) ≤ 35072
 rows-fit n count cats h k l = omega (arith, mul-le-mul-right (count + cats + 1) h)

@@ -5,27 +5,38 @@ use mathlib.Core.Bool.{cond}
 use mathlib.Core.List.{List, [], _∷_, _++_}
 use lib.Dec.{eqb, ltb}
 use lib.ListN.{length, getD, take, replicate}
-use Rattle.theory_resolution.specs.Lists.{tabulate, Distinct}
+use Rattle.base_numbers.specs.Numbers.{imageNoRoom, mostStates, tooManyStates}
+use Rattle.base_bytes.specs.Built.{refused, accepted}
+use Rattle.base_lists.specs.Lists.{tabulate, Distinct}
 use Rattle.theory_resolution.specs.Discovery.{expand, discover, targets}
 use Rattle.node_step.specs.Step.{digit}
 use Rattle.node_step.specs.StatusByte.{samePacked}
 use Rattle.node_step.specs.declared.stored.Packed.{Packed}
 use Rattle.machine_symbols.specs.Steps.{begin, stateAt}
-use Rattle.machine_build.specs.Built.{refused, accepted}
-use Rattle.machine_build.specs.declared.Built.{Built}
+use Rattle.base_bytes.specs.declared.Built.{Built}
 
--- where the hints say which number a state may have
-unfoldable pub hintAt : Packed → ℕ
-hintAt st = (st .statuses % 4294967296 * 3635633 + st .statuses / 4294967296 * 2442741 + st .signal * 10368889) / 65536 % 4096
+-- what the two halves of a state's statuses, and its signal, are multiplied with in its hash
+abbrev pub lowFactor : ℕ
+lowFactor = 3635633
 
--- the n states of a list, in the arrays; where the hints say 0 stands no state but the first
-pub record Kept (signal statuses hints : List ℕ) (n : ℕ) (l : List Packed) : Type 0 where
-  pub wide : (length signal ≡ 256) × (length statuses ≡ 256) × (length hints ≡ 4096)
+abbrev pub highFactor : ℕ
+highFactor = 2442741
+
+abbrev pub signalFactor : ℕ
+signalFactor = 10368889
+
+-- the hash of a state: its place among the 4,096 slots
+unfoldable pub slotOf : Packed → ℕ
+slotOf st = (st .statuses % 4294967296 * lowFactor + st .statuses / 4294967296 * highFactor + st .signal * signalFactor) / 65536 % 4096
+
+-- the n states of a list, in the arrays; no state but the first has a hash at which the slots have 0
+pub record Kept (signal statuses slots : List ℕ) (n : ℕ) (l : List Packed) : Type 0 where
+  pub wide : (length signal ≡ mostStates) × (length statuses ≡ mostStates) × (length slots ≡ 4096)
   pub all-kept : length l ≡ n
-  pub few : n ≤ 256
+  pub few : n ≤ mostStates
   pub held : (i : ℕ) → i < n → stateAt signal statuses i ≡ getD l i begin
   pub distinct : Distinct samePacked l
-  pub hinted : (i : ℕ) → 0 < i → i < n → 0 < getD hints (hintAt (getD l i begin)) 0
+  pub slotted : (i : ℕ) → 0 < i → i < n → 0 < getD slots (slotOf (getD l i begin)) 0
 
 -- n, or one more if j is n
 abbrev pub longer : ℕ → ℕ → ℕ
@@ -46,10 +57,10 @@ module _ (next : Packed → ℕ → Packed) (count : ℕ) where
   found i = discover samePacked next count begin i
 
   -- the turn of a state over the list l: r states after it, and the numbers of its targets; 257 if there are over 256
-  pub record Turned (l : List Packed) (st : Packed) (numbers signal statuses hints : List ℕ) (r : ℕ) : Type 0 where
-    pub kept : r ≤ 256 → Kept signal statuses hints r (expand samePacked next st count l)
-    pub over : 256 < r → 256 < length (expand samePacked next st count l)
-    pub numbered : r ≤ 256 → take count numbers ≡ targets samePacked next count (expand samePacked next st count l) st
+  pub record Turned (l : List Packed) (st : Packed) (numbers signal statuses slots : List ℕ) (r : ℕ) : Type 0 where
+    pub kept : r ≤ mostStates → Kept signal statuses slots r (expand samePacked next st count l)
+    pub over : mostStates < r → mostStates < length (expand samePacked next st count l)
+    pub numbered : r ≤ mostStates → take count numbers ≡ targets samePacked next count (expand samePacked next st count l) st
 
 -- byte i of the symbols in sy
 abbrev pub symbolByte : List ℕ → ℕ → ℕ
@@ -72,23 +83,23 @@ module _ (next : Packed → ℕ → Packed) (cats count : ℕ) where
   -- all turns: r states, their bytes at the front of the part, if it has room for them
   pub record Discovered (part part′ : List ℕ) (r : ℕ) : Type 0 where
     pub same-length : length part′ ≡ length part
-    pub few : r ≤ 256 → r ≡ length (found next count 256)
-    pub over : 256 < r → 256 < length (found next count 256)
-    pub rows : r ≤ 256 → r * (count + cats + 1) ≤ length part → take (r * (count + cats + 1)) part′ ≡ statesBytes (found next count 256) r
+    pub few : r ≤ mostStates → r ≡ length (found next count mostStates)
+    pub over : mostStates < r → mostStates < length (found next count mostStates)
+    pub rows : r ≤ mostStates → r * (count + cats + 1) ≤ length part → take (r * (count + cats + 1)) part′ ≡ statesBytes (found next count mostStates) r
 
   -- the image of the states found
   unfoldable pub imageBy : List ℕ → List ℕ
-  imageBy sy = headBytes sy count (length (found next count 256)) ++ statesBytes (found next count 256) (length (found next count 256))
+  imageBy sy = headBytes sy count (length (found next count mostStates)) ++ statesBytes (found next count mostStates) (length (found next count mostStates))
 
   -- its length
   abbrev pub sizeBy : ℕ
-  sizeBy = 3 + 3 * count + length (found next count 256) * (count + cats + 1)
+  sizeBy = 3 + 3 * count + length (found next count mostStates) * (count + cats + 1)
 
   -- what a build answers, and what it leaves in the buffer
   unfoldable pub builtBy : ℕ → Built
   builtBy room =
-      cond (ltb 256 (length (found next count 256))) (refused 13)
-      (cond (ltb room sizeBy) (refused 14)
+      cond (ltb mostStates (length (found next count mostStates))) (refused tooManyStates)
+      (cond (ltb room sizeBy) (refused imageNoRoom)
       (accepted sizeBy))
 
   unfoldable pub bufferBy : List ℕ → ℕ → List ℕ

@@ -1,22 +1,33 @@
 // The states that are reached, by breadth-first discovery, each one's row in its own stretch of a lent part.
-use base_text::cut::wide;
+//
+// The number of a state is found by a hash table: `slots` has at a state's hash the number of the last kept state that has this hash, or 0. A
+// number that is read there counts only if that state is the one looked for; else all kept states are gone through, unless it is 0: then no state
+// but the first has this hash.
+use base_bytes::numbers::wide;
+use base_numbers::MOST_NODES;
+use base_numbers::MOST_SIGNALS;
+use base_numbers::MOST_STATES;
+use base_numbers::MOST_SYMBOL_BYTES;
+use base_numbers::MOST_SYMBOLS;
+use base_numbers::OVER_STATES;
 use machine_symbols::steps::next;
 use node_step::stored::Packed;
 use node_step::stored::same;
 ghost use mathlib.Core.Path.{_≡_};
 ghost use mathlib.Core.Bool.{_&&_};
 ghost use mathlib.Core.List.{List};
-ghost use Prim.Native.Nat.{ℕ, _+_, _≤_, _<_};
+ghost use Prim.Native.Nat.{ℕ, _+_, _≤_, _<_, suc};
 ghost use lib.Dec.{ltb};
 ghost use lib.ListN.{length, take};
-ghost use Rattle.theory_resolution.specs.Lists.{addBy, indexBy};
+ghost use Rattle.base_numbers.specs.Numbers.{mostCategories, mostStates, mostSymbols};
+ghost use Rattle.base_lists.specs.Lists.{addBy, indexBy};
 ghost use Rattle.node_step.specs.Step.{digit};
 ghost use Rattle.node_step.specs.StatusByte.{samePacked};
 ghost use Rattle.machine_symbols.specs.Steps.{nextState, stateAt};
-ghost use Rattle.machine_build.specs.States.{hintAt, Kept, longer, pairBytes, Placed, Turned, Discovered};
+ghost use Rattle.machine_build.specs.States.{Kept, longer, pairBytes, Placed, Turned, Discovered, slotOf};
 
 // State j of those in the arrays is st.
-fn is_state(signal: &[u8; 256], statuses: &[u64; 256], j: usize, st: Packed) -> bool
+fn is_state(signal: &[u8; MOST_STATES], statuses: &[u64; MOST_STATES], j: usize, st: Packed) -> bool
     requires { ⌜ j < 256 ⌝ }
     ensures { λ r. ⌜ r ≡ samePacked (stateAt (now (signal .entry)) (now (statuses .entry)) j) st ⌝ }
 {
@@ -28,8 +39,14 @@ fn is_state(signal: &[u8; 256], statuses: &[u64; 256], j: usize, st: Packed) -> 
 }
 
 // State j is one of the n that are kept, and it is st.
-fn is_kept(signal: &[u8; 256], statuses: &[u64; 256], n: usize, j: usize, st: Packed) -> bool
-    requires { ⌜ n ≤ 256 ⌝ }
+fn is_kept(
+    signal: &[u8; MOST_STATES],
+    statuses: &[u64; MOST_STATES],
+    n: usize,
+    j: usize,
+    st: Packed,
+) -> bool
+    requires { ⌜ n ≤ mostStates ⌝ }
     ensures { λ r. ⌜ r ≡ (ltb j n && samePacked (stateAt (now (signal .entry)) (now (statuses .entry)) j) st) ⌝ }
 {
     if j < n {
@@ -39,9 +56,9 @@ fn is_kept(signal: &[u8; 256], statuses: &[u64; 256], n: usize, j: usize, st: Pa
 }
 
 // The number of st among the n kept states, or n.
-fn find(signal: &[u8; 256], statuses: &[u64; 256], n: usize, st: Packed) -> usize
-    requires { ⌜ n ≤ 256 ⌝ }
-    ensures { λ r. ⌜ ((hints : List ℕ) (l : List Packed) → Kept (now (signal .entry)) (now (statuses .entry)) hints n l → r ≡ indexBy samePacked st l) ⌝ }
+fn find(signal: &[u8; MOST_STATES], statuses: &[u64; MOST_STATES], n: usize, st: Packed) -> usize
+    requires { ⌜ n ≤ mostStates ⌝ }
+    ensures { λ r. ⌜ ((slots : List ℕ) (l : List Packed) → Kept (now (signal .entry)) (now (statuses .entry)) slots n l → r ≡ indexBy samePacked st l) ⌝ }
 {
     let mut j = 0;
     while j < n {
@@ -53,28 +70,35 @@ fn find(signal: &[u8; 256], statuses: &[u64; 256], n: usize, st: Packed) -> usiz
     n
 }
 
-// Where the hints say what number a state may have.
-fn hint_at(st: Packed) -> usize
-    ensures { λ r. ⌜ (r ≡ hintAt st) × (r < 4096) ⌝ }
+// What the two halves of a state's statuses, and its signal, are multiplied with in its hash. Any numbers are right: these spread the states.
+const LOW_FACTOR: usize = 3635633;
+
+const HIGH_FACTOR: usize = 2442741;
+
+const SIGNAL_FACTOR: usize = 10368889;
+
+// The hash of a state: its place among the slots.
+fn slot_of(st: Packed) -> usize
+    ensures { λ r. ⌜ (r ≡ slotOf st) × (r < 4096) ⌝ }
 {
     let low = (st.statuses % 4294967296) as usize;
     let high = (st.statuses / 4294967296) as usize;
-    (low * 3635633 + high * 2442741 + wide(st.signal) * 10368889) / 65536 % 4096
+    (low * LOW_FACTOR + high * HIGH_FACTOR + wide(st.signal) * SIGNAL_FACTOR) / 65536 % 4096
 }
 
-// The same number, from the hints if they are right.
+// The same number, by the hash table.
 fn number_of(
-    signal: &[u8; 256],
-    statuses: &[u64; 256],
-    hints: &[u8; 4096],
+    signal: &[u8; MOST_STATES],
+    statuses: &[u64; MOST_STATES],
+    slots: &[u8; 4096],
     n: usize,
     st: Packed,
 ) -> usize
-    requires { ⌜ n ≤ 256 ⌝ }
-    ensures { λ r. ⌜ ((l : List Packed) → Kept (now (signal .entry)) (now (statuses .entry)) (now (hints .entry)) n l → r ≡ indexBy samePacked st l) ⌝ }
+    requires { ⌜ n ≤ mostStates ⌝ }
+    ensures { λ r. ⌜ ((l : List Packed) → Kept (now (signal .entry)) (now (statuses .entry)) (now (slots .entry)) n l → r ≡ indexBy samePacked st l) ⌝ }
 {
-    let at = hint_at(st);
-    let j = wide(hints[at]);
+    let at = slot_of(st);
+    let j = wide(slots[at]);
     if is_kept(signal, statuses, n, j, st) {
         return j;
     }
@@ -86,35 +110,35 @@ fn number_of(
 
 // The number of st among the n kept states; n if it is a new one, which is then kept if there is room.
 fn keep(
-    signal: &mut [u8; 256],
-    statuses: &mut [u64; 256],
-    hints: &mut [u8; 4096],
+    signal: &mut [u8; MOST_STATES],
+    statuses: &mut [u64; MOST_STATES],
+    slots: &mut [u8; 4096],
     n: usize,
     st: Packed,
 ) -> usize
-    requires { ⌜ n ≤ 256 ⌝ }
-    ensures { λ r. ⌜ r ≤ 256 ⌝ }
+    requires { ⌜ n ≤ mostStates ⌝ }
+    ensures { λ r. ⌜ r ≤ mostStates ⌝ }
     ensures { λ r. ⌜
-        ((l : List Packed) → Kept (now (signal .entry)) (now (statuses .entry)) (now (hints .entry)) n l
-        → (r ≡ indexBy samePacked st l) × (r < 256 → Kept (now (signal .exit)) (now (statuses .exit)) (now (hints .exit)) (longer n r) (addBy samePacked l st)))
+        ((l : List Packed) → Kept (now (signal .entry)) (now (statuses .entry)) (now (slots .entry)) n l
+        → (r ≡ indexBy samePacked st l) × (r < mostStates → Kept (now (signal .exit)) (now (statuses .exit)) (now (slots .exit)) (longer n r) (addBy samePacked l st)))
         ⌝ }
 {
-    let j = number_of(signal, statuses, hints, n, st);
+    let j = number_of(signal, statuses, slots, n, st);
     if j < n {
         return j;
     }
-    if n < 256 {
+    if n < MOST_STATES {
         signal[n] = st.signal;
         statuses[n] = st.statuses;
-        let at = hint_at(st);
-        hints[at] = n as u8;
+        let at = slot_of(st);
+        slots[at] = n as u8;
     }
     n
 }
 
 // n, or one more if j is n.
 fn longer_by(n: usize, j: usize) -> usize
-    requires { ⌜ n ≤ 256 ⌝ }
+    requires { ⌜ n ≤ mostStates ⌝ }
     ensures { λ r. ⌜ r ≡ longer n j ⌝ }
 {
     if j == n {
@@ -125,33 +149,33 @@ fn longer_by(n: usize, j: usize) -> usize
 
 // The turn of a state: its targets are kept, and their numbers start the array.
 fn turn<'a>(
-    rows: &'a [u64; 32],
-    parents: &'a [u8; 64],
-    inner: &'a [bool; 64],
+    rows: &'a [u64; MOST_SIGNALS],
+    parents: &'a [u8; MOST_NODES],
+    inner: &'a [bool; MOST_NODES],
     signals: usize,
-    symbols: &[u8; 384],
+    symbols: &[u8; MOST_SYMBOL_BYTES],
     count: usize,
-    signal: &mut [u8; 256],
-    statuses: &mut [u64; 256],
-    hints: &mut [u8; 4096],
+    signal: &mut [u8; MOST_STATES],
+    statuses: &mut [u64; MOST_STATES],
+    slots: &mut [u8; 4096],
     n: usize,
     st: Packed,
-    numbers: &mut [u8; 128],
+    numbers: &mut [u8; MOST_SYMBOLS],
 ) -> usize
-    requires { ⌜ (count ≤ 128) × (n ≤ 256) × (length (now numbers) ≡ 128) ⌝ }
-    ensures { λ r. ⌜ (r ≤ 257) × (length (now (numbers .exit)) ≡ 128) ⌝ }
+    requires { ⌜ (count ≤ mostSymbols) × (n ≤ mostStates) × (length (now numbers) ≡ mostSymbols) ⌝ }
+    ensures { λ r. ⌜ (r ≤ (suc mostStates)) × (length (now (numbers .exit)) ≡ mostSymbols) ⌝ }
     ensures { λ r. ⌜
-        ((l : List Packed) → Kept (now (signal .entry)) (now (statuses .entry)) (now (hints .entry)) n l
-        → Turned (nextState (now (rows .entry)) (now (parents .entry)) (now (inner .entry)) signals (now (symbols .entry))) count l st (now (numbers .exit)) (now (signal .exit)) (now (statuses .exit)) (now (hints .exit)) r)
+        ((l : List Packed) → Kept (now (signal .entry)) (now (statuses .entry)) (now (slots .entry)) n l
+        → Turned (nextState (now (rows .entry)) (now (parents .entry)) (now (inner .entry)) signals (now (symbols .entry))) count l st (now (numbers .exit)) (now (signal .exit)) (now (statuses .exit)) (now (slots .exit)) r)
         ⌝ }
 {
     let mut m = n;
     let mut k = 0;
     while k < count {
         let to = next(rows, parents, inner, signals, symbols, st, k);
-        let j = keep(signal, statuses, hints, m, to);
-        if 256 <= j {
-            return 257;
+        let j = keep(signal, statuses, slots, m, to);
+        if MOST_STATES <= j {
+            return OVER_STATES;
         }
         m = longer_by(m, j);
         numbers[k] = j as u8;
@@ -162,7 +186,7 @@ fn turn<'a>(
 
 // The byte of category c.
 fn byte_at(statuses: u64, c: usize) -> u8
-    requires { ⌜ c < 8 ⌝ }
+    requires { ⌜ c < mostCategories ⌝ }
     ensures { λ r. ⌜ r ≡ digit statuses c ⌝ }
 {
     let k = 8 * c;
@@ -171,7 +195,7 @@ fn byte_at(statuses: u64, c: usize) -> u8
 
 // A state's bytes before its row: its signal, and one byte for each category.
 fn write_pair(pair: &mut [u8], st: Packed, categories: usize)
-    requires { ⌜ (categories ≤ 8) × (length (now pair) ≡ categories + 1) ⌝ }
+    requires { ⌜ (categories ≤ mostCategories) × (length (now pair) ≡ categories + 1) ⌝ }
     ensures { λ _. ⌜ now (pair .exit) ≡ pairBytes categories st ⌝ }
 {
     pair[0] = st.signal;
@@ -183,8 +207,8 @@ fn write_pair(pair: &mut [u8], st: Packed, categories: usize)
 }
 
 // The row writer: it is lent a state's row, from its first byte to its last, and writes one target for each symbol.
-fn write_row(row: &mut [u8], numbers: &[u8; 128])
-    requires { ⌜ (length (now row) ≤ 128) × (length (now numbers) ≡ 128) ⌝ }
+fn write_row(row: &mut [u8], numbers: &[u8; MOST_SYMBOLS])
+    requires { ⌜ (length (now row) ≤ mostSymbols) × (length (now numbers) ≡ mostSymbols) ⌝ }
     ensures { λ _. ⌜ now (row .exit) ≡ take (length (now (row .entry))) (now (numbers .entry)) ⌝ }
 {
     let mut k = 0;
@@ -200,10 +224,10 @@ fn write_state(
     a: usize,
     st: Packed,
     categories: usize,
-    numbers: &[u8; 128],
+    numbers: &[u8; MOST_SYMBOLS],
     count: usize,
 )
-    requires { ⌜ (a ≤ 65536) × (categories ≤ 8) × (length (now numbers) ≡ 128) × (count ≤ 128) ⌝ }
+    requires { ⌜ (a ≤ 65536) × (categories ≤ mostCategories) × (length (now numbers) ≡ mostSymbols) × (count ≤ mostSymbols) ⌝ }
     ensures { λ _. ⌜ Placed categories count st (now (numbers .entry)) a (now (part .entry)) (now (part .exit)) ⌝ }
 {
     let from = a + categories + 1;
@@ -216,22 +240,22 @@ fn write_state(
 
 // How many states there are, or 257 if over 256; their bytes at the front of the part, if it has room for them.
 pub(crate) fn discover<'a>(
-    rows: &'a [u64; 32],
-    parents: &'a [u8; 64],
-    inner: &'a [bool; 64],
+    rows: &'a [u64; MOST_SIGNALS],
+    parents: &'a [u8; MOST_NODES],
+    inner: &'a [bool; MOST_NODES],
     signals: usize,
     categories: usize,
-    symbols: &[u8; 384],
+    symbols: &[u8; MOST_SYMBOL_BYTES],
     count: usize,
     part: &mut [u8],
 ) -> usize
-    requires { ⌜ (categories ≤ 8) × (count ≤ 128) ⌝ }
+    requires { ⌜ (categories ≤ mostCategories) × (count ≤ mostSymbols) ⌝ }
     ensures { λ r. ⌜ Discovered (nextState (now (rows .entry)) (now (parents .entry)) (now (inner .entry)) signals (now (symbols .entry))) categories count (now (part .entry)) (now (part .exit)) r ⌝ }
 {
-    let mut signal = [0u8; 256];
-    let mut statuses = [0u64; 256];
-    let mut hints = [0u8; 4096];
-    let mut numbers = [0u8; 128];
+    let mut signal = [0u8; MOST_STATES];
+    let mut statuses = [0u64; MOST_STATES];
+    let mut slots = [0u8; 4096];
+    let mut numbers = [0u8; MOST_SYMBOLS];
     let mut n = 1;
     let mut i = 0;
     let mut a = 0;
@@ -249,13 +273,13 @@ pub(crate) fn discover<'a>(
             count,
             &mut signal,
             &mut statuses,
-            &mut hints,
+            &mut slots,
             n,
             st,
             &mut numbers,
         );
-        if 256 < n {
-            return 257;
+        if MOST_STATES < n {
+            return OVER_STATES;
         }
         write_state(part, a, st, categories, &numbers, count);
         a = a + categories + 1 + count;

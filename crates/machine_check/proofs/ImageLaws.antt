@@ -1,39 +1,27 @@
 -- Laws of reading and checking an image at a turn of a loop, over plain variables.
 use Prim.Native.Nat.{ℕ, suc, _+_, _-_, _*_, _^_, _≤_, _<_, max}
 use mathlib.Core.Path.{_≡_, refl, sym, ap, ap₂, _∙_}
-use mathlib.Core.Bool.{Bool, true, false, not, _&&_, true≢false}
+use mathlib.Core.Bool.{Bool, true, false, _&&_, true≢false}
 use mathlib.Core.List.{List}
 use lib.Dec.{eqb, ltb, leb}
-use borrow.Author.Tests.{not-true, not-false, eq-eqb, ne-eqb, lt-ltb, le-ltb, le-leb, lt-leb, leb-true}
+use borrow.Author.Tests.{eq-eqb, ne-eqb, lt-ltb, le-ltb, le-leb, lt-leb, leb-true}
 use lib.ListN.{length, getD, set, take, drop, length-take, List·getD-eq-default}
 use lib.Seq.{getD-take, getD-drop, getD-set-same, getD-set-other}
 use native.Mathlib.Omega.{arith}
 use native.Mathlib.Nat.{mul-le-mul-right, add-zero, sub-zero, pow-le-pow-right, pow-succ'}
 use native.Mathlib.Numerals.{add-one}
 use native.Mathlib.Decide.{decLt, ℕ-discrete}
-use Rattle.theory_resolution.specs.Lists.{allBelow}
+use Rattle.base_numbers.specs.Numbers.{mostStates, mostSymbols}
+use Rattle.base_lists.specs.Numbers.{wordOf}
+use Rattle.base_lists.proofs.Below.{all-to, all-of, all-stop, all-more}
+use Rattle.base_lists.proofs.Bools.{same-test}
+use Rattle.base_lists.specs.Lists.{allBelow}
 use Rattle.theory_resolution.specs.Names.{sameName}
-use Rattle.theory_resolution.proofs.Lists.{same-test, all-to, all-of, all-stop}
 use Rattle.node_step.specs.StatusByte.{samePacked}
 use Rattle.node_step.specs.declared.stored.Packed.{Packed}
 use Rattle.machine_image.specs.Image.{symbolCount, stateCount, placeOf, signalIn, byteIn, targetIn}
 use Rattle.machine_symbols.specs.Steps.{begin, stateAt}
-use Rattle.machine_check.specs.Checks.{packFrom, packedIn, Read, statusFormedBy, belowBy, stateFormedBy, formBy, targetRightBy, rowRightBy, checkBy}
-
--- one number more of a test of all
-pub all-more : (f : ℕ → Bool) (k : ℕ) → allBelow k f ≡ true → f k ≡ true → allBelow (k + 1) f ≡ true
-unfolding allBelow
-all-more f k a b = rw (add-one, a) b
-
--- the same by a test's answer r, and its end at the first no
-pub all-yes : (f : ℕ → Bool) (k : ℕ) {r : Bool} → r ≡ f k → not r ≡ false → allBelow k f ≡ true → allBelow (k + 1) f ≡ true
-all-yes f k e t a = all-more f k a (sym e ∙ not-false _ t)
-
-pub all-no : (f : ℕ → Bool) (n k : ℕ) {r : Bool} → r ≡ f k → not r ≡ true → k < n → false ≡ allBelow n f
-all-no f n k e t h = sym (all-stop n f k h (sym e ∙ not-true _ t))
-
-pub all-done : (f : ℕ → Bool) (n k : ℕ) → k ≤ n → n ≤ k → allBelow k f ≡ true → true ≡ allBelow n f
-all-done f n k a b e = let i : n ≡ k = omega arith in sym (ap (λ z. allBelow z f) i ∙ e)
+use Rattle.machine_check.specs.Checks.{packedIn, Read, statusFormedBy, belowBy, stateFormedBy, formBy, targetRightBy, rowRightBy, checkBy}
 
 -- the place of a state is a number of the machine's
 pub place-fits : (j m cats : ℕ) → j < 65536 → m < 256 → cats ≤ 8 → j * (m + cats + 1) ≤ 17301504
@@ -49,28 +37,26 @@ pub place-is : (im : List ℕ) (cats j : ℕ) {m : ℕ} → m ≡ getD im 0 0 �
 place-is im cats j e = ap (λ z. 3 + 3 * z + j * (z + cats + 1)) e
 
 -- bytes in one number, from the last down: the c first of them are left
-module _ (im : List ℕ) (i n c x b : ℕ) (h : 0 < c) (k : c ≤ n) (e : x ≡ packFrom im (i + c) (n - c)) (f : b ≡ getD im (i + (c - 1)) 0) where
-  pub pack-more : x * 256 + b ≡ packFrom im (i + (c - 1)) (n - (c - 1))
-  unfolding packFrom
+module _ (im : List ℕ) (i n c x b : ℕ) (h : 0 < c) (k : c ≤ n) (e : x ≡ wordOf im (i + c) (n - c)) (f : b ≡ getD im (i + (c - 1)) 0) where
+  pub pack-more : x * 256 + b ≡ wordOf im (i + (c - 1)) (n - (c - 1))
   pack-more =
       let y : n - (c - 1) ≡ suc (n - c) = omega arith in
-      let z : suc (i + (c - 1)) ≡ i + c = omega arith in
+      let z : i + (c - 1) + 1 ≡ i + c = omega arith in
       rw (y, z) (omega (arith, e, f))
 
-pub pack-end : (im : List ℕ) (i n c x : ℕ) → c ≤ 0 → x ≡ packFrom im (i + c) (n - c) → x ≡ packFrom im i n
-pack-end im i n c x h e = let z : c ≡ 0 = omega arith in e ∙ ap (λ y. packFrom im (i + y) (n - y)) z ∙ ap₂ (packFrom im) (add-zero i) (sub-zero n)
+pub pack-end : (im : List ℕ) (i n c x : ℕ) → c ≤ 0 → x ≡ wordOf im (i + c) (n - c) → x ≡ wordOf im i n
+pack-end im i n c x h e = let z : c ≡ 0 = omega arith in e ∙ ap (λ y. wordOf im (i + y) (n - y)) z ∙ ap₂ (wordOf im) (add-zero i) (sub-zero n)
 
-pub pack-none : (im : List ℕ) (i n : ℕ) → 0 ≡ packFrom im (i + n) (n - n)
-unfolding packFrom
+pub pack-none : (im : List ℕ) (i n : ℕ) → 0 ≡ wordOf im (i + n) (n - n)
 pack-none im i n = let z : n - n ≡ 0 = omega arith in rw z
 
 -- and how large it can be
 pub pack-fits : (n c x b : ℕ) → 0 < c → c ≤ n → n ≤ 8 → x < 256 ^ (n - c) → b < 256 → (x * 256 + b < 256 ^ (n - (c - 1))) × (x * 256 + b < 2 ^ 64)
 pack-fits n c x b h k l e f =
     let y : n - (c - 1) ≡ suc (n - c) = omega arith in
-    let z : x * 256 + b < 256 ^ suc (n - c) = rw (pow-succ' 256 (n - c)) (omega arith) in
+    let z : x * 256 + b < 256 ^ suc (n - c) = rw (pow-succ' mostStates (n - c)) (omega arith) in
     let w : suc (n - c) ≤ 8 = omega arith in
-    let v : 256 ^ suc (n - c) ≤ 256 ^ 8 = pow-le-pow-right (omega arith) w in
+    let v : mostStates ^ suc (n - c) ≤ mostStates ^ 8 = pow-le-pow-right (omega arith) w in
     (rw y z, omega (arith, z, v))
 
 module _ (im : List ℕ) (cats j : ℕ) {i : ℕ} (e : i ≡ placeOf cats im j) where
@@ -83,8 +69,8 @@ module _ (im : List ℕ) (cats j : ℕ) {i : ℕ} (e : i ≡ placeOf cats im j) 
   pub status-is : (c : ℕ) {s : ℕ} → s ≡ getD im (i + 1 + c) 0 → s ≡ byteIn cats im j c
   status-is c f = f ∙ ap (λ z. getD im (z + 1 + c) 0) e
 
-  pub state-is : {s x : ℕ} → s ≡ getD im i 0 → x ≡ packFrom im (i + 1) cats → record { signal = s; statuses = x } ≡ packedIn cats im j
-  state-is f g = let a = signal-is f in let b = g ∙ ap (λ z. packFrom im (z + 1) cats) e in ap₂ (λ x y. record { signal = x; statuses = y }) a b
+  pub state-is : {s x : ℕ} → s ≡ getD im i 0 → x ≡ wordOf im (i + 1) cats → record { signal = s; statuses = x } ≡ packedIn cats im j
+  state-is f g = let a = signal-is f in let b = g ∙ ap (λ z. wordOf im (z + 1) cats) e in ap₂ (λ x y. record { signal = x; statuses = y }) a b
 
   -- a byte that is tested
   module _ (fits : ℕ → ℕ → ℕ → Bool) {s : ℕ} (g : s ≡ signalIn cats im j) (c : ℕ) {b : ℕ} {r : Bool} (f : b ≡ getD im (i + 1 + c) 0) (t : r ≡ fits s c b) where
@@ -119,12 +105,14 @@ module _ (im : List ℕ) (cats j : ℕ) {i : ℕ} (e : i ≡ placeOf cats im j) 
 pub read-none : (im : List ℕ) (cats : ℕ) (signal statuses : List ℕ) → Read cats im signal statuses 0
 read-none im cats signal statuses = record { held = λ j h. absurd (omega arith) }
 
-pub read-more : (im : List ℕ) (cats : ℕ) (signal statuses : List ℕ) (j : ℕ) {st : Packed} → Read cats im signal statuses j → j < length signal → j < length statuses → st ≡ packedIn cats im j
+pub read-more : (im : List ℕ) (cats : ℕ) (signal statuses : List ℕ) (j : ℕ) {st : Packed} → Read cats im signal statuses j
+    → j < length signal → j < length statuses → st ≡ packedIn cats im j
     → Read cats im (set signal j (st .signal)) (set statuses j (st .statuses)) (j + 1)
 read-more im cats signal statuses j {st} r a b e = record { held = λ i h. by i h (ℕ-discrete i j) }
   where
     by : (i : ℕ) → i < j + 1 → Dec (i ≡ j) → stateAt (set signal j (st .signal)) (set statuses j (st .statuses)) i ≡ packedIn cats im i
-    by i h (yes z) = rw z (ap₂ (λ x y. record { signal = x; statuses = y }) (getD-set-same signal j (st .signal) 0 a) (getD-set-same statuses j (st .statuses) 0 b) ∙ e)
+    by i h (yes z) = rw z (ap₂ (λ x y. record { signal = x; statuses = y }) (getD-set-same signal j (st .signal) 0 a)
+        (getD-set-same statuses j (st .statuses) 0 b) ∙ e)
     by i h (no z) =
         ap₂ (λ x y. record { signal = x; statuses = y }) (getD-set-other signal j i (st .signal) 0 z) (getD-set-other statuses j i (st .statuses) 0 z)
         ∙ r .held i (omega arith)
@@ -133,9 +121,13 @@ pub read-all : (im : List ℕ) (cats : ℕ) (signal statuses : List ℕ) (j n : 
 read-all im cats signal statuses j n a b r = record { held = λ i h. r .held i (omega arith) }
 
 -- every byte is one of 256 states
-pub below-all : (im : List ℕ) (cats j : ℕ) {n : ℕ} → ((k : ℕ) → getD im k 0 < 256) → 256 ≤ n → n ≡ stateCount im → true ≡ allBelow (symbolCount im) (belowBy cats im j)
+pub below-all : (im : List ℕ) (cats j : ℕ) {n : ℕ} → ((k : ℕ) → getD im k 0 < 256) → mostStates ≤ n → n ≡ stateCount im
+    → true ≡ allBelow (symbolCount im) (belowBy cats im j)
 below-all im cats j w h g =
-    sym (all-of (symbolCount im) (belowBy cats im j) (λ k l. lt-ltb (targetIn cats im j k) (stateCount im) (omega (arith, w (placeOf cats im j + 1 + cats + k)))))
+    sym (all-of (symbolCount im) (belowBy cats im j) (λ k l. lt-ltb (targetIn cats im j k) (stateCount im) (omega (
+      arith,
+      w (placeOf cats im j + 1 + cats + k),
+    ))))
 
 -- a row's targets, by the largest of them
 below-max : (a b n : ℕ) → ltb (max a b) n ≡ (ltb a n && ltb b n)
@@ -146,20 +138,24 @@ below-max a b n = go (decLt a n) (decLt b n)
     go (yes p) (no q) = rw (lt-ltb a n p, le-ltb b n (omega arith)) (le-ltb (max a b) n (omega arith))
     go (no p) q = rw (le-ltb a n (omega arith)) (le-ltb (max a b) n (omega arith))
 
-module _ (im : List ℕ) (cats j n : ℕ) {i m : ℕ} (e : i ≡ placeOf cats im j) (f : m ≡ getD im 0 0) (g : n ≡ stateCount im) {row : List ℕ} (h : row ≡ take m (drop (i + 1 + cats) im)) where
+module _ (im : List ℕ) (cats j n : ℕ) {i m : ℕ} (e : i ≡ placeOf cats im j) (f : m ≡ getD im 0 0) (g : n ≡ stateCount im) {row : List ℕ}
+    (h : row ≡ take m (drop (i + 1 + cats) im)) where
   target-at : (x : ℕ) → x < m → getD row x 0 ≡ targetIn cats im j x
-  target-at x l = ap (λ z. getD z x 0) h ∙ getD-take m (drop (i + 1 + cats) im) x 0 l ∙ getD-drop (i + 1 + cats) im x 0 ∙ ap (λ z. getD im (z + 1 + cats + x) 0) e
+  target-at x l = ap (λ z. getD z x 0) h ∙ getD-take m (drop (i + 1 + cats) im) x 0 l ∙ getD-drop (i + 1 + cats) im x 0
+      ∙ ap (λ z. getD im (z + 1 + cats + x) 0) e
 
   short : length row ≤ m
   short = omega (arith, ap length h ∙ length-take m (drop (i + 1 + cats) im))
 
-  pub most-more : (k most : ℕ) → ltb most n ≡ allBelow k (belowBy cats im j) → {v : ℕ} → k < length row → v ≡ max most (getD row k 0) → ltb v n ≡ allBelow (k + 1) (belowBy cats im j)
+  pub most-more : (k most : ℕ) → ltb most n ≡ allBelow k (belowBy cats im j) → {v : ℕ} → k < length row → v ≡ max most (getD row k 0)
+      → ltb v n ≡ allBelow (k + 1) (belowBy cats im j)
   unfolding allBelow
   most-more k most w l o =
       ap (λ z. ltb z n) o ∙ below-max most (getD row k 0) n ∙ ap₂ (λ x y. x && y) w (ap₂ ltb (target-at k (omega (arith, short))) g)
       ∙ ap (λ z. allBelow z (belowBy cats im j)) (sym (add-one k))
 
-  pub most-end : (k most : ℕ) → ltb most n ≡ allBelow k (belowBy cats im j) → {v : ℕ} → k ≤ length row → length row ≤ k → 0 < n → v ≡ most → ltb v n ≡ allBelow (symbolCount im) (belowBy cats im j)
+  pub most-end : (k most : ℕ) → ltb most n ≡ allBelow k (belowBy cats im j) → {v : ℕ} → k ≤ length row → length row ≤ k → 0 < n → v ≡ most
+      → ltb v n ≡ allBelow (symbolCount im) (belowBy cats im j)
   most-end k most w a b p o = ap (λ z. ltb z n) o ∙ w ∙ same-test (allBelow k (belowBy cats im j)) (allBelow (symbolCount im) (belowBy cats im j)) to of
     where
       past : (x : ℕ) → k ≤ x → x < symbolCount im → belowBy cats im j x ≡ true
@@ -184,14 +180,14 @@ module _ (fits : ℕ → ℕ → ℕ → Bool) (sy : List ℕ) (count signals ca
   form-cats h = sym (rw (lt-leb cats 8 h))
 
   module _ (h₁ : cats ≤ 8) where
-    pub form-count : 128 < count → false ≡ formBy fits sy count signals cats im
+    pub form-count : mostSymbols < count → false ≡ formBy fits sy count signals cats im
     unfolding formBy
-    form-count h = sym (rw (le-leb cats 8 h₁, lt-leb count 128 h))
+    form-count h = sym (rw (le-leb cats 8 h₁, lt-leb count mostSymbols h))
 
-    module _ (h₂ : count ≤ 128) {m : ℕ} (e : m ≡ getD im 0 0) where
+    module _ (h₂ : count ≤ mostSymbols) {m : ℕ} (e : m ≡ getD im 0 0) where
       pub form-short : length im < 3 + 3 * m → false ≡ formBy fits sy count signals cats im
       unfolding formBy
-      form-short h = sym (rw (le-leb cats 8 h₁, le-leb count 128 h₂, lt-leb (3 + 3 * getD im 0 0) (length im) (omega arith)))
+      form-short h = sym (rw (le-leb cats 8 h₁, le-leb count mostSymbols h₂, lt-leb (3 + 3 * getD im 0 0) (length im) (omega arith)))
 
       module _ (h₃ : 3 + 3 * m ≤ length im) {n p : ℕ} (f : n ≡ stateCount im) (g : p ≡ placeOf cats im n) where
         long : leb (3 + 3 * getD im 0 0) (length im) ≡ true
@@ -203,10 +199,12 @@ module _ (fits : ℕ → ℕ → ℕ → Bool) (sy : List ℕ) (count signals ca
         pub form-length : (length im ≡ p → ⊥) → false ≡ formBy fits sy count signals cats im
         unfolding formBy
         form-length h =
-            let a : eqb (length im) (placeOf cats im (stateCount im)) ≡ false = ne-eqb (length im) (placeOf cats im (stateCount im)) (λ z. h (z ∙ sym placed)) in
-            sym (rw (le-leb cats 8 h₁, le-leb count 128 h₂, long, a))
+            let a : eqb (length im) (placeOf cats im (stateCount im)) ≡ false =
+            ne-eqb (length im) (placeOf cats im (stateCount im)) (λ z. h (z ∙ sym placed)) in
+            sym (rw (le-leb cats 8 h₁, le-leb count mostSymbols h₂, long, a))
 
-        module _ (h₄ : length im ≡ p) {x y : List ℕ} {b : Bool} (u : x ≡ take (3 * m) (drop 1 im)) (v : y ≡ take (3 * count) (drop 0 sy)) (w : b ≡ sameName x y) where
+        module _ (h₄ : length im ≡ p) {x y : List ℕ} {b : Bool} (u : x ≡ take (3 * m) (drop 1 im)) (v : y ≡ take (3 * count) (drop 0 sy))
+            (w : b ≡ sameName x y) where
           long-right : eqb (length im) (placeOf cats im (stateCount im)) ≡ true
           long-right = eq-eqb (length im) (placeOf cats im (stateCount im)) (h₄ ∙ placed)
 
@@ -215,7 +213,7 @@ module _ (fits : ℕ → ℕ → ℕ → Bool) (sy : List ℕ) (count signals ca
 
           pub form-symbols : b ≡ false → false ≡ formBy fits sy count signals cats im
           unfolding formBy
-          form-symbols h = let a = sym test ∙ h in sym (rw (le-leb cats 8 h₁, le-leb count 128 h₂, long, long-right, a))
+          form-symbols h = let a = sym test ∙ h in sym (rw (le-leb cats 8 h₁, le-leb count mostSymbols h₂, long, long-right, a))
 
           module _ (h₅ : b ≡ true) where
             same : sameName (take (3 * getD im 0 0) (drop 1 im)) (take (3 * count) (drop 0 sy)) ≡ true
@@ -225,36 +223,39 @@ module _ (fits : ℕ → ℕ → ℕ → Bool) (sy : List ℕ) (count signals ca
             unfolding formBy
             form-none h =
                 let a : leb 1 (stateCount im) ≡ false = lt-leb 1 (stateCount im) (omega arith) in
-                sym (rw (le-leb cats 8 h₁, le-leb count 128 h₂, long, long-right, same, a))
+                sym (rw (le-leb cats 8 h₁, le-leb count mostSymbols h₂, long, long-right, same, a))
 
             module _ (h₆ : 1 ≤ n) where
               some : leb 1 (stateCount im) ≡ true
               some = le-leb 1 (stateCount im) (omega arith)
 
-              pub form-many : 256 < n → false ≡ formBy fits sy count signals cats im
+              pub form-many : mostStates < n → false ≡ formBy fits sy count signals cats im
               unfolding formBy
               form-many h =
-                  let a : leb (stateCount im) 256 ≡ false = lt-leb (stateCount im) 256 (omega arith) in
-                  sym (rw (le-leb cats 8 h₁, le-leb count 128 h₂, long, long-right, same, some, a))
+                  let a : leb (stateCount im) mostStates ≡ false = lt-leb (stateCount im) mostStates (omega arith) in
+                  sym (rw (le-leb cats 8 h₁, le-leb count mostSymbols h₂, long, long-right, same, some, a))
 
-              pub form-states : {r : Bool} → n ≤ 256 → r ≡ allBelow (stateCount im) (stateFormedBy fits signals cats im) → r ≡ formBy fits sy count signals cats im
+              pub form-states : {r : Bool} → n ≤ mostStates → r ≡ allBelow (stateCount im) (stateFormedBy fits signals cats im)
+                  → r ≡ formBy fits sy count signals cats im
               unfolding formBy
               form-states h k =
-                  let a : leb (stateCount im) 256 ≡ true = le-leb (stateCount im) 256 (omega arith) in
-                  k ∙ sym (rw (le-leb cats 8 h₁, le-leb count 128 h₂, long, long-right, same, some, a))
+                  let a : leb (stateCount im) mostStates ≡ true = le-leb (stateCount im) mostStates (omega arith) in
+                  k ∙ sym (rw (le-leb cats 8 h₁, le-leb count mostSymbols h₂, long, long-right, same, some, a))
 
 -- an image of right form has at most 8 categories and 128 symbols
-pub form-few : (fits : ℕ → ℕ → ℕ → Bool) (sy : List ℕ) (count signals cats : ℕ) (im : List ℕ) {b : Bool} → b ≡ formBy fits sy count signals cats im → b ≡ true → (cats ≤ 8) × (count ≤ 128)
+pub form-few : (fits : ℕ → ℕ → ℕ → Bool) (sy : List ℕ) (count signals cats : ℕ) (im : List ℕ) {b : Bool}
+    → b ≡ formBy fits sy count signals cats im → b ≡ true → (cats ≤ 8) × (count ≤ mostSymbols)
 unfolding formBy
-form-few fits sy count signals cats im e h = go (leb cats 8) refl (leb count 128) refl
+form-few fits sy count signals cats im e h = go (leb cats 8) refl (leb count mostSymbols) refl
   where
-    go : (x : Bool) → leb cats 8 ≡ x → (y : Bool) → leb count 128 ≡ y → (cats ≤ 8) × (count ≤ 128)
-    go true f true g = (leb-true cats 8 f, leb-true count 128 g)
+    go : (x : Bool) → leb cats 8 ≡ x → (y : Bool) → leb count mostSymbols ≡ y → (cats ≤ 8) × (count ≤ mostSymbols)
+    go true f true g = (leb-true cats 8 f, leb-true count mostSymbols g)
     go true f false g = absurd (true≢false (sym h ∙ e ∙ rw (f, g)))
     go false f y g = absurd (true≢false (sym h ∙ e ∙ rw f))
 
 -- rows
-module _ (next : Packed → ℕ → Packed) (im : List ℕ) (cats j : ℕ) {i : ℕ} {p : Packed} (e : i ≡ placeOf cats im j) (f : p ≡ packedIn cats im j) (k : ℕ) {t : ℕ} {q : Packed} {b : Bool}
+module _ (next : Packed → ℕ → Packed) (im : List ℕ) (cats j : ℕ) {i : ℕ} {p : Packed} (e : i ≡ placeOf cats im j)
+    (f : p ≡ packedIn cats im j) (k : ℕ) {t : ℕ} {q : Packed} {b : Bool}
     (g : t ≡ getD im (i + 1 + cats + k) 0) (h : q ≡ next p k) (s : b ≡ samePacked (packedIn cats im t) q) where
   test-right : b ≡ targetRightBy next cats im j k
   unfolding targetRightBy
@@ -268,7 +269,8 @@ module _ (next : Packed → ℕ → Packed) (im : List ℕ) (cats j : ℕ) {i : 
   right-yes z = sym test-right ∙ z
 
 -- the checker, test by test
-module _ (fits : ℕ → ℕ → ℕ → Bool) (next : Packed → ℕ → Packed) (sy : List ℕ) (count signals cats : ℕ) (im : List ℕ) {b : Bool} (e : b ≡ formBy fits sy count signals cats im) where
+module _ (fits : ℕ → ℕ → ℕ → Bool) (next : Packed → ℕ → Packed) (sy : List ℕ) (count signals cats : ℕ) (im : List ℕ) {b : Bool}
+    (e : b ≡ formBy fits sy count signals cats im) where
   pub check-form : b ≡ false → 15 ≡ checkBy fits next sy count signals cats im
   unfolding checkBy
   check-form h = let a = sym e ∙ h in sym (rw a)

@@ -1,25 +1,26 @@
 -- The form of an image and the checker's number, over the arrays and numbers that stand for a table.
-use Prim.Native.Nat.{ℕ, zero, suc, _+_, _*_, _<_}
+use Prim.Native.Nat.{ℕ, _+_, _*_, _<_}
 use mathlib.Core.Path.{_≡_}
 use mathlib.Core.Bool.{Bool, cond, _&&_}
 use mathlib.Core.List.{List}
 use lib.Dec.{eqb, ltb, leb}
-use lib.ListN.{length, getD, take, drop}
-use Rattle.theory_resolution.specs.Lists.{allBelow}
+use lib.ListN.{length, take, drop}
+use Rattle.base_numbers.specs.Numbers.{imageBadForm, imageWrongStart, imageWrongTarget, mostCategories, mostStates, mostSymbols}
+use Rattle.base_lists.specs.Numbers.{wordOf}
+use Rattle.base_lists.specs.Lists.{allBelow}
 use Rattle.theory_resolution.specs.Names.{sameName}
 use Rattle.node_step.specs.StatusByte.{samePacked}
 use Rattle.node_step.specs.declared.stored.Packed.{Packed}
 use Rattle.machine_image.specs.Image.{symbolCount, stateCount, placeOf, signalIn, byteIn, targetIn}
 use Rattle.machine_symbols.specs.Steps.{begin, stateAt}
 
--- n bytes from i on in one number, the first lowest
-unfoldable pub packFrom : List ℕ → ℕ → ℕ → ℕ
-packFrom im i zero = 0
-packFrom im i (suc n) = getD im i 0 + 256 * packFrom im (suc i) n
+-- over where any byte of an image stands: with 255 symbols, 65,535 states and 8 categories it has 17,302,008 bytes
+abbrev pub imageBound : ℕ
+imageBound = 18000000
 
 -- state j of an image
 abbrev pub packedIn : ℕ → List ℕ → ℕ → Packed
-packedIn cats im j = record { signal = signalIn cats im j; statuses = packFrom im (placeOf cats im j + 1) cats }
+packedIn cats im j = record { signal = signalIn cats im j; statuses = wordOf im (placeOf cats im j + 1) cats }
 
 -- the first n states of an image, in the arrays
 pub record Read (cats : ℕ) (im signal statuses : List ℕ) (n : ℕ) : Type 0 where
@@ -42,13 +43,13 @@ stateFormedBy fits signals cats im j =
 
 unfoldable pub formBy : (ℕ → ℕ → ℕ → Bool) → List ℕ → ℕ → ℕ → ℕ → List ℕ → Bool
 formBy fits sy count signals cats im =
-    leb cats 8
-    && (leb count 128
+    leb cats mostCategories
+    && (leb count mostSymbols
     && (leb (3 + 3 * symbolCount im) (length im)
     && (eqb (length im) (placeOf cats im (stateCount im))
     && (sameName (take (3 * symbolCount im) (drop 1 im)) (take (3 * count) (drop 0 sy))
     && (leb 1 (stateCount im)
-    && (leb (stateCount im) 256
+    && (leb (stateCount im) mostStates
     && allBelow (stateCount im) (stateFormedBy fits signals cats im)))))))
 
 -- the target of state j for symbol k is the right state; so are all; and the checker's number
@@ -62,4 +63,4 @@ unfoldable pub checkBy : (ℕ → ℕ → ℕ → Bool) → (Packed → ℕ → 
 checkBy fits next sy count signals cats im =
     cond (formBy fits sy count signals cats im)
     (cond (samePacked (packedIn cats im 0) begin)
-    (cond (allBelow (stateCount im) (rowRightBy next count cats im)) 0 17) 16) 15
+    (cond (allBelow (stateCount im) (rowRightBy next count cats im)) 0 imageWrongTarget) imageWrongStart) imageBadForm

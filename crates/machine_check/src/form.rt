@@ -2,14 +2,21 @@
 use crate::image::at;
 use crate::image::place;
 use crate::image::state_count;
-use base_text::cut::byte;
-use base_text::cut::wide;
+use base_bytes::lent::byte;
+use base_bytes::numbers::wide;
+use base_numbers::MOST_CATEGORIES;
+use base_numbers::MOST_NODES;
+use base_numbers::MOST_SIGNALS;
+use base_numbers::MOST_STATES;
+use base_numbers::MOST_SYMBOL_BYTES;
+use base_numbers::MOST_SYMBOLS;
 ghost use mathlib.Core.Path.{_≡_};
 ghost use Prim.Native.Nat.{_≤_, _<_, max};
-ghost use Rattle.theory_resolution.specs.Lists.{allBelow};
+ghost use Rattle.base_numbers.specs.Numbers.{mostCategories, mostStates};
+ghost use Rattle.base_lists.specs.Lists.{allBelow};
 ghost use Rattle.node_step.specs.StatusByte.{fitsBy};
 ghost use Rattle.machine_image.specs.Image.{symbolCount, stateCount, placeOf, signalIn};
-ghost use Rattle.machine_check.specs.Checks.{statusFormedBy, belowBy, stateFormedBy, formBy};
+ghost use Rattle.machine_check.specs.Checks.{statusFormedBy, belowBy, stateFormedBy, formBy, imageBound};
 
 // The larger one.
 fn larger(a: u8, b: u8) -> u8
@@ -24,10 +31,10 @@ fn larger(a: u8, b: u8) -> u8
 // The targets of state j are states: with 256 states every byte is one, else the largest target tells.
 // The loop has no way out in the middle, so that the compiler can read many bytes at a time.
 fn targets_below(im: &[u8], categories: usize, n: usize, j: usize) -> bool
-    requires { ⌜ (categories ≤ 8) × (j < n) × (n ≤ 256) × (n ≡ stateCount (now im)) ⌝ }
+    requires { ⌜ (categories ≤ mostCategories) × (j < n) × (n ≤ mostStates) × (n ≡ stateCount (now im)) ⌝ }
     ensures { λ r. ⌜ r ≡ allBelow (symbolCount (now (im .entry))) (belowBy categories (now (im .entry)) j) ⌝ }
 {
-    if 256 <= n {
+    if MOST_STATES <= n {
         return true;
     }
     let m = at(im, 0);
@@ -44,10 +51,10 @@ fn targets_below(im: &[u8], categories: usize, n: usize, j: usize) -> bool
 
 // The bytes of the categories in state j, from i on, are ones that they can have at signal s.
 fn statuses_formed<'a>(
-    rows: &'a [u64; 32],
-    parents: &'a [u8; 64],
-    inner: &'a [bool; 64],
-    category: &'a [u8; 64],
+    rows: &'a [u64; MOST_SIGNALS],
+    parents: &'a [u8; MOST_NODES],
+    inner: &'a [bool; MOST_NODES],
+    category: &'a [u8; MOST_NODES],
     nodes: usize,
     categories: usize,
     im: &[u8],
@@ -55,7 +62,7 @@ fn statuses_formed<'a>(
     s: u8,
     j: usize,
 ) -> bool
-    requires { ⌜ (categories ≤ 8) × (i < 18000000) × (i ≡ placeOf categories (now im) j) × (s ≡ signalIn categories (now im) j) ⌝ }
+    requires { ⌜ (categories ≤ mostCategories) × (i < imageBound) × (i ≡ placeOf categories (now im) j) × (s ≡ signalIn categories (now im) j) ⌝ }
     ensures { λ r. ⌜ r ≡ allBelow categories (statusFormedBy (fitsBy (now (rows .entry)) (now (parents .entry)) (now (inner .entry)) (now (category .entry)) nodes) categories (now (im .entry)) j) ⌝ }
 {
     let mut c = 0;
@@ -70,10 +77,10 @@ fn statuses_formed<'a>(
 }
 
 fn state_formed<'a>(
-    rows: &'a [u64; 32],
-    parents: &'a [u8; 64],
-    inner: &'a [bool; 64],
-    category: &'a [u8; 64],
+    rows: &'a [u64; MOST_SIGNALS],
+    parents: &'a [u8; MOST_NODES],
+    inner: &'a [bool; MOST_NODES],
+    category: &'a [u8; MOST_NODES],
     nodes: usize,
     signals: usize,
     categories: usize,
@@ -81,7 +88,7 @@ fn state_formed<'a>(
     n: usize,
     j: usize,
 ) -> bool
-    requires { ⌜ (categories ≤ 8) × (j < n) × (n ≤ 256) × (n ≡ stateCount (now im)) ⌝ }
+    requires { ⌜ (categories ≤ mostCategories) × (j < n) × (n ≤ mostStates) × (n ≡ stateCount (now im)) ⌝ }
     ensures { λ r. ⌜ r ≡ stateFormedBy (fitsBy (now (rows .entry)) (now (parents .entry)) (now (inner .entry)) (now (category .entry)) nodes) signals categories (now (im .entry)) j ⌝ }
 {
     let i = place(im, categories, j);
@@ -107,17 +114,17 @@ fn state_formed<'a>(
 }
 
 fn states_formed<'a>(
-    rows: &'a [u64; 32],
-    parents: &'a [u8; 64],
-    inner: &'a [bool; 64],
-    category: &'a [u8; 64],
+    rows: &'a [u64; MOST_SIGNALS],
+    parents: &'a [u8; MOST_NODES],
+    inner: &'a [bool; MOST_NODES],
+    category: &'a [u8; MOST_NODES],
     nodes: usize,
     signals: usize,
     categories: usize,
     im: &[u8],
     n: usize,
 ) -> bool
-    requires { ⌜ (categories ≤ 8) × (n ≤ 256) × (n ≡ stateCount (now im)) ⌝ }
+    requires { ⌜ (categories ≤ mostCategories) × (n ≤ mostStates) × (n ≡ stateCount (now im)) ⌝ }
     ensures { λ r. ⌜ r ≡ allBelow (stateCount (now (im .entry))) (stateFormedBy (fitsBy (now (rows .entry)) (now (parents .entry)) (now (inner .entry)) (now (category .entry)) nodes) signals categories (now (im .entry))) ⌝ }
 {
     let mut j = 0;
@@ -144,12 +151,12 @@ fn states_formed<'a>(
 // The image has the form of a machine with these symbols, over so many signals and categories, and the places, parents,
 // inner and categories of these nodes.
 pub fn formed<'a>(
-    rows: &'a [u64; 32],
-    parents: &'a [u8; 64],
-    inner: &'a [bool; 64],
-    category: &'a [u8; 64],
+    rows: &'a [u64; MOST_SIGNALS],
+    parents: &'a [u8; MOST_NODES],
+    inner: &'a [bool; MOST_NODES],
+    category: &'a [u8; MOST_NODES],
     nodes: usize,
-    symbols: &[u8; 384],
+    symbols: &[u8; MOST_SYMBOL_BYTES],
     count: usize,
     signals: usize,
     categories: usize,
@@ -157,10 +164,10 @@ pub fn formed<'a>(
 ) -> bool
     ensures { λ r. ⌜ r ≡ formBy (fitsBy (now (rows .entry)) (now (parents .entry)) (now (inner .entry)) (now (category .entry)) nodes) (now (symbols .entry)) count signals categories (now (im .entry)) ⌝ }
 {
-    if 8 < categories {
+    if MOST_CATEGORIES < categories {
         return false;
     }
-    if 128 < count {
+    if MOST_SYMBOLS < count {
         return false;
     }
     let m = at(im, 0);
@@ -179,7 +186,7 @@ pub fn formed<'a>(
     if n < 1 {
         return false;
     }
-    if 256 < n {
+    if MOST_STATES < n {
         return false;
     }
     states_formed(

@@ -1,12 +1,15 @@
 // Reading an image, wherever its bytes come from: past its end every byte is 0.
-use base_text::cut::byte;
-use base_text::cut::wide;
+use base_bytes::lent::byte;
+use base_bytes::numbers::wide;
+use base_numbers::MOST_CATEGORIES;
 use node_step::stored::Packed;
 ghost use mathlib.Core.Path.{_≡_};
 ghost use Prim.Native.Nat.{_≤_, _<_, min};
 ghost use lib.ListN.{getD};
+ghost use Rattle.base_numbers.specs.Numbers.{mostCategories};
+ghost use Rattle.base_lists.specs.Numbers.{wordOf};
 ghost use Rattle.machine_image.specs.Image.{stateCount, placeOf, signalIn, targetIn};
-ghost use Rattle.machine_check.specs.Checks.{packFrom, packedIn};
+ghost use Rattle.machine_check.specs.Checks.{packedIn, imageBound};
 
 // The byte at i as an index, 0 past the end.
 pub(crate) fn at(im: &[u8], i: usize) -> usize
@@ -27,8 +30,8 @@ pub(crate) fn state_count(im: &[u8]) -> usize
 
 // Where state j begins.
 pub(crate) fn place(im: &[u8], categories: usize, j: usize) -> usize
-    requires { ⌜ (categories ≤ 8) × (j < 65536) ⌝ }
-    ensures { λ r. ⌜ (r ≡ placeOf categories (now (im .entry)) j) × (r < 18000000) ⌝ }
+    requires { ⌜ (categories ≤ mostCategories) × (j < 65536) ⌝ }
+    ensures { λ r. ⌜ (r ≡ placeOf categories (now (im .entry)) j) × (r < imageBound) ⌝ }
 {
     let m = at(im, 0);
     3 + 3 * m + j * (m + categories + 1)
@@ -36,8 +39,8 @@ pub(crate) fn place(im: &[u8], categories: usize, j: usize) -> usize
 
 // The n bytes from i on in one number, the first lowest.
 fn packed_at(im: &[u8], i: usize, n: usize) -> u64
-    requires { ⌜ (n ≤ 8) × (i < 18000001) ⌝ }
-    ensures { λ r. ⌜ r ≡ packFrom (now (im .entry)) i n ⌝ }
+    requires { ⌜ (n ≤ mostCategories) × (i ≤ imageBound) ⌝ }
+    ensures { λ r. ⌜ r ≡ wordOf (now (im .entry)) i n ⌝ }
 {
     let mut x: u64 = 0;
     let mut c = n;
@@ -51,7 +54,7 @@ fn packed_at(im: &[u8], i: usize, n: usize) -> u64
 
 // State j.
 pub(crate) fn state(im: &[u8], categories: usize, j: usize) -> Packed
-    requires { ⌜ (categories ≤ 8) × (j < 65536) ⌝ }
+    requires { ⌜ (categories ≤ mostCategories) × (j < 65536) ⌝ }
     ensures { λ r. ⌜ r ≡ packedIn categories (now (im .entry)) j ⌝ }
 {
     let i = place(im, categories, j);
@@ -62,9 +65,9 @@ pub(crate) fn state(im: &[u8], categories: usize, j: usize) -> Packed
 
 // The target of state j for symbol k.
 pub fn target(im: &[u8], categories: usize, j: u8, k: u8) -> u8
-    ensures { λ r. ⌜ r ≡ targetIn (min categories 8) (now (im .entry)) j k ⌝ }
+    ensures { λ r. ⌜ r ≡ targetIn (min categories mostCategories) (now (im .entry)) j k ⌝ }
 {
-    let cats = base_text::compare::at_most(categories, 8);
+    let cats = base_bytes::numbers::at_most(categories, MOST_CATEGORIES);
     let state = wide(j);
     let symbol = wide(k);
     let i = place(im, cats, state) + 1 + cats;
@@ -73,9 +76,9 @@ pub fn target(im: &[u8], categories: usize, j: u8, k: u8) -> u8
 
 // The signal of state j.
 pub fn signal(im: &[u8], categories: usize, j: u8) -> u8
-    ensures { λ r. ⌜ r ≡ signalIn (min categories 8) (now (im .entry)) j ⌝ }
+    ensures { λ r. ⌜ r ≡ signalIn (min categories mostCategories) (now (im .entry)) j ⌝ }
 {
-    let cats = base_text::compare::at_most(categories, 8);
+    let cats = base_bytes::numbers::at_most(categories, MOST_CATEGORIES);
     let state = wide(j);
     let i = place(im, cats, state);
     byte(im, i)

@@ -9,6 +9,12 @@ pub mod form;
 pub mod image;
 mod rows;
 
+use base_numbers::IMAGE_BAD_FORM;
+use base_numbers::IMAGE_WRONG_START;
+use base_numbers::IMAGE_WRONG_TARGET;
+use base_numbers::MOST_NODES;
+use base_numbers::MOST_SIGNALS;
+use base_numbers::MOST_SYMBOL_BYTES;
 use node_step::stored::Packed;
 use node_step::stored::same;
 ghost use mathlib.Core.Path.{_≡_};
@@ -18,14 +24,14 @@ ghost use Rattle.machine_check.specs.Checks.{checkBy};
 
 // 0 if the image is a right machine of a table whose places, parents, inner and symbols these are, else 15 to 17.
 pub fn check_by<'a>(
-    rows: &'a [u64; 32],
-    parents: &'a [u8; 64],
-    inner: &'a [bool; 64],
-    category: &'a [u8; 64],
+    rows: &'a [u64; MOST_SIGNALS],
+    parents: &'a [u8; MOST_NODES],
+    inner: &'a [bool; MOST_NODES],
+    category: &'a [u8; MOST_NODES],
     nodes: usize,
     signals: usize,
     categories: usize,
-    symbols: &[u8; 384],
+    symbols: &[u8; MOST_SYMBOL_BYTES],
     count: usize,
     im: &[u8],
 ) -> u8
@@ -43,7 +49,7 @@ pub fn check_by<'a>(
         categories,
         im,
     ) {
-        return 15;
+        return IMAGE_BAD_FORM;
     }
     let begin = Packed {
         signal: 0,
@@ -51,7 +57,7 @@ pub fn check_by<'a>(
     };
     let first = image::state(im, categories, 0);
     if !same(first, begin) {
-        return 16;
+        return IMAGE_WRONG_START;
     }
     let n = image::state_count(im);
     if !rows::rows_right(
@@ -65,7 +71,7 @@ pub fn check_by<'a>(
         im,
         n,
     ) {
-        return 17;
+        return IMAGE_WRONG_TARGET;
     }
     0
 }

@@ -2,13 +2,18 @@
 use crate::image::at;
 use crate::image::place;
 use crate::image::state;
+use base_numbers::MOST_NODES;
+use base_numbers::MOST_SIGNALS;
+use base_numbers::MOST_STATES;
+use base_numbers::MOST_SYMBOL_BYTES;
 use machine_symbols::steps::next;
 use node_step::stored::Packed;
 use node_step::stored::same;
 ghost use mathlib.Core.Path.{_≡_};
 ghost use Prim.Native.Nat.{_≤_, _<_};
 ghost use lib.ListN.{length};
-ghost use Rattle.theory_resolution.specs.Lists.{allBelow};
+ghost use Rattle.base_numbers.specs.Numbers.{mostCategories, mostStates, mostSymbols};
+ghost use Rattle.base_lists.specs.Lists.{allBelow};
 ghost use Rattle.node_step.specs.StatusByte.{samePacked};
 ghost use Rattle.machine_symbols.specs.Steps.{nextState};
 ghost use Rattle.machine_check.specs.Checks.{packedIn, Read, rowRightBy};
@@ -18,10 +23,10 @@ fn read_states(
     im: &[u8],
     categories: usize,
     n: usize,
-    signal: &mut [u8; 256],
-    statuses: &mut [u64; 256],
+    signal: &mut [u8; MOST_STATES],
+    statuses: &mut [u64; MOST_STATES],
 )
-    requires { ⌜ (categories ≤ 8) × (n ≤ 256) × (length (now signal) ≡ 256) × (length (now statuses) ≡ 256) ⌝ }
+    requires { ⌜ (categories ≤ mostCategories) × (n ≤ mostStates) × (length (now signal) ≡ mostStates) × (length (now statuses) ≡ mostStates) ⌝ }
     ensures { λ _. ⌜ Read categories (now (im .entry)) (now (signal .exit)) (now (statuses .exit)) n ⌝ }
 {
     let mut j = 0;
@@ -37,13 +42,13 @@ fn read_states(
 fn is_right(
     im: &[u8],
     categories: usize,
-    signal: &[u8; 256],
-    statuses: &[u64; 256],
+    signal: &[u8; MOST_STATES],
+    statuses: &[u64; MOST_STATES],
     n: usize,
     j: usize,
     st: Packed,
 ) -> bool
-    requires { ⌜ (categories ≤ 8) × (n ≤ 256) × (j < 65536) × Read categories (now im) (now signal) (now statuses) n ⌝ }
+    requires { ⌜ (categories ≤ mostCategories) × (n ≤ mostStates) × (j < 65536) × Read categories (now im) (now signal) (now statuses) n ⌝ }
     ensures { λ r. ⌜ r ≡ samePacked (packedIn categories (now (im .entry)) j) st ⌝ }
 {
     if j < n {
@@ -59,20 +64,20 @@ fn is_right(
 
 // The targets of state j are the right states.
 fn row_right<'a>(
-    rows: &'a [u64; 32],
-    parents: &'a [u8; 64],
-    inner: &'a [bool; 64],
+    rows: &'a [u64; MOST_SIGNALS],
+    parents: &'a [u8; MOST_NODES],
+    inner: &'a [bool; MOST_NODES],
     signals: usize,
     categories: usize,
-    symbols: &[u8; 384],
+    symbols: &[u8; MOST_SYMBOL_BYTES],
     count: usize,
     im: &[u8],
-    signal: &[u8; 256],
-    statuses: &[u64; 256],
+    signal: &[u8; MOST_STATES],
+    statuses: &[u64; MOST_STATES],
     n: usize,
     j: usize,
 ) -> bool
-    requires { ⌜ (categories ≤ 8) × (count ≤ 128) × (n ≤ 256) × (j < 65536) × Read categories (now im) (now signal) (now statuses) n ⌝ }
+    requires { ⌜ (categories ≤ mostCategories) × (count ≤ mostSymbols) × (n ≤ mostStates) × (j < 65536) × Read categories (now im) (now signal) (now statuses) n ⌝ }
     ensures { λ r. ⌜ r ≡ rowRightBy (nextState (now (rows .entry)) (now (parents .entry)) (now (inner .entry)) signals (now (symbols .entry))) count categories (now (im .entry)) j ⌝ }
 {
     let i = place(im, categories, j) + 1 + categories;
@@ -90,22 +95,22 @@ fn row_right<'a>(
 }
 
 pub(crate) fn rows_right<'a>(
-    rows: &'a [u64; 32],
-    parents: &'a [u8; 64],
-    inner: &'a [bool; 64],
+    rows: &'a [u64; MOST_SIGNALS],
+    parents: &'a [u8; MOST_NODES],
+    inner: &'a [bool; MOST_NODES],
     signals: usize,
     categories: usize,
-    symbols: &[u8; 384],
+    symbols: &[u8; MOST_SYMBOL_BYTES],
     count: usize,
     im: &[u8],
     n: usize,
 ) -> bool
-    requires { ⌜ (categories ≤ 8) × (count ≤ 128) × (n < 65536) ⌝ }
+    requires { ⌜ (categories ≤ mostCategories) × (count ≤ mostSymbols) × (n < 65536) ⌝ }
     ensures { λ r. ⌜ r ≡ allBelow n (rowRightBy (nextState (now (rows .entry)) (now (parents .entry)) (now (inner .entry)) signals (now (symbols .entry))) count categories (now (im .entry))) ⌝ }
 {
-    let mut signal = [0u8; 256];
-    let mut statuses = [0u64; 256];
-    let read = base_text::compare::at_most(n, 256);
+    let mut signal = [0u8; MOST_STATES];
+    let mut statuses = [0u64; MOST_STATES];
+    let read = base_bytes::numbers::at_most(n, MOST_STATES);
     read_states(im, categories, read, &mut signal, &mut statuses);
     let mut from = 0;
     while from < n {

@@ -5,19 +5,22 @@ use mathlib.Core.Option.{none, some}
 use mathlib.Core.List.{List, [], _∷_, _++_, foldl-append}
 use lib.ListN.{length, getD, List·getD-append}
 use native.Mathlib.Omega.{arith}
+use Rattle.base_lists.proofs.Each.{each-at}
+use Rattle.base_lists.specs.Lists.{each}
 use Rattle.theory_resolution.specs.Table.{Table}
 use Rattle.theory_resolution.specs.Direct.{Open, stepUri}
 use Rattle.theory_resolution.specs.Nodes.{nodes}
 use Rattle.theory_resolution.specs.Symbols.{other, symbols, symbolAt}
 use Rattle.theory_resolution.specs.Machine.{Machine, machineState, target}
-use Rattle.machine_image.specs.Image.{joined, kindOf, symbolBytes, storedSymbols, statusByte, stateBytes, imageOf, symbolCount, machineIn}
+use Rattle.machine_image.specs.Image.{kindOf, symbolBytes, storedSymbols, statusByte, stateBytes, imageOf, symbolCount, machineIn}
 use Rattle.machine_image.specs.Storable.{Storable}
 use Rattle.machine_image.specs.Refusals.{formOf}
 use Rattle.machine_image.specs.Walk.{stepIn}
 use Rattle.machine_image.specs.Positions.{LayoutLaw, ByteLaw, ImageWalkLaw, FormLaw, CheckLaw}
-use Rattle.machine_image.proofs.Joined.{joined-at, stored-length}
+use Rattle.machine_image.proofs.Joined.{stored-length}
 use Rattle.machine_image.proofs.Statuses.{byte-told}
-use Rattle.machine_image.proofs.Stored.{image-parts, image-symbols, image-low, image-high, state-byte, image-byte, image-target, image-machine, image-length, image-formed}
+use Rattle.machine_image.proofs.Stored.{image-parts, image-symbols, image-low, image-high, state-byte, image-byte, image-target, image-machine}
+use Rattle.machine_image.proofs.Stored.{image-length, image-formed}
 use Rattle.machine_image.proofs.Form.{form-to, form-of}
 use Rattle.machine_image.proofs.Check.{check-of, check-form, check-start, check-rows}
 use Rattle.machine_image.proofs.Read.{machine-storable, image-again}
@@ -27,9 +30,9 @@ symbol-byte : (T : Table) (m : Machine) (k i : ℕ) → k < length (symbols T) �
     → getD (imageOf T m) (suc i + 3 * k) 0 ≡ getD (symbolBytes (nodes T) (symbolAt T k)) i 0
 symbol-byte T m k i h b =
     ap (λ l. getD l (suc i + 3 * k) 0) (image-parts T m)
-    ∙ ap (λ n. getD (front ++ length m % 256 ∷ length m / 256 ∷ joined (stateBytes (nodes T)) m) n 0) place
-    ∙ List·getD-append (storedSymbols T) (length m % 256 ∷ length m / 256 ∷ joined (stateBytes (nodes T)) m) 0 (k * 3 + i) (omega (arith, stored-length T))
-    ∙ joined-at (symbolBytes (nodes T)) 3 (other 0 []) (symbols T) (λ j n. refl) k i h b
+    ∙ ap (λ n. getD (front ++ length m % 256 ∷ length m / 256 ∷ each (stateBytes (nodes T)) m) n 0) place
+    ∙ List·getD-append (storedSymbols T) (length m % 256 ∷ length m / 256 ∷ each (stateBytes (nodes T)) m) 0 (k * 3 + i) (omega (arith, stored-length T))
+    ∙ each-at (symbolBytes (nodes T)) 3 (other 0 []) (symbols T) (λ j n. refl) k i h b
   where
     front : List ℕ
     front = length (symbols T) ∷ storedSymbols T
@@ -63,7 +66,8 @@ layout-law T m ok =
     counted f = at (ap f (sym (image-symbols T m)))
 
     status : (j c : ℕ) → j < length m → c < T .cats
-        → getD (imageOf T m) (4 + 3 * length (symbols T) + j * (length (symbols T) + T .cats + 1) + c) 0 ≡ statusByte (nodes T) c (getD (machineState m j .pair .status) c Open)
+        → getD (imageOf T m) (4 + 3 * length (symbols T) + j * (length (symbols T) + T .cats + 1) + c) 0
+        ≡ statusByte (nodes T) c (getD (machineState m j .pair .status) c Open)
     status j c h i = at (omega arith) ∙ counted (λ n. 3 + 3 * n + j * (n + T .cats + 1) + 1 + c) ∙ image-byte T m ok j c h i
 
     target-at : (j k : ℕ) → j < length m → k < length (symbols T)

@@ -8,16 +8,19 @@ use lib.ListN.{length, getD, take, drop, length-append, List·getD-append}
 use lib.Seq.{getD-at, getD-append-add, take-at}
 use native.Mathlib.Nat.{zero-add}
 use native.Mathlib.Omega.{arith}
-use Rattle.theory_resolution.specs.Lists.{tabulate}
+use Rattle.base_lists.proofs.Tabulated.{tabulate-entries}
+use Rattle.base_lists.proofs.Each.{each-length, each-at}
+use Rattle.base_lists.specs.Lists.{tabulate, each}
 use Rattle.theory_resolution.specs.Table.{Table, place}
 use Rattle.theory_resolution.specs.Direct.{Open}
 use Rattle.theory_resolution.specs.Nodes.{nodes}
 use Rattle.theory_resolution.specs.Symbols.{symbols}
 use Rattle.theory_resolution.specs.Machine.{Machine, blank, machineState, target, signalAt}
-use Rattle.machine_image.specs.Image.{joined, storedSymbols, statusByte, statusBytes, stateBytes, imageOf, symbolCount, stateCount, signalIn, byteIn, targetIn, statusOf, statusIn, stateIn, machineIn}
+use Rattle.machine_image.specs.Image.{storedSymbols, statusByte, statusBytes, stateBytes, imageOf, symbolCount, stateCount, signalIn, byteIn}
+use Rattle.machine_image.specs.Image.{targetIn, statusOf, statusIn, stateIn, machineIn}
 use Rattle.machine_image.specs.Refusals.{statusFormed}
 use Rattle.machine_image.specs.Storable.{Storable}
-use Rattle.machine_image.proofs.Joined.{joined-length, joined-at, stored-length, tabulate-entries}
+use Rattle.machine_image.proofs.Joined.{stored-length}
 use Rattle.machine_image.proofs.Statuses.{bytes-length, bytes-at, status-read, status-formed}
 use Rattle.machine_image.proofs.Form.{Formed}
 
@@ -29,9 +32,9 @@ module _ (T : Table) (m : Machine) where
   abbrev front : List ℕ
   front = count ∷ storedSymbols T
 
-  pub image-parts : imageOf T m ≡ front ++ length m % 256 ∷ length m / 256 ∷ joined (stateBytes (nodes T)) m
+  pub image-parts : imageOf T m ≡ front ++ length m % 256 ∷ length m / 256 ∷ each (stateBytes (nodes T)) m
   unfolding imageOf
-  image-parts = append-assoc front (length m % 256 ∷ length m / 256 ∷ []) (joined (stateBytes (nodes T)) m)
+  image-parts = append-assoc front (length m % 256 ∷ length m / 256 ∷ []) (each (stateBytes (nodes T)) m)
 
   front-length : length front ≡ 3 * count + 1
   front-length = omega (arith, stored-length T)
@@ -42,10 +45,10 @@ module _ (T : Table) (m : Machine) where
 
   -- the state count, its low byte first
   pub image-low : getD (imageOf T m) (3 * count + 1) 0 ≡ length m % 256
-  image-low = rw image-parts (getD-at front (length m % 256) (length m / 256 ∷ joined (stateBytes (nodes T)) m) 0 (3 * count + 1) front-length)
+  image-low = rw image-parts (getD-at front (length m % 256) (length m / 256 ∷ each (stateBytes (nodes T)) m) 0 (3 * count + 1) front-length)
 
   pub image-high : getD (imageOf T m) (3 * count + 2) 0 ≡ length m / 256
-  image-high = rw (image-parts, place) (getD-append-add front (length m % 256 ∷ length m / 256 ∷ joined (stateBytes (nodes T)) m) 1 0)
+  image-high = rw (image-parts, place) (getD-append-add front (length m % 256 ∷ length m / 256 ∷ each (stateBytes (nodes T)) m) 1 0)
     where
       place : 3 * count + 2 ≡ length front + 1
       place = omega (arith, front-length)
@@ -54,8 +57,8 @@ module _ (T : Table) (m : Machine) where
   image-states = rw image-symbols (omega (arith, image-low, image-high))
 
   -- byte i after the state count
-  rows-at : (i : ℕ) → getD (imageOf T m) (3 + 3 * count + i) 0 ≡ getD (joined (stateBytes (nodes T)) m) i 0
-  rows-at i = rw (image-parts, place) (getD-append-add front (length m % 256 ∷ length m / 256 ∷ joined (stateBytes (nodes T)) m) (suc (suc i)) 0)
+  rows-at : (i : ℕ) → getD (imageOf T m) (3 + 3 * count + i) 0 ≡ getD (each (stateBytes (nodes T)) m) i 0
+  rows-at i = rw (image-parts, place) (getD-append-add front (length m % 256 ∷ length m / 256 ∷ each (stateBytes (nodes T)) m) (suc (suc i)) 0)
     where
       place : 3 + 3 * count + i ≡ length front + suc (suc i)
       place = omega (arith, front-length)
@@ -80,7 +83,7 @@ module _ (T : Table) (m : Machine) (ok : Storable T m) where
       → getD (imageOf T m) (3 + 3 * count T m + (j * width + k)) 0 ≡ getD (stateBytes (nodes T) (machineState m j)) k 0
   state-byte j k h i =
       rows-at T m (j * width + k)
-      ∙ joined-at (stateBytes (nodes T)) width blank m state-width j k h i
+      ∙ each-at (stateBytes (nodes T)) width blank m state-width j k h i
 
   pub image-signal : (j : ℕ) → j < length m → signalIn (T .cats) (imageOf T m) j ≡ signalAt m j
   image-signal j h = rw (image-symbols T m, at-place) (state-byte j 0 h (omega arith))
@@ -88,10 +91,15 @@ module _ (T : Table) (m : Machine) (ok : Storable T m) where
       at-place : 3 + 3 * count T m + j * width ≡ 3 + 3 * count T m + (j * width + 0)
       at-place = omega arith
 
-  pub image-byte : (j c : ℕ) → j < length m → c < T .cats → byteIn (T .cats) (imageOf T m) j c ≡ statusByte (nodes T) c (getD (machineState m j .pair .status) c Open)
+  pub image-byte : (j c : ℕ) → j < length m → c < T .cats → byteIn (T .cats) (imageOf T m) j c
+      ≡ statusByte (nodes T) c (getD (machineState m j .pair .status) c Open)
   image-byte j c h i =
       rw (image-symbols T m, at-place) (state-byte j (suc c) h (omega arith))
-      ∙ List·getD-append (statusBytes (nodes T) 0 (machineState m j .pair .status)) (machineState m j .row) 0 c (omega (arith, bytes-length (nodes T) 0 (machineState m j .pair .status), ok .status-length j h))
+      ∙ List·getD-append (statusBytes (nodes T) 0 (machineState m j .pair .status)) (machineState m j .row) 0 c (omega (
+        arith,
+        bytes-length (nodes T) 0 (machineState m j .pair .status),
+        ok .status-length j h,
+      ))
       ∙ bytes-at (nodes T) 0 (machineState m j .pair .status) c (omega (arith, ok .status-length j h))
       ∙ ap (λ z. statusByte (nodes T) z (getD (machineState m j .pair .status) c Open)) (zero-add c)
     where
@@ -116,7 +124,8 @@ module _ (T : Table) (m : Machine) (ok : Storable T m) where
       status : tabulate (statusIn T (imageOf T m) j) (T .cats) ≡ machineState m j .pair .status
       status =
           tabulate-entries Open (machineState m j .pair .status) (statusIn T (imageOf T m) j) (T .cats) (ok .status-length j h)
-          (λ c i. ap (statusOf (nodes T)) (image-byte j c h i) ∙ status-read T c (place T (signalAt m j) c) (getD (machineState m j .pair .status) c Open) (ok .status-fits j c h i))
+          (λ c i. ap (statusOf (nodes T)) (image-byte j c h i) ∙ status-read T c (place T (signalAt m j) c)
+          (getD (machineState m j .pair .status) c Open) (ok .status-fits j c h i))
 
       row : tabulate (targetIn (T .cats) (imageOf T m) j) (symbolCount (imageOf T m)) ≡ machineState m j .row
       row =
@@ -133,14 +142,14 @@ module _ (T : Table) (m : Machine) (ok : Storable T m) where
   pub image-length : length (imageOf T m) ≡ 3 + 3 * count T m + length m * width
   image-length =
       rw (image-parts T m)
-      (omega (arith, length-append (front T m) (length m % 256 ∷ length m / 256 ∷ joined (stateBytes (nodes T)) m), front-length T m, rows))
+      (omega (arith, length-append (front T m) (length m % 256 ∷ length m / 256 ∷ each (stateBytes (nodes T)) m), front-length T m, rows))
     where
-      rows : length (joined (stateBytes (nodes T)) m) ≡ length m * width
-      rows = joined-length (stateBytes (nodes T)) width blank m state-width
+      rows : length (each (stateBytes (nodes T)) m) ≡ length m * width
+      rows = each-length (stateBytes (nodes T)) width blank m state-width
 
   at : (j : ℕ) → j < length m
       → (signalIn (T .cats) (imageOf T m) j < length (T .signals))
-      × ((c : ℕ) → c < T .cats → statusFormed T (imageOf T m) j c ≡ true)
+      × ((c : ℕ) → c < T .cats → statusFormed (T .cats) T (imageOf T m) j c ≡ true)
       × ((k : ℕ) → k < count T m → targetIn (T .cats) (imageOf T m) j k < length m)
   at j h = (
     rw (image-signal j h) (ok .signal-listed j h),
@@ -154,7 +163,7 @@ module _ (T : Table) (m : Machine) (ok : Storable T m) where
   same-symbols =
       rw (image-symbols T m)
       (ap (λ l. take (3 * count T m) (drop 1 l)) (image-parts T m)
-      ∙ take-at (storedSymbols T) (length m % 256 ∷ length m / 256 ∷ joined (stateBytes (nodes T)) m) (3 * count T m) (stored-length T))
+      ∙ take-at (storedSymbols T) (length m % 256 ∷ length m / 256 ∷ each (stateBytes (nodes T)) m) (3 * count T m) (stored-length T))
 
   -- the image's form is right
   pub image-formed : Formed T (imageOf T m)

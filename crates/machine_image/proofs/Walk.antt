@@ -5,13 +5,13 @@ use mathlib.Core.Path.{_≡_, refl, sym, ap, _∙_}
 use mathlib.Core.Option.{Option, none, some}
 use mathlib.Core.List.{List, [], _∷_, _++_, foldl, List·Memᴰ·head, List·Memᴰ·tail, Memᴰ·append-left}
 use lib.ListN.{getD}
+use Rattle.base_lists.proofs.Tabulated.{tabulate-at}
 use Rattle.theory_resolution.specs.Table.{Urn, Table, WellFormed}
 use Rattle.theory_resolution.specs.Direct.{Used, usedOf, AllUsed, stepUri, changes}
 use Rattle.theory_resolution.specs.Nodes.{nodes}
 use Rattle.theory_resolution.specs.Symbols.{symbols, symbolOf, symbolIndex}
 use Rattle.theory_resolution.specs.Machine.{blank, machineState, target, walkStep, walk, signalAt}
 use Rattle.theory_resolution.specs.Claim.{Claim}
-use Rattle.theory_resolution.proofs.Lists.{tabulate-at}
 use Rattle.theory_resolution.proofs.Symbols.{symbol-at-index}
 use Rattle.theory_resolution.proofs.Claim.{used-append, claim}
 use Rattle.machine_image.specs.Image.{symbolCount, stateCount, signalIn, targetIn, stateIn, machineIn}

@@ -30,7 +30,7 @@ pub record LayoutLaw (T : Table) (m : Machine) : Type 0 where
   -- the state count, its low byte first
   pub low-byte : getD (imageOf T m) (1 + 3 * length (symbols T)) 0 ≡ length m % 256
   pub high-byte : getD (imageOf T m) (2 + 3 * length (symbols T)) 0 ≡ length m / 256
-  -- state j: its signal, one byte for each category (0 open, 1 shut, 1 + n held at node n), and one target for each symbol
+  -- state j: first its signal, then the byte of each category, then the target for each symbol
   pub signal : (j : ℕ) → j < length m → getD (imageOf T m) (3 + 3 * length (symbols T) + j * (length (symbols T) + T .cats + 1)) 0 ≡ signalAt m j
   pub open-byte : (j c : ℕ) → j < length m → c < T .cats → getD (machineState m j .pair .status) c Open ≡ Open
       → getD (imageOf T m) (4 + 3 * length (symbols T) + j * (length (symbols T) + T .cats + 1) + c) 0 ≡ 0

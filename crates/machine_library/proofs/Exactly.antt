@@ -9,6 +9,8 @@ use lib.ListN.{length}
 use borrow.Author.Tests.{eq-eqb, ne-eqb, eqb-true, eqb-false}
 use native.Mathlib.Decide.{decLt}
 use native.Mathlib.Omega.{arith}
+use Rattle.base_numbers.specs.Numbers.{mostStates}
+use Rattle.base_bytes.specs.Built.{refused}
 use Rattle.theory_resolution.specs.Table.{Table}
 use Rattle.theory_resolution.specs.Build.{discovered, ReachableOver}
 use Rattle.theory_resolution.proofs.Theorems.{build-law}
@@ -17,30 +19,30 @@ use Rattle.machine_image.specs.Refusals.{buildRefusal}
 use Rattle.machine_image.proofs.Build.{build-over, build-short, build-fits}
 use Rattle.table_decode.specs.Tables.{tableOf, tableRefusal}
 use Rattle.table_decode.proofs.RefusalNumbers.{refusal-numbers}
-use Rattle.machine_build.specs.Built.{refused, builtOf}
+use Rattle.machine_build.specs.Built.{builtOf}
 use Rattle.machine_library.specs.Built.{builtFrom}
 use Rattle.machine_library.specs.Claims.{TooManyStates, ExactlyClaim}
 
 -- how the build of a table's machine comes out
 data Out (T : Table) (room : ℕ) : Type 0 where
-  over : ReachableOver T 256 → buildRefusal T room ≡ 13 → Out T room
-  short : (ReachableOver T 256 → ⊥) → room < length (machineImage T) → buildRefusal T room ≡ 14 → Out T room
-  fits : (ReachableOver T 256 → ⊥) → length (machineImage T) ≤ room → buildRefusal T room ≡ 0 → Out T room
+  over : ReachableOver T mostStates → buildRefusal T room ≡ 13 → Out T room
+  short : (ReachableOver T mostStates → ⊥) → room < length (machineImage T) → buildRefusal T room ≡ 14 → Out T room
+  fits : (ReachableOver T mostStates → ⊥) → length (machineImage T) ≤ room → buildRefusal T room ≡ 0 → Out T room
 
 out : (T : Table) (room : ℕ) → Out T room
-out T room = go (decLt 256 (length (discovered T 256))) (decLt room (length (machineImage T)))
+out T room = go (decLt mostStates (length (discovered T mostStates))) (decLt room (length (machineImage T)))
   where
-    not-over : (256 < length (discovered T 256) → ⊥) → ReachableOver T 256 → ⊥
-    not-over n h = n (build-law T 256 .found-over h)
+    not-over : (256 < length (discovered T mostStates) → ⊥) → ReachableOver T mostStates → ⊥
+    not-over n h = n (build-law T mostStates .found-over h)
 
     up-to : (a b : ℕ) → (a < b → ⊥) → b ≤ a
     up-to a b n = omega arith
 
-    go : Dec (256 < length (discovered T 256)) → Dec (room < length (machineImage T)) → Out T room
-    go (yes h) d = over (build-law T 256 .over h) (build-over T room h .0)
-    go (no n) (yes h) = short (not-over n) h (build-short T room (up-to 256 (length (discovered T 256)) n) h .0)
+    go : Dec (256 < length (discovered T mostStates)) → Dec (room < length (machineImage T)) → Out T room
+    go (yes h) d = over (build-law T mostStates .over h) (build-over T room h .0)
+    go (no n) (yes h) = short (not-over n) h (build-short T room (up-to mostStates (length (discovered T mostStates)) n) h .0)
     go (no n) (no k) =
-        let h = up-to room (length (machineImage T)) k in fits (not-over n) h (build-fits T room (up-to 256 (length (discovered T 256)) n) h .0)
+        let h = up-to room (length (machineImage T)) k in fits (not-over n) h (build-fits T room (up-to mostStates (length (discovered T mostStates)) n) h .0)
 
 module _ (t : List ℕ) (room : ℕ) where
   of-build : tableRefusal t ≡ 0 → builtFrom t room .refusal ≡ buildRefusal (tableOf t) room

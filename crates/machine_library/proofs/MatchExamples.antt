@@ -4,8 +4,10 @@ use mathlib.Core.Path.{_≡_, refl, ap, ap₂, _∙_}
 use mathlib.Core.Bool.{cond}
 use mathlib.Core.List.{List, [], _∷_, map}
 use borrow.Author.Tests.{eq-eqb}
+use Rattle.base_lists.specs.Cuts.{past, upTo}
+use Rattle.base_lists.specs.Tests.{all, any, noTwo}
 use Rattle.base_ascii.specs.Ascii.{bytes}
-use Rattle.base_text.specs.Text.{all, fields, onFirst, past, upTo, textOf, afterColons, common, comparedBytes, lowered}
+use Rattle.base_text.specs.Text.{fields, onFirst, textOf, afterColons, common, comparedBytes, lowered}
 use Rattle.urn_names.specs.Names.{labelByte, labelOk, nameOk}
 use Rattle.urn_names.specs.Urn.{alertUrn, begins, noCapital, storedName, restOk, urnOk}
 use Rattle.node_search.specs.Uses.{usedUrn, useOf, comparedOver}
@@ -13,7 +15,8 @@ use Rattle.theory_resolution.specs.Names.{Name}
 use Rattle.theory_resolution.specs.Table.{urn, Table}
 use Rattle.theory_resolution.specs.Nodes.{deepest, leaf, nodes}
 use Rattle.table_sections.specs.Stored.{andThen, byteIn, counted, stored, storedFrom, text, times}
-use Rattle.table_decode.specs.Tables.{any, categoryNames, distinct, fewNodes, formed, isListed, judged, judgedRead, listed, namesRead, noTwo, zeroSilent, single, tableOf, tableRead, tableRefusal, uses, verdict}
+use Rattle.table_decode.specs.Tables.{categoryNames, distinct, fewNodes, formed, isListed, judged, judgedRead, listed, namesRead, zeroSilent, single}
+use Rattle.table_decode.specs.Tables.{tableOf, tableRead, tableRefusal, uses, verdict}
 use Rattle.machine_library.specs.declared.matching.Match.{Match}
 use Rattle.machine_library.specs.Matching.{refusedMatch, matchUse, matchOf}
 use Rattle.machine_library.specs.MatchExamples.{fourNodes, Case, matches, MatchExamples}
@@ -36,7 +39,8 @@ table =
     }
 
 well : tableRefusal fourNodes ≡ 0
-unfolding all fields labelByte labelOk nameOk onFirst past upTo noCapital storedName urnOk andThen byteIn counted stored storedFrom text times any distinct fewNodes formed isListed judged judgedRead listed noTwo zeroSilent single tableRefusal uses verdict nodes
+unfolding all fields labelByte labelOk nameOk onFirst past upTo noCapital storedName urnOk andThen byteIn counted stored storedFrom text
+    times any distinct fewNodes formed isListed judged judgedRead listed noTwo zeroSilent single tableRefusal uses verdict nodes
 well = refl
 
 says : (tableOf fourNodes ≡ table) × (categoryNames fourNodes ≡ names)
@@ -44,7 +48,8 @@ unfolding fields onFirst past upTo andThen byteIn counted stored storedFrom text
 says = (refl, refl)
 
 -- the match over what the bytes say
-match-of : (t uri : List ℕ) (T : Table) (ns : List Name) → tableRefusal t ≡ 0 → tableOf t ≡ T → categoryNames t ≡ ns → matchOf t uri ≡ matchUse (useOf T (usedUrn ns uri))
+match-of : (t uri : List ℕ) (T : Table) (ns : List Name) → tableRefusal t ≡ 0 → tableOf t ≡ T → categoryNames t ≡ ns
+    → matchOf t uri ≡ matchUse (useOf T (usedUrn ns uri))
 unfolding matchOf
 match-of t uri T ns z e f =
     ap (λ b. cond b (matchUse (useOf (tableOf t) (usedUrn (categoryNames t) uri))) (refusedMatch (tableRefusal t))) (eq-eqb (tableRefusal t) 0 z)
@@ -58,7 +63,8 @@ abbrev answered : Case → Match
 answered x = matchUse (useOf table (usedUrn names (bytes (x .uri))))
 
 by-hand : map answered matches ≡ map (λ (x : Case). x .right) matches
-unfolding all fields onFirst past upTo textOf afterColons common comparedBytes lowered labelByte labelOk nameOk alertUrn begins restOk usedUrn comparedOver deepest leaf nodes
+unfolding all fields onFirst past upTo textOf afterColons common comparedBytes lowered labelByte labelOk nameOk alertUrn begins restOk
+    usedUrn comparedOver deepest leaf nodes
 by-hand = refl
 
 none : matchOf [] (bytes "urn:alert:source:internal") ≡ refusedMatch 5

@@ -33,10 +33,12 @@ module _ (t : List ℕ) (r : Decoded) (m : Means t r) (uri : List ℕ) where
 
   -- a well-formed one
   pub match-right : {x : Match} {u : Use} → r .refusal ≡ 0
-      → u ≡ usesOf t (r .«name_at») (r .«name_len») (r .categories) (r .category) (r .at) (r .len) (r .shared) (r .inner) (r .nodes) uri → x ≡ matchUse u → x ≡ matchOf t uri
+      → u ≡ usesOf t (r .«name_at») (r .«name_len») (r .categories) (r .category) (r .at) (r .len) (r .shared) (r .inner) (r .nodes) uri
+      → x ≡ matchUse u → x ≡ matchOf t uri
   unfolding matchOf
   match-right {x} {u} z e f =
       let well : tableRefusal t ≡ 0 = sym (m .refusal) ∙ z in
       let h : Holds t (tableOf t) r = m .holds well in
-      f ∙ ap matchUse (e ∙ uses-right t (tableOf t) (r .«name_at») (r .«name_len») (r .categories) (categoryNames t) (r .category) (r .at) (r .len) (r .nodes) (h .names) (h .nodes) (r .shared) (h .shared) (r .inner) (h .inner) uri)
+      f ∙ ap matchUse (e ∙ uses-right t (tableOf t) (r .«name_at») (r .«name_len») (r .categories) (categoryNames t) (r .category) (r .at)
+      (r .len) (r .nodes) (h .names) (h .nodes) (r .shared) (h .shared) (r .inner) (h .inner) uri)
       ∙ sym (rw (eq-eqb (tableRefusal t) 0 well))

@@ -7,6 +7,9 @@ use lib.Dec.{eqb}
 use borrow.Author.Tests.{eq-eqb, ne-eqb}
 use lib.ListN.{replicate}
 use native.Mathlib.Omega.{arith}
+use Rattle.base_numbers.specs.Numbers.{mostNodes, mostSymbols}
+use Rattle.base_bytes.specs.Built.{refused}
+use Rattle.base_lists.proofs.Numbers.{min-le}
 use Rattle.theory_resolution.proofs.SymbolCount.{few-symbols}
 use Rattle.node_step.specs.StatusByte.{fitsBy}
 use Rattle.node_step.specs.declared.stored.Packed.{Packed}
@@ -16,7 +19,6 @@ use Rattle.table_decode.specs.Decoded.{Holds, Means}
 use Rattle.table_decode.specs.Accepted.{Accepted}
 use Rattle.table_decode.specs.declared.Decoded.{Decoded}
 use Rattle.table_decode.proofs.Accepting.{accepted}
-use Rattle.machine_build.specs.Built.{refused}
 use Rattle.machine_library.specs.Built.{builtFrom, bufferFrom, checkFrom}
 use Rattle.machine_symbols.specs.Listed.{tripleLists, symbolsOf, Listed, SymbolsIn}
 use Rattle.machine_symbols.specs.declared.Symbols.{Symbols}
@@ -28,7 +30,6 @@ use Rattle.machine_library.proofs.Claims.{all-used}
 use Rattle.machine_symbols.proofs.SymbolsRight.{symbols-in}
 use Rattle.machine_build.proofs.BuildRight.{built-right, buffer-right}
 use Rattle.machine_check.proofs.CheckRight.{form-right, check-right}
-use Rattle.base_text.proofs.Lesser.{min-le}
 
 module _ (t : List ℕ) (r : Decoded) (m : Means t r) where
   -- a refused table
@@ -49,7 +50,8 @@ module _ (t : List ℕ) (r : Decoded) (m : Means t r) where
     refused-check im = m .refusal ∙ sym (rw other)
 
   -- a well-formed one, with its symbols listed
-  module _ (z : r .refusal ≡ 0) (s : Symbols) (v : s ≡ symbolsOf (tripleLists (r .category) (r .parent) (min (r .nodes) 64) (min (r .categories) 8))) where
+  module _ (z : r .refusal ≡ 0) (s : Symbols)
+      (v : s ≡ symbolsOf (tripleLists (r .category) (r .inner) (min (r .nodes) mostNodes) (min (r .categories) 8))) where
     abbrev sy : List ℕ
     sy = s .bytes
 
@@ -70,9 +72,10 @@ module _ (t : List ℕ) (r : Decoded) (m : Means t r) where
 
     pub table-symbols : SymbolsIn (tableOf t) sy count
     table-symbols =
-        symbols-in t (r .category) (r .at) (r .len) (r .nodes) (tableOf t) (held .nodes) (r .rows) (r .parent) (r .signals) (held .numbers) sy count
+        symbols-in t (r .category) (r .at) (r .len) (r .nodes) (tableOf t) (held .nodes) (r .inner) (held .inner) sy count (held .numbers .few-cats)
         (omega (arith, few-symbols (tableOf t) (all-used t well), all-well .few-nodes))
-        (subst (λ (k : ℕ). Listed sy count (tripleLists (r .category) (r .parent) (min (r .nodes) 64) (min k 8))) (held .categories) (lists-listed (r .category) (r .parent) (min (r .nodes) 64) (min (r .categories) 8) v .0))
+        (subst (λ (k : ℕ). Listed sy count (tripleLists (r .category) (r .inner) (min (r .nodes) mostNodes) (min k 8))) (held .categories)
+        (lists-listed (r .category) (r .inner) (min (r .nodes) mostNodes) (min (r .categories) 8) v .0))
 
     abbrev next : Packed → ℕ → Packed
     next = nextState (r .rows) (r .parent) (r .inner) (r .signals) sy
@@ -84,30 +87,34 @@ module _ (t : List ℕ) (r : Decoded) (m : Means t r) where
     cats-are : min (r .categories) 8 ≡ tableOf t .cats
     cats-are = ap (λ k. min k 8) (held .categories) ∙ sym (min-le (tableOf t .cats) 8 (held .numbers .few-cats))
 
-    count-is : min count 128 ≡ count
-    count-is = sym (min-le count 128 (table-symbols .few-symbols))
+    count-is : min count mostSymbols ≡ count
+    count-is = sym (min-le count mostSymbols (table-symbols .few-symbols))
 
-    pub table-built : (room : ℕ) → builtBy next (min (r .categories) 8) (min count 128) room ≡ builtFrom t room
+    pub table-built : (room : ℕ) → builtBy next (min (r .categories) 8) (min count mostSymbols) room ≡ builtFrom t room
     unfolding builtFrom
     table-built room =
         ap₂ (λ k n. builtBy next k n room) cats-are count-is
-        ∙ built-right (tableOf t) (held .well-formed) (r .rows) (r .parent) (r .signals) (held .numbers) sy count table-symbols (r .inner) (held .inner) room ∙ sym (rw same)
+        ∙ built-right (tableOf t) (held .well-formed) (r .rows) (r .parent) (r .signals) (held .numbers) sy count table-symbols (r .inner)
+        (held .inner) room ∙ sym (rw same)
 
-    pub table-buffer : (room : ℕ) → bufferBy next (min (r .categories) 8) (min count 128) sy room ≡ bufferFrom t room
+    pub table-buffer : (room : ℕ) → bufferBy next (min (r .categories) 8) (min count mostSymbols) sy room ≡ bufferFrom t room
     unfolding bufferFrom
     table-buffer room =
         ap₂ (λ k n. bufferBy next k n sy room) cats-are count-is
-        ∙ buffer-right (tableOf t) (held .well-formed) (r .rows) (r .parent) (r .signals) (held .numbers) sy count table-symbols (r .inner) (held .inner) room ∙ sym (rw same)
+        ∙ buffer-right (tableOf t) (held .well-formed) (r .rows) (r .parent) (r .signals) (held .numbers) sy count table-symbols (r .inner)
+        (held .inner) room ∙ sym (rw same)
 
     -- the form of an image, also for the machine resolver
     pub table-form : (im : List ℕ) → formBy fits sy count (r .signals) (r .categories) im ≡ formOf (tableOf t) im
     table-form im =
         ap (λ k. formBy fits sy count (r .signals) k im) (held .categories)
-        ∙ form-right t (r .category) (r .at) (r .len) (r .nodes) (tableOf t) (held .nodes) (held .well-formed) (all-well .rows) (r .rows) (r .parent) (r .signals) (held .numbers) (r .inner) (held .inner) sy count table-symbols im
+        ∙ form-right t (r .category) (r .at) (r .len) (r .nodes) (tableOf t) (held .nodes) (held .well-formed) (all-well .rows) (r .rows)
+        (r .parent) (r .signals) (held .numbers) (r .inner) (held .inner) sy count table-symbols im
 
     pub table-check : (im : List ℕ) → checkBy fits next sy count (r .signals) (r .categories) im ≡ checkFrom t im
     unfolding checkFrom
     table-check im =
         ap (λ k. checkBy fits next sy count (r .signals) k im) (held .categories)
-        ∙ check-right t (r .category) (r .at) (r .len) (r .nodes) (tableOf t) (held .nodes) (held .well-formed) (all-well .rows) (r .rows) (r .parent) (r .signals) (held .numbers) (r .inner) (held .inner) sy count table-symbols im
+        ∙ check-right t (r .category) (r .at) (r .len) (r .nodes) (tableOf t) (held .nodes) (held .well-formed) (all-well .rows) (r .rows)
+        (r .parent) (r .signals) (held .numbers) (r .inner) (held .inner) sy count table-symbols im
         ∙ sym (rw same)

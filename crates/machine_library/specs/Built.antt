@@ -4,10 +4,11 @@ use mathlib.Core.Bool.{cond}
 use mathlib.Core.List.{List}
 use lib.Dec.{eqb}
 use lib.ListN.{replicate}
+use Rattle.base_bytes.specs.Built.{refused}
 use Rattle.machine_image.specs.Refusals.{bufferOf, checkOf}
 use Rattle.table_decode.specs.Tables.{tableOf, tableRefusal}
-use Rattle.machine_build.specs.declared.Built.{Built}
-use Rattle.machine_build.specs.Built.{refused, builtOf}
+use Rattle.base_bytes.specs.declared.Built.{Built}
+use Rattle.machine_build.specs.Built.{builtOf}
 
 -- the answer for a stored table: its own refusal comes first
 unfoldable pub builtFrom : List ℕ → ℕ → Built

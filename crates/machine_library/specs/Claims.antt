@@ -4,18 +4,19 @@ use mathlib.Core.Path.{_≡_}
 use mathlib.Core.Logic.{_↔_}
 use mathlib.Core.List.{List, _++_}
 use lib.ListN.{length, take, drop, replicate}
+use Rattle.base_numbers.specs.Numbers.{mostStates}
+use Rattle.base_bytes.specs.Built.{accepted}
 use Rattle.theory_resolution.specs.Table.{Table, place}
 use Rattle.theory_resolution.specs.Machine.{Accepted}
 use Rattle.theory_resolution.specs.Build.{ReachableOver}
 use Rattle.table_decode.specs.Tables.{tableOf, tableRefusal}
 use Rattle.machine_image.specs.Image.{storedSymbols, machineImage, symbolCount, stateCount, placeOf, signalIn, byteIn, targetIn, machineIn}
 use Rattle.machine_image.specs.Positions.{ByteOf}
-use Rattle.machine_build.specs.Built.{accepted}
 use Rattle.machine_library.specs.Built.{builtFrom, bufferFrom, checkFrom}
 
 -- over 256 states can be reached
 abbrev pub TooManyStates : List ℕ → Type 0
-TooManyStates t = ReachableOver (tableOf t) 256
+TooManyStates t = ReachableOver (tableOf t) mostStates
 
 -- the builder's own numbers, both ways: too many states first, then too little room
 pub record BuildExactly (t : List ℕ) (room : ℕ) : Type 0 where
@@ -44,7 +45,7 @@ pub record RightForm (T : Table) (im : List ℕ) : Type 0 where
   pub length-right : length im ≡ placeOf (T .cats) im (stateCount im)
   pub symbols-right : take (3 * symbolCount im) (drop 1 im) ≡ storedSymbols T
   pub some-state : 1 ≤ stateCount im
-  pub few-states : stateCount im ≤ 256
+  pub few-states : stateCount im ≤ mostStates
   -- every state's signal is in the table, each category's byte is one that it can have at the signal's place, and every target is a state
   pub signal-listed : (j : ℕ) → j < stateCount im → signalIn (T .cats) im j < length (T .signals)
   pub status-right : (j c : ℕ) → j < stateCount im → c < T .cats → ByteOf T c (place T (signalIn (T .cats) im j) c) (byteIn (T .cats) im j c)

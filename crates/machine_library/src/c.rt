@@ -1,6 +1,6 @@
 // The same for C: a table, an image and a buffer are each a pointer and a length.
 use crate::matching::Match;
-use machine_build::Built;
+use base_bytes::Built;
 ghost use mathlib.Core.Path.{_≡_};
 ghost use lib.ListN.{length};
 ghost use Rattle.table_decode.specs.Tables.{tableRefusal};

@@ -9,7 +9,7 @@ pub mod c;
 mod matching;
 
 pub use crate::matching::Match;
-pub use machine_build::Built;
+pub use base_bytes::Built;
 ghost use mathlib.Core.Path.{_≡_};
 ghost use lib.ListN.{length};
 ghost use Rattle.table_decode.specs.Tables.{tableRefusal};
@@ -31,9 +31,9 @@ pub fn build(t: &[u8], buf: &mut [u8]) -> Built
     let d = table_decode::decode(t);
     let refused = d.refusal;
     if refused != 0 {
-        return machine_build::refuse(buf, refused);
+        return base_bytes::refuse(buf, refused);
     }
-    let s = machine_symbols::list(&d.category, &d.parent, d.nodes, d.categories);
+    let s = machine_symbols::list(&d.category, &d.inner, d.nodes, d.categories);
     machine_build::build_by(
         &d.rows,
         &d.parent,
@@ -55,7 +55,7 @@ pub fn check(t: &[u8], image: &[u8]) -> u8
     if refused != 0 {
         return refused;
     }
-    let s = machine_symbols::list(&d.category, &d.parent, d.nodes, d.categories);
+    let s = machine_symbols::list(&d.category, &d.inner, d.nodes, d.categories);
     machine_check::check_by(
         &d.rows,
         &d.parent,

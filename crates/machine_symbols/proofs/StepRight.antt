@@ -8,12 +8,13 @@ use lib.ListN.{getD}
 use lib.Seq.{getD-take}
 use borrow.Author.Tests.{lt-ltb}
 use native.Mathlib.Omega.{arith}
+use Rattle.base_numbers.specs.Numbers.{mostSymbols}
+use Rattle.base_lists.proofs.Each.{each-at}
+use Rattle.base_lists.proofs.Lists.{mem-at}
 use Rattle.theory_resolution.specs.Table.{Table, WellFormed}
 use Rattle.theory_resolution.specs.Direct.{start, StateOf}
-use Rattle.theory_resolution.specs.Direct as direct
 use Rattle.theory_resolution.specs.Nodes.{nodes, number}
 use Rattle.theory_resolution.specs.Symbols.{other, symbols, symbolAt, stepAt}
-use Rattle.theory_resolution.proofs.Lists.{mem-at}
 use Rattle.theory_resolution.proofs.Symbols.{symbol-known}
 use Rattle.theory_resolution.proofs.TableStep.{state-valid}
 use Rattle.node_search.specs.Arrays.{InnerIn}
@@ -23,9 +24,9 @@ use Rattle.node_step.specs.StatusByte.{packed, packedOf, stepPacked}
 use Rattle.node_step.specs.declared.stored.Packed.{Packed}
 use Rattle.node_step.proofs.Both.{step-symbol, coded-start, of-packed}
 use Rattle.machine_image.specs.Image.{symbolBytes, kindOf}
-use Rattle.machine_image.proofs.Joined.{joined-at}
 use Rattle.machine_symbols.specs.Listed.{SymbolsIn}
 use Rattle.machine_symbols.specs.Steps.{begin, nextState}
+use Rattle.theory_resolution.specs.Direct as direct
 
 -- a state of the theory as the code has it
 abbrev pub code : Table → direct.State → Packed
@@ -39,13 +40,14 @@ kind-whole : (b : Bool) → eqb (kindOf b) 0 ≡ not b
 kind-whole true = refl
 kind-whole false = refl
 
-module _ (T : Table) (wf : WellFormed T) (rows ps : List ℕ) (signals : ℕ) (nu : Numbers rows ps signals T) (sy : List ℕ) (count : ℕ) (si : SymbolsIn T sy count) where
+module _ (T : Table) (wf : WellFormed T) (rows ps : List ℕ) (signals : ℕ) (nu : Numbers rows ps signals T) (sy : List ℕ) (count : ℕ)
+    (si : SymbolsIn T sy count) where
   -- the bytes of symbol k
   module _ (k : ℕ) (h : k < count) where
     byte-at : (j : ℕ) → j < 3 → getD sy (k * 3 + j) 0 ≡ getD (symbolBytes (nodes T) (symbolAt T k)) j 0
     byte-at j l =
         sym (getD-take (3 * count) sy (k * 3 + j) 0 (omega arith)) ∙ ap (λ z. getD z (k * 3 + j) 0) (si .held)
-        ∙ joined-at (symbolBytes (nodes T)) 3 (other 0 []) (symbols T) (λ i m. refl) k j (omega (arith, si .all-symbols)) l
+        ∙ each-at (symbolBytes (nodes T)) 3 (other 0 []) (symbols T) (λ i m. refl) k j (omega (arith, si .all-symbols)) l
 
     pub category-at : getD sy (3 * k) 0 ≡ symbolAt T k .cat
     category-at = ap (λ z. getD sy z 0) (the (3 * k ≡ k * 3 + 0) (omega arith)) ∙ byte-at 0 (omega arith)
@@ -72,7 +74,7 @@ module _ (T : Table) (wf : WellFormed T) (rows ps : List ℕ) (signals : ℕ) (n
     next-code st k g h =
         let w = symbol-known T (symbolAt T k) (mem-at (symbols T) k (other 0 []) (omega (arith, si .all-symbols))) in
         ap (λ b. cond b (stepPacked rows ps inner signals (code T st) (getD sy (3 * k) 0) (getD sy (3 * k + 1) 0) (eqb (getD sy (3 * k + 2) 0) 0)) (code T st))
-        (lt-ltb k 128 (omega (arith, si .few-symbols)))
+        (lt-ltb k mostSymbols (omega (arith, si .few-symbols)))
         ∙ ap₂ (λ x y. packedOf (stepNumbers rows ps inner signals x y (getD sy (3 * k + 1) 0) (eqb (getD sy (3 * k + 2) 0) 0)))
         (of-packed T (nu .few-cats) (nu .few-nodes) st g) (category-at k h)
         ∙ ap₂ (λ x y. packedOf (stepNumbers rows ps inner signals (coded T st) (symbolAt T k .cat) x y)) (node-at k h)

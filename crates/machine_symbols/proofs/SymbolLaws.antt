@@ -11,43 +11,39 @@ use native.Mathlib.Omega.{arith}
 use native.Mathlib.Nat.{sub-zero}
 use native.Mathlib.Numerals.{add-one}
 use native.Mathlib.Decide.{decLt, ℕ-discrete}
-use Rattle.node_search.specs.Arrays.{childless}
+use Rattle.base_numbers.specs.Numbers.{mostSymbolBytes, mostSymbols}
+use Rattle.base_lists.proofs.Numbers.{min-le, min-gt}
 use Rattle.machine_symbols.specs.declared.Symbols.{Symbols}
-use Rattle.machine_symbols.specs.Listed.{triple, nodeTriples, nodesTriples, categoryTriples, tripleLists, symbolsOf, Listed, isTriple, tripleIndex, kindFor, slot, slotAt, indexFrom, entryAt, numberFrom, symbolNumber}
-use Rattle.base_text.proofs.Lesser.{min-le, min-gt}
-
--- a node without children
-pub child-more : (ps : List ℕ) (d i : ℕ) → childless ps d i ≡ true → (getD ps i 0 ≡ d → ⊥) → childless ps d (i + 1) ≡ true
-unfolding childless
-child-more ps d i v e = rw (add-one, v, ne-eqb (getD ps i 0) d e)
-
-pub child-end : (ps : List ℕ) (d i n : ℕ) → i ≤ n → n ≤ i → childless ps d i ≡ true → true ≡ childless ps d n
-child-end ps d i n a b v = let e : n ≡ i = omega arith in sym (ap (childless ps d) e ∙ v)
+use Rattle.machine_symbols.specs.Listed.{triple, nodeTriples, nodesTriples, categoryTriples, tripleLists, symbolsOf, Listed, isTriple}
+use Rattle.machine_symbols.specs.Listed.{tripleIndex, kindFor, slot, slotAt, indexFrom, entryAt, numberFrom, symbolNumber}
+use Rattle.node_step.specs.Step.{innerAt}
 
 -- one symbol more
 module _ (bytes : List ℕ) (n : ℕ) (l : List ℕ) (v : Listed bytes n l) (x y z : ℕ) where
-  pub listed-full : 128 ≤ n → n ≤ 128 → Listed bytes n (l ++ triple x y z)
+  pub listed-full : mostSymbols ≤ n → n ≤ mostSymbols → Listed bytes n (l ++ triple x y z)
   listed-full h k =
       record {
         wide = v .wide;
         counted = omega (arith, v .counted, length-append l (triple x y z));
-        held = v .held ∙ sym (take-append-le 384 l (triple x y z) (omega (arith, v .counted)));
+        held = v .held ∙ sym (take-append-le mostSymbolBytes l (triple x y z) (omega (arith, v .counted)));
         rest = v .rest;
       }
 
-  pub listed-more : n < 128 → Listed (set (set (set bytes (3 * n) x) (3 * n + 1) y) (3 * n + 2) z) (n + 1) (l ++ triple x y z)
+  pub listed-more : n < mostSymbols → Listed (set (set (set bytes (3 * n) x) (3 * n + 1) y) (3 * n + 2) z) (n + 1) (l ++ triple x y z)
   listed-more h =
       let k : length l ≡ 3 * n = omega (arith, v .counted) in
       let b₁ : List ℕ = set bytes (3 * n) x in
       let b₂ : List ℕ = set b₁ (3 * n + 1) y in
-      let w₁ : length b₁ ≡ 384 = length-set bytes (3 * n) x ∙ v .wide in
-      let w₂ : length b₂ ≡ 384 = length-set b₁ (3 * n + 1) y ∙ w₁ in
-      let t₀ : take (3 * n) bytes ≡ l = v .held ∙ take-all 384 l (omega arith) in
+      let w₁ : length b₁ ≡ mostSymbolBytes = length-set bytes (3 * n) x ∙ v .wide in
+      let w₂ : length b₂ ≡ mostSymbolBytes = length-set b₁ (3 * n + 1) y ∙ w₁ in
+      let t₀ : take (3 * n) bytes ≡ l = v .held ∙ take-all mostSymbolBytes l (omega arith) in
       let t₁ : take (suc (3 * n)) b₁ ≡ l ++ x ∷ [] = take-suc-set bytes (3 * n) x (omega (arith, v .wide)) ∙ ap (λ q. q ++ x ∷ []) t₀ in
       let e₁ : 3 * n + 1 ≡ suc (3 * n) = add-one (3 * n) in
-      let t₂ : take (suc (3 * n + 1)) b₂ ≡ l ++ x ∷ [] ++ y ∷ [] = take-suc-set b₁ (3 * n + 1) y (omega arith) ∙ ap (λ q. q ++ y ∷ []) (ap (λ q. take q b₁) e₁ ∙ t₁) in
+      let t₂ : take (suc (3 * n + 1)) b₂ ≡ l ++ x ∷ [] ++ y ∷ [] = take-suc-set b₁ (3 * n + 1) y (omega arith)
+      ∙ ap (λ q. q ++ y ∷ []) (ap (λ q. take q b₁) e₁ ∙ t₁) in
       let e₂ : 3 * n + 2 ≡ suc (3 * n + 1) = omega arith in
-      let t₃ : take (suc (3 * n + 2)) (set b₂ (3 * n + 2) z) ≡ l ++ x ∷ [] ++ y ∷ [] ++ z ∷ [] = take-suc-set b₂ (3 * n + 2) z (omega arith) ∙ ap (λ q. q ++ z ∷ []) (ap (λ q. take q b₂) e₂ ∙ t₂) in
+      let t₃ : take (suc (3 * n + 2)) (set b₂ (3 * n + 2) z) ≡ l ++ x ∷ [] ++ y ∷ [] ++ z ∷ [] =
+      take-suc-set b₂ (3 * n + 2) z (omega arith) ∙ ap (λ q. q ++ z ∷ []) (ap (λ q. take q b₂) e₂ ∙ t₂) in
       let e₃ : 3 * (n + 1) ≡ suc (3 * n + 2) = omega arith in
       record {
         wide = length-set b₂ (3 * n + 2) z ∙ w₂;
@@ -55,137 +51,146 @@ module _ (bytes : List ℕ) (n : ℕ) (l : List ℕ) (v : Listed bytes n l) (x y
         held =
             ap (λ q. take q (set b₂ (3 * n + 2) z)) e₃ ∙ t₃
             ∙ ap (λ q. q ++ z ∷ []) (append-assoc l (x ∷ []) (y ∷ [])) ∙ append-assoc l (x ∷ y ∷ []) (z ∷ [])
-            ∙ sym (take-all 384 (l ++ triple x y z) (omega (arith, length-append l (triple x y z))));
+            ∙ sym (take-all mostSymbolBytes (l ++ triple x y z) (omega (arith, length-append l (triple x y z))));
         rest =
             drop-set-lt (3 * (n + 1)) b₂ (3 * n + 2) z (omega arith) ∙ drop-set-lt (3 * (n + 1)) b₁ (3 * n + 1) y (omega arith)
             ∙ drop-set-lt (3 * (n + 1)) bytes (3 * n) x (omega arith) ∙ three-less;
       }
     where
-      three-less : drop (3 * (n + 1)) bytes ≡ replicate (384 - 3 * (n + 1)) 0
+      three-less : drop (3 * (n + 1)) bytes ≡ replicate (mostSymbolBytes - 3 * (n + 1)) 0
       three-less =
           let e : 3 * (n + 1) ≡ 3 * n + 3 = omega arith in
-          let f : 384 - 3 * n ≡ suc (suc (suc (384 - 3 * (n + 1)))) = omega arith in
+          let f : mostSymbolBytes - 3 * n ≡ suc (suc (suc (mostSymbolBytes - 3 * (n + 1)))) = omega arith in
           ap (λ q. drop q bytes) e ∙ sym (drop-drop 3 (3 * n) bytes) ∙ ap (drop 3) (v .rest ∙ ap (λ q. replicate q 0) f)
 
 -- a node's symbols
-module _ (ca ps : List ℕ) (n c i : ℕ) where
-  pub node-other : (getD ca i 0 ≡ c → ⊥) → (bytes : List ℕ) (m : ℕ) (l : List ℕ) → Listed bytes m l → Listed bytes m (l ++ nodeTriples ca ps n c i)
+module _ (ca : List ℕ) (inner : List Bool) (c i : ℕ) where
+  pub node-other : (getD ca i 0 ≡ c → ⊥) → (bytes : List ℕ) (m : ℕ) (l : List ℕ) → Listed bytes m l → Listed bytes m (l ++ nodeTriples ca inner c i)
   unfolding nodeTriples
   node-other e bytes m l v = rw (ne-eqb (getD ca i 0) c e, append-nil l) v
 
-  module _ (e : getD ca i 0 ≡ c) {b : Bool} (f : b ≡ childless ps (i + 1) n) where
-    pub node-leaf : b ≡ true → (bytes : List ℕ) (m : ℕ) (l : List ℕ) → Listed bytes m (l ++ triple c (i + 1) 0) → Listed bytes m (l ++ nodeTriples ca ps n c i)
+  module _ (e : getD ca i 0 ≡ c) where
+    pub node-leaf : getD inner i false ≡ false → (bytes : List ℕ) (m : ℕ) (l : List ℕ) → Listed bytes m (l ++ triple c (i + 1) 0)
+        → Listed bytes m (l ++ nodeTriples ca inner c i)
     unfolding nodeTriples
-    node-leaf h bytes m l v = let z : childless ps (i + 1) n ≡ true = sym f ∙ h in rw (eq-eqb (getD ca i 0) c e, z) v
+    node-leaf z bytes m l v = rw (eq-eqb (getD ca i 0) c e, z) v
 
-    pub node-both : b ≡ false → (bytes : List ℕ) (m : ℕ) (l : List ℕ) → Listed bytes m (l ++ triple c (i + 1) 0 ++ triple c (i + 1) 1) → Listed bytes m (l ++ nodeTriples ca ps n c i)
+    pub node-both : getD inner i false ≡ true → (bytes : List ℕ) (m : ℕ) (l : List ℕ)
+        → Listed bytes m (l ++ triple c (i + 1) 0 ++ triple c (i + 1) 1) → Listed bytes m (l ++ nodeTriples ca inner c i)
     unfolding nodeTriples
-    node-both h bytes m l v =
-        let z : childless ps (i + 1) n ≡ false = sym f ∙ h in
+    node-both z bytes m l v =
         rw (eq-eqb (getD ca i 0) c e, z) (subst (Listed bytes m) (append-assoc l (triple c (i + 1) 0) (triple c (i + 1) 1)) v)
 
 -- the loop over the nodes
-module _ (ca ps : List ℕ) (n c : ℕ) where
-  pub nodes-start : (bytes : List ℕ) (m : ℕ) (l : List ℕ) → Listed bytes m l → Listed bytes m (l ++ nodesTriples ca ps n c 0)
+module _ (ca : List ℕ) (inner : List Bool) (n c : ℕ) where
+  pub nodes-start : (bytes : List ℕ) (m : ℕ) (l : List ℕ) → Listed bytes m l → Listed bytes m (l ++ nodesTriples ca inner c 0)
   unfolding nodesTriples
   nodes-start bytes m l v = rw (append-nil l) v
 
-  pub nodes-more : (i : ℕ) (bytes : List ℕ) (m : ℕ) (l : List ℕ) → Listed bytes m (l ++ nodesTriples ca ps n c i ++ nodeTriples ca ps n c i) → Listed bytes m (l ++ nodesTriples ca ps n c (i + 1))
+  pub nodes-more : (i : ℕ) (bytes : List ℕ) (m : ℕ) (l : List ℕ)
+      → Listed bytes m (l ++ nodesTriples ca inner c i ++ nodeTriples ca inner c i) → Listed bytes m (l ++ nodesTriples ca inner c (i + 1))
   unfolding nodesTriples
-  nodes-more i bytes m l v = rw add-one (subst (Listed bytes m) (append-assoc l (nodesTriples ca ps n c i) (nodeTriples ca ps n c i)) v)
+  nodes-more i bytes m l v = rw add-one (subst (Listed bytes m) (append-assoc l (nodesTriples ca inner c i) (nodeTriples ca inner c i)) v)
 
-  pub nodes-end : (i : ℕ) → i ≤ n → n ≤ i → (bytes : List ℕ) (m : ℕ) (l : List ℕ) → Listed bytes m (l ++ nodesTriples ca ps n c i ++ triple c 0 1) → Listed bytes m (l ++ categoryTriples ca ps n c)
+  pub nodes-end : (i : ℕ) → i ≤ n → n ≤ i → (bytes : List ℕ) (m : ℕ) (l : List ℕ)
+      → Listed bytes m (l ++ nodesTriples ca inner c i ++ triple c 0 1) → Listed bytes m (l ++ categoryTriples ca inner n c)
   nodes-end i a b bytes m l v =
       let e : i ≡ n = omega arith in
-      subst (Listed bytes m) (append-assoc l (nodesTriples ca ps n c n) (triple c 0 1)) (subst (λ (z : ℕ). Listed bytes m (l ++ nodesTriples ca ps n c z ++ triple c 0 1)) e v)
+      subst (Listed bytes m) (append-assoc l (nodesTriples ca inner c n) (triple c 0 1))
+      (subst (λ (z : ℕ). Listed bytes m (l ++ nodesTriples ca inner c z ++ triple c 0 1)) e v)
 
 -- the loop over the categories
-module _ (ca ps : List ℕ) (n : ℕ) where
-  pub lists-start : (bytes : List ℕ) → bytes ≡ replicate 384 0 → Listed bytes 0 (tripleLists ca ps n 0)
+module _ (ca : List ℕ) (inner : List Bool) (n : ℕ) where
+  pub lists-start : (bytes : List ℕ) → bytes ≡ replicate mostSymbolBytes 0 → Listed bytes 0 (tripleLists ca inner n 0)
   unfolding tripleLists
-  lists-start bytes w = record { wide = ap length w ∙ length-replicate {A = ℕ} 384 0; counted = omega arith; held = refl; rest = w }
+  lists-start bytes w = record { wide = ap length w ∙ length-replicate {A = ℕ} mostSymbolBytes 0; counted = omega arith; held = refl; rest = w }
 
-  pub lists-more : (c : ℕ) (bytes : List ℕ) (m : ℕ) → Listed bytes m (tripleLists ca ps n c ++ categoryTriples ca ps n c) → Listed bytes m (tripleLists ca ps n (c + 1))
+  pub lists-more : (c : ℕ) (bytes : List ℕ) (m : ℕ) → Listed bytes m (tripleLists ca inner n c ++ categoryTriples ca inner n c)
+      → Listed bytes m (tripleLists ca inner n (c + 1))
   unfolding tripleLists
   lists-more c bytes m v = rw add-one v
 
-  pub lists-end : (c k : ℕ) → c ≤ k → k ≤ c → (bytes : List ℕ) (m : ℕ) → Listed bytes m (tripleLists ca ps n c) → Listed bytes m (tripleLists ca ps n k)
-  lists-end c k a b bytes m v = let e : c ≡ k = omega arith in subst (λ (z : ℕ). Listed bytes m (tripleLists ca ps n z)) e v
+  pub lists-end : (c k : ℕ) → c ≤ k → k ≤ c → (bytes : List ℕ) (m : ℕ) → Listed bytes m (tripleLists ca inner n c) → Listed bytes m (tripleLists ca inner n k)
+  lists-end c k a b bytes m v = let e : c ≡ k = omega arith in subst (λ (z : ℕ). Listed bytes m (tripleLists ca inner n z)) e v
 
 -- what has been listed is the symbols of the list
 pub listed-all : (bytes : List ℕ) (n : ℕ) (l : List ℕ) → Listed bytes n l → record { count = n; bytes = bytes } ≡ symbolsOf l
 unfolding symbolsOf
-listed-all bytes n l v = ap₂ (λ (k : ℕ) (b : List ℕ). record { count = k; bytes = b }) (go (decLt 384 (length l))) filled
+listed-all bytes n l v = ap₂ (λ (k : ℕ) (b : List ℕ). record { count = k; bytes = b }) (go (decLt mostSymbolBytes (length l))) filled
   where
-    go : Dec (384 < length l) → n ≡ min (length l / 3) 128
-    go (yes h) = let e : n ≡ 128 = omega (arith, v .counted) in e ∙ at-most (ℕ-discrete (length l / 3) 128)
+    go : Dec (mostSymbolBytes < length l) → n ≡ min (length l / 3) mostSymbols
+    go (yes h) = let e : n ≡ mostSymbols = omega (arith, v .counted) in e ∙ at-most (ℕ-discrete (length l / 3) mostSymbols)
       where
-        at-most : Dec (length l / 3 ≡ 128) → 128 ≡ min (length l / 3) 128
-        at-most (yes e) = sym e ∙ min-le (length l / 3) 128 (omega arith)
-        at-most (no e) = min-gt (length l / 3) 128 (omega arith)
-    go (no h) = let e : n ≡ length l / 3 = omega (arith, v .counted) in e ∙ min-le (length l / 3) 128 (omega arith)
+        at-most : Dec (length l / 3 ≡ mostSymbols) → mostSymbols ≡ min (length l / 3) mostSymbols
+        at-most (yes e) = sym e ∙ min-le (length l / 3) mostSymbols (omega arith)
+        at-most (no e) = min-gt (length l / 3) mostSymbols (omega arith)
+    go (no h) = let e : n ≡ length l / 3 = omega (arith, v .counted) in e ∙ min-le (length l / 3) mostSymbols (omega arith)
 
-    filled : bytes ≡ take 384 l ++ replicate (384 - length l) 0
+    filled : bytes ≡ take mostSymbolBytes l ++ replicate (mostSymbolBytes - length l) 0
     filled =
-        let e : 384 - 3 * n ≡ 384 - length l = omega (arith, v .counted) in
+        let e : mostSymbolBytes - 3 * n ≡ mostSymbolBytes - length l = omega (arith, v .counted) in
         sym (take-append-drop (3 * n) bytes) ∙ ap₂ _++_ (v .held) (v .rest ∙ ap (λ k. replicate k 0) e)
 
-pub lists-same : (ca ps : List ℕ) {n n′ k k′ : ℕ} → n ≡ n′ → k ≡ k′ → (bytes : List ℕ) (m : ℕ) → Listed bytes m (tripleLists ca ps n k)
-    → record { count = m; bytes = bytes } ≡ symbolsOf (tripleLists ca ps n′ k′)
-lists-same ca ps e f bytes m v = listed-all bytes m _ v ∙ ap symbolsOf (ap₂ (tripleLists ca ps) e f)
+pub lists-same : (ca : List ℕ) (inner : List Bool) {n n′ k k′ : ℕ} → n ≡ n′ → k ≡ k′ → (bytes : List ℕ) (m : ℕ) → Listed bytes m (tripleLists ca inner n k)
+    → record { count = m; bytes = bytes } ≡ symbolsOf (tripleLists ca inner n′ k′)
+lists-same ca inner e f bytes m v = listed-all bytes m _ v ∙ ap symbolsOf (ap₂ (tripleLists ca inner) e f)
 
 -- each symbol has three bytes
 thirds : (a b : List ℕ) → length a % 3 ≡ 0 → length b % 3 ≡ 0 → length (a ++ b) % 3 ≡ 0
 thirds a b x y = omega (arith, length-append a b)
 
-module _ (ca ps : List ℕ) (n : ℕ) where
-  node-thirds : (c i : ℕ) → length (nodeTriples ca ps n c i) % 3 ≡ 0
+module _ (ca : List ℕ) (inner : List Bool) (n : ℕ) where
+  node-thirds : (c i : ℕ) → length (nodeTriples ca inner c i) % 3 ≡ 0
   unfolding nodeTriples
-  node-thirds c i = go (eqb (getD ca i 0) c) (childless ps (i + 1) n)
+  node-thirds c i = go (eqb (getD ca i 0) c) (getD inner i false)
     where
-      go : (a b : Bool) → length (cond a (triple c (i + 1) 0 ++ cond b [] (triple c (i + 1) 1)) []) % 3 ≡ 0
+      go : (a b : Bool) → length (cond a (triple c (i + 1) 0 ++ cond b (triple c (i + 1) 1) []) []) % 3 ≡ 0
       go true true = refl
       go true false = refl
       go false b = refl
 
-  nodes-thirds : (c k : ℕ) → length (nodesTriples ca ps n c k) % 3 ≡ 0
+  nodes-thirds : (c k : ℕ) → length (nodesTriples ca inner c k) % 3 ≡ 0
   unfolding nodesTriples
   nodes-thirds c zero = refl
-  nodes-thirds c (suc k) = thirds (nodesTriples ca ps n c k) (nodeTriples ca ps n c k) (nodes-thirds c k) (node-thirds c k)
+  nodes-thirds c (suc k) = thirds (nodesTriples ca inner c k) (nodeTriples ca inner c k) (nodes-thirds c k) (node-thirds c k)
 
-  lists-thirds : (k : ℕ) → length (tripleLists ca ps n k) % 3 ≡ 0
+  lists-thirds : (k : ℕ) → length (tripleLists ca inner n k) % 3 ≡ 0
   unfolding tripleLists
   lists-thirds zero = refl
-  lists-thirds (suc c) = thirds (tripleLists ca ps n c) (categoryTriples ca ps n c) (lists-thirds c) (thirds (nodesTriples ca ps n c n) (triple c 0 1) (nodes-thirds c n) refl)
+  lists-thirds (suc c) = thirds (tripleLists ca inner n c) (categoryTriples ca inner n c) (lists-thirds c)
+      (thirds (nodesTriples ca inner c n) (triple c 0 1) (nodes-thirds c n) refl)
 
 -- the symbols of a list of symbols' bytes stand in their array
 listed-of : (l : List ℕ) → length l % 3 ≡ 0 → Listed (symbolsOf l .bytes) (symbolsOf l .count) l
 unfolding symbolsOf
-listed-of l h = go (decLt 384 (length l))
+listed-of l h = go (decLt mostSymbolBytes (length l))
   where
     zeros : List ℕ
-    zeros = replicate (384 - length l) 0
+    zeros = replicate (mostSymbolBytes - length l) 0
 
-    sized : (k : ℕ) → 3 * k ≡ min 384 (length l) → Listed (take 384 l ++ zeros) k l
+    sized : (k : ℕ) → 3 * k ≡ min mostSymbolBytes (length l) → Listed (take mostSymbolBytes l ++ zeros) k l
     sized k e =
-        let t : length (take 384 l) ≡ 3 * k = length-take 384 l ∙ sym e in
-        let f : 384 - length l ≡ 384 - 3 * k = omega arith in
+        let t : length (take mostSymbolBytes l) ≡ 3 * k = length-take mostSymbolBytes l ∙ sym e in
+        let f : mostSymbolBytes - length l ≡ mostSymbolBytes - 3 * k = omega arith in
         record {
-          wide = length-append (take 384 l) zeros ∙ omega (arith, t, length-replicate {A = ℕ} (384 - length l) 0);
+          wide = length-append (take mostSymbolBytes l) zeros ∙ omega (arith, t, length-replicate {A = ℕ} (mostSymbolBytes - length l) 0);
           counted = e;
-          held = take-at (take 384 l) zeros (3 * k) t;
-          rest = drop-at (take 384 l) zeros (3 * k) t ∙ ap (λ m. replicate m 0) f;
+          held = take-at (take mostSymbolBytes l) zeros (3 * k) t;
+          rest = drop-at (take mostSymbolBytes l) zeros (3 * k) t ∙ ap (λ m. replicate m 0) f;
         }
 
-    go : Dec (384 < length l) → Listed (take 384 l ++ zeros) (min (length l / 3) 128) l
-    go (yes i) = subst (λ (k : ℕ). Listed (take 384 l ++ zeros) k l) (min-gt (length l / 3) 128 (omega arith)) (sized 128 (omega arith))
-    go (no i) = subst (λ (k : ℕ). Listed (take 384 l ++ zeros) k l) (min-le (length l / 3) 128 (omega arith)) (sized (length l / 3) (omega arith))
+    go : Dec (mostSymbolBytes < length l) → Listed (take mostSymbolBytes l ++ zeros) (min (length l / 3) mostSymbols) l
+    go (yes i) = subst (λ (k : ℕ). Listed (take mostSymbolBytes l ++ zeros) k l) (min-gt (length l / 3) mostSymbols (omega arith))
+        (sized mostSymbols (omega arith))
+    go (no i) = subst (λ (k : ℕ). Listed (take mostSymbolBytes l ++ zeros) k l) (min-le (length l / 3) mostSymbols (omega arith))
+        (sized (length l / 3) (omega arith))
 
-pub lists-listed : (ca ps : List ℕ) (n k : ℕ) {r : Symbols} → r ≡ symbolsOf (tripleLists ca ps n k)
-    → Listed (r .bytes) (r .count) (tripleLists ca ps n k) × (r .count ≤ 128)
-lists-listed ca ps n k {r} e =
-    let v : Listed (r .bytes) (r .count) (tripleLists ca ps n k) =
-    subst (λ (z : Symbols). Listed (z .bytes) (z .count) (tripleLists ca ps n k)) (sym e) (listed-of (tripleLists ca ps n k) (lists-thirds ca ps n k)) in
+pub lists-listed : (ca : List ℕ) (inner : List Bool) (n k : ℕ) {r : Symbols} → r ≡ symbolsOf (tripleLists ca inner n k)
+    → Listed (r .bytes) (r .count) (tripleLists ca inner n k) × (r .count ≤ mostSymbols)
+lists-listed ca inner n k {r} e =
+    let v : Listed (r .bytes) (r .count) (tripleLists ca inner n k) =
+    subst (λ (z : Symbols). Listed (z .bytes) (z .count) (tripleLists ca inner n k)) (sym e)
+    (listed-of (tripleLists ca inner n k) (lists-thirds ca inner n k)) in
     (v, omega (arith, v .counted))
 
 -- one symbol, test by test
@@ -219,24 +224,24 @@ module _ (sy : List ℕ) (c d kind n k : ℕ) (v : tripleIndex sy c d kind 0 n �
   index-end a b = let m : n - k ≡ 0 = omega arith in sym (v ∙ rw m (omega arith))
 
 -- the kind
-module _ (ps : List ℕ) (n d : ℕ) (whole : Bool) where
-  pub kind-whole : whole ≡ true → 0 ≡ kindFor ps n d whole
+module _ (inner : List Bool) (d : ℕ) (whole : Bool) where
+  pub kind-whole : whole ≡ true → 0 ≡ kindFor inner d whole
   unfolding kindFor
   kind-whole e = sym (rw e)
 
   module _ (e : whole ≡ false) where
-    pub kind-root : d ≡ 0 → 1 ≡ kindFor ps n d whole
+    pub kind-root : d ≡ 0 → 1 ≡ kindFor inner d whole
     unfolding kindFor
     kind-root f = sym (rw (e, eq-eqb d 0 f))
 
-    module _ (f : d ≡ 0 → ⊥) {b : Bool} (g : b ≡ childless ps d n) where
-      pub kind-leaf : b ≡ true → 0 ≡ kindFor ps n d whole
+    module _ (f : d ≡ 0 → ⊥) {b : Bool} (g : b ≡ innerAt inner d) where
+      pub kind-leaf : b ≡ false → 0 ≡ kindFor inner d whole
       unfolding kindFor
-      kind-leaf h = let z = sym g ∙ h in sym (rw (e, ne-eqb d 0 f, z))
+      kind-leaf h = sym (ap₂ (λ a x. cond a 0 (cond x 1 (cond (innerAt inner d) 1 0))) e (ne-eqb d 0 f) ∙ ap (λ z. cond z 1 0) (sym g ∙ h))
 
-      pub kind-inner : b ≡ false → 1 ≡ kindFor ps n d whole
+      pub kind-inner : b ≡ true → 1 ≡ kindFor inner d whole
       unfolding kindFor
-      kind-inner h = let z = sym g ∙ h in sym (rw (e, ne-eqb d 0 f, z))
+      kind-inner h = sym (ap₂ (λ a x. cond a 0 (cond x 1 (cond (innerAt inner d) 1 0))) e (ne-eqb d 0 f) ∙ ap (λ z. cond z 1 0) (sym g ∙ h))
 
 -- the slot
 module _ (c d kind : ℕ) where
@@ -280,7 +285,8 @@ index-first sy (suc n) k j a b l = go (ℕ-discrete (slotAt sy j) (slotAt sy k))
     ix : List ℕ
     ix = indexFrom sy (k + 1) n
 
-    go : Dec (slotAt sy j ≡ slotAt sy k) → (k + 1 ≤ j → j < k + 1 + n → slotAt sy j < 136 → getD ix (slotAt sy j) 0 ≤ j) → getD (set ix (slotAt sy k) k) (slotAt sy j) 0 ≤ j
+    go : Dec (slotAt sy j ≡ slotAt sy k) → (k + 1 ≤ j → j < k + 1 + n → slotAt sy j < 136 → getD ix (slotAt sy j) 0 ≤ j)
+        → getD (set ix (slotAt sy k) k) (slotAt sy j) 0 ≤ j
     go (yes z) ih =
         omega (arith, ap (λ x. getD (set ix (slotAt sy k) k) x 0) z, getD-set-same ix (slotAt sy k) k 0 (omega (arith, index-wide sy n (k + 1))))
     go (no z) ih = omega (arith, getD-set-other ix (slotAt sy k) (slotAt sy j) k 0 z, ih (later (ℕ-discrete j k)) (omega arith) l)
@@ -312,12 +318,11 @@ module _ (sy : List ℕ) (m c d kind k : ℕ) where
   unfolding numberFrom
   from-out h = sym (rw (le-ltb k m h))
 
-pub number-is : (ix sy : List ℕ) (count : ℕ) (ps : List ℕ) (n c d : ℕ) (whole : Bool) {n′ m kind s k r : ℕ} → n′ ≡ min n 64 → m ≡ min count 128
-    → kind ≡ kindFor ps n′ d whole → s ≡ slot c d kind → k ≡ entryAt ix s → r ≡ numberFrom sy m c d kind k → r ≡ symbolNumber ix sy count ps n c d whole
+pub number-is : (ix sy : List ℕ) (count : ℕ) (inner : List Bool) (c d : ℕ) (whole : Bool) {m kind s k r : ℕ} → m ≡ min count mostSymbols
+    → kind ≡ kindFor inner d whole → s ≡ slot c d kind → k ≡ entryAt ix s → r ≡ numberFrom sy m c d kind k → r ≡ symbolNumber ix sy count inner c d whole
 unfolding symbolNumber
-number-is ix sy count ps n c d whole {kind = kind} {k = k} e f g h i j =
-    let y : kind ≡ kindFor ps (min n 64) d whole = g ∙ ap (λ z. kindFor ps z d whole) e in
-    j ∙ ap (λ z. numberFrom sy z c d kind k) f ∙ ap₂ (numberFrom sy (min count 128) c d) y (i ∙ ap (entryAt ix) (h ∙ ap (slot c d) y))
+number-is ix sy count inner c d whole {kind = kind} {k = k} f y h i j =
+    j ∙ ap (λ z. numberFrom sy z c d kind k) f ∙ ap₂ (numberFrom sy (min count mostSymbols) c d) y (i ∙ ap (entryAt ix) (h ∙ ap (slot c d) y))
 
 -- the index names the first symbol of its slot, so the number is that of the search
 module _ (sy : List ℕ) (c d kind : ℕ) where
@@ -358,7 +363,13 @@ module _ (sy : List ℕ) (c d kind : ℕ) where
       least j h e = by (decLt (slot c d kind) 136)
         where
           by : Dec (slot c d kind < 136) → k ≤ j
-          by (yes l) = omega (arith, entry-in ix (slot c d kind) l refl, ap (λ s. getD ix s 0) (slot-of j e), ap (λ x. getD x (slotAt sy j) 0) v, index-first sy m 0 j (omega arith) (omega arith) (omega (arith, slot-of j e)))
+          by (yes l) = omega (
+            arith,
+            entry-in ix (slot c d kind) l refl,
+            ap (λ s. getD ix s 0) (slot-of j e),
+            ap (λ x. getD x (slotAt sy j) 0) v,
+            index-first sy m 0 j (omega arith) (omega arith) (omega (arith, slot-of j e)),
+          )
           by (no l) = omega (arith, entry-out ix (slot c d kind) (omega arith))
 
       go : (a : Bool) → ltb k m ≡ a → (b : Bool) → isTriple sy c d kind k ≡ b → cond (a && b) k (tripleIndex sy c d kind 0 m) ≡ tripleIndex sy c d kind 0 m

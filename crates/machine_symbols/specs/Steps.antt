@@ -4,6 +4,7 @@ use mathlib.Core.Bool.{Bool, cond}
 use mathlib.Core.List.{List}
 use lib.Dec.{eqb, ltb}
 use lib.ListN.{getD}
+use Rattle.base_numbers.specs.Numbers.{mostSymbols}
 use Rattle.node_step.specs.StatusByte.{stepPacked}
 use Rattle.node_step.specs.declared.stored.Packed.{Packed}
 
@@ -14,7 +15,7 @@ begin = record { signal = 0; statuses = 0 }
 -- the state after symbol k of those in sy, of which there are at most 128
 unfoldable pub nextState : List ℕ → List ℕ → List Bool → ℕ → List ℕ → Packed → ℕ → Packed
 nextState rows ps inner n sy st k =
-    cond (ltb k 128) (stepPacked rows ps inner n st (getD sy (3 * k) 0) (getD sy (3 * k + 1) 0) (eqb (getD sy (3 * k + 2) 0) 0)) st
+    cond (ltb k mostSymbols) (stepPacked rows ps inner n st (getD sy (3 * k) 0) (getD sy (3 * k + 1) 0) (eqb (getD sy (3 * k + 2) 0) 0)) st
 
 -- state i in the arrays of signals and statuses
 abbrev pub stateAt : List ℕ → List ℕ → ℕ → Packed

@@ -1,23 +1,26 @@
 // The step of a symbol, on states with their statuses in one number.
-use base_text::cut::wide;
+use base_bytes::numbers::wide;
+use base_numbers::MOST_NODES;
+use base_numbers::MOST_SIGNALS;
+use base_numbers::MOST_SYMBOL_BYTES;
+use base_numbers::MOST_SYMBOLS;
 use node_step::stored::Packed;
 ghost use mathlib.Core.Path.{_≡_};
-ghost use Prim.Native.Nat.{_<_};
 ghost use Rattle.machine_symbols.specs.Steps.{nextState};
 
 // The state after symbol k, which is one of at most 128.
 pub fn next<'a>(
-    rows: &'a [u64; 32],
-    parents: &'a [u8; 64],
-    inner: &'a [bool; 64],
+    rows: &'a [u64; MOST_SIGNALS],
+    parents: &'a [u8; MOST_NODES],
+    inner: &'a [bool; MOST_NODES],
     signals: usize,
-    symbols: &[u8; 384],
+    symbols: &[u8; MOST_SYMBOL_BYTES],
     st: Packed,
     k: usize,
 ) -> Packed
     ensures { λ r. ⌜ r ≡ nextState (now (rows .entry)) (now (parents .entry)) (now (inner .entry)) signals (now (symbols .entry)) st k ⌝ }
 {
-    if 128 <= k {
+    if MOST_SYMBOLS <= k {
         return st;
     }
     let at = 3 * k;

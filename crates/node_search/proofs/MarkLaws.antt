@@ -1,42 +1,31 @@
 -- Laws of the marks of nodes: which have nodes under them, and how many bytes a path shares with the one before it.
-use Prim.Native.Nat.{ℕ, zero, suc, _+_, _-_, _≤_, _<_, min}
+use Prim.Native.Nat.{ℕ, suc, _+_, _-_, _≤_, _<_, min}
 use mathlib.Core.Path.{_≡_, refl, ap, ap₂, sym, _∙_}
-use mathlib.Core.Bool.{Bool, true, false, cond, not, _&&_, _||_}
+use mathlib.Core.Bool.{Bool, true, false, cond, not, _&&_, _||_, or-true, or-false}
 use mathlib.Core.List.{List}
 use native.Mathlib.Omega.{arith}
 use native.Mathlib.Decide.{ℕ-discrete}
 use native.Mathlib.Numerals.{add-one}
 use native.Mathlib.Nat.{zero-add}
 use lib.Dec.{eqb, ltb}
-use lib.ListN.{length, getD, set, take, drop, replicate}
+use lib.ListN.{length, getD, set, take, drop}
 use lib.Seq.{getD-set-same, getD-set-other, ext-getD}
 use borrow.Author.Tests.{eq-eqb, ne-eqb, lt-ltb, ltb-true, ltb-false}
-use Rattle.theory_resolution.specs.Lists.{tabulate}
-use Rattle.theory_resolution.proofs.Lists.{tabulate-length, tabulate-at}
-use Rattle.base_text.proofs.Fields.{byTest}
+use Rattle.base_numbers.specs.Numbers.{mostNodes}
+use Rattle.base_lists.specs.Cuts.{stretch}
+use Rattle.base_lists.proofs.Bools.{byTest}
+use Rattle.base_lists.proofs.Tabulated.{tabulate-length, tabulate-at}
+use Rattle.base_lists.specs.Lists.{tabulate}
 use Rattle.base_text.specs.Text.{common}
-use Rattle.node_search.specs.Arrays.{stretch, lastPath, sharedOf, SharedIn, childless, innerOf}
-
-or-false : (b : Bool) → b || false ≡ b
-or-false true = refl
-or-false false = refl
-
-or-true : (b : Bool) → b || true ≡ true
-or-true true = refl
-or-true false = refl
-
--- no node is marked yet
-pub unmarked : (n k : ℕ) → getD (replicate n false) k false ≡ false
-unmarked zero k = refl
-unmarked (suc n) zero = refl
-unmarked (suc n) (suc k) = unmarked n k
+use Rattle.node_search.specs.Arrays.{lastPath, sharedOf, SharedIn, childless, innerOf}
 
 -- a number that is no node's
 pub mark-other : (l : List Bool) (p k : ℕ) → (p ≡ k + 1 → ⊥) → getD l k false ≡ (getD l k false || eqb p (k + 1))
 mark-other l p k h = sym (ap (λ b. getD l k false || b) (ne-eqb p (k + 1) h) ∙ or-false (getD l k false))
 
 -- a node's
-pub mark-node : (l : List Bool) (p i k : ℕ) → length l ≡ 64 → i ≡ p - 1 → (p ≡ 0 → ⊥) → p ≤ 64 → getD (set l i true) k false ≡ (getD l k false || eqb p (k + 1))
+pub mark-node : (l : List Bool) (p i k : ℕ) → length l ≡ mostNodes → i ≡ p - 1 → (p ≡ 0 → ⊥) → p ≤ mostNodes → getD (set l i true) k false
+    ≡ (getD l k false || eqb p (k + 1))
 mark-node l p i k n e z h = go (ℕ-discrete i k)
   where
     go : Dec (i ≡ k) → getD (set l i true) k false ≡ (getD l k false || eqb p (k + 1))
@@ -46,7 +35,8 @@ mark-node l p i k n e z h = go (ℕ-discrete i k)
     go (no j) = getD-set-other l i k true false (λ q. j (sym q)) ∙ mark-other l p k (λ q. omega arith)
 
 -- one parent more
-pub marks-more : (ps : List ℕ) (n k : ℕ) {a b : Bool} → a ≡ not (childless ps (k + 1) n) → b ≡ (a || eqb (getD ps n 0) (k + 1)) → b ≡ not (childless ps (k + 1) (n + 1))
+pub marks-more : (ps : List ℕ) (n k : ℕ) {a b : Bool} → a ≡ not (childless ps (k + 1) n) → b ≡ (a || eqb (getD ps n 0) (k + 1))
+    → b ≡ not (childless ps (k + 1) (n + 1))
 unfolding childless
 marks-more ps n k e f =
     f ∙ ap (λ z. z || eqb (getD ps n 0) (k + 1)) e ∙ sym (rw (add-one n) (go (childless ps (k + 1) n) (eqb (getD ps n 0) (k + 1))))
@@ -96,37 +86,37 @@ shared-more t ca pos len sh i {x} {y} {k} {r} v h e f g d s l = go (ℕ-discrete
 pub shared-of : (t ca pos len sh : List ℕ) {n m : ℕ} → n ≡ m → SharedIn t ca pos len sh n → SharedIn t ca pos len sh m
 shared-of t ca pos len sh e v i h = v i (omega arith)
 
--- nothing is shared yet
-pub unshared : (n k : ℕ) → _≡_ {A = ℕ} (getD (replicate n 0) k 0) 0
-unshared zero k = refl
-unshared (suc n) zero = refl
-unshared (suc n) (suc k) = unshared n k
-
 -- both arrays whole
 module _ (t ca pos len : List ℕ) where
-  pub shares-all : (sh : List ℕ) {n m : ℕ} → n ≡ m → length sh ≡ 64 → SharedIn t ca pos len sh n → ((k : ℕ) → n ≤ k → getD sh k 0 ≡ 0)
-      → sh ≡ tabulate (sharedOf t ca pos len m) 64
+  pub shares-all : (sh : List ℕ) {n m : ℕ} → n ≡ m → length sh ≡ mostNodes → SharedIn t ca pos len sh n → ((k : ℕ) → n ≤ k → getD sh k 0 ≡ 0)
+      → sh ≡ tabulate (sharedOf t ca pos len m) mostNodes
   unfolding sharedOf
   shares-all sh {n} {m} e l v z =
-      ext-getD 0 sh (tabulate (sharedOf t ca pos len m) 64) (l ∙ sym (tabulate-length (sharedOf t ca pos len m) 64))
+      ext-getD 0 sh (tabulate (sharedOf t ca pos len m) mostNodes) (l ∙ sym (tabulate-length (sharedOf t ca pos len m) mostNodes))
       (λ i h. byTest (ltb i m)
-      (λ b. v i (omega (arith, ltb-true i m b)) ∙ sym (tabulate-at (sharedOf t ca pos len m) 64 i 0 (omega arith) ∙ ap (λ b. cond b (sharedBy t ca pos len i) 0) b))
-      (λ b. z i (omega (arith, ltb-false i m b)) ∙ sym (tabulate-at (sharedOf t ca pos len m) 64 i 0 (omega arith) ∙ ap (λ b. cond b (sharedBy t ca pos len i) 0) b)))
+      (λ b. v i (omega (arith, ltb-true i m b)) ∙ sym (tabulate-at (sharedOf t ca pos len m) mostNodes i 0 (omega arith)
+      ∙ ap (λ b. cond b (sharedBy t ca pos len i) 0) b))
+      (λ b. z i (omega (arith, ltb-false i m b)) ∙ sym (tabulate-at (sharedOf t ca pos len m) mostNodes i 0 (omega arith)
+      ∙ ap (λ b. cond b (sharedBy t ca pos len i) 0) b)))
 
   -- and what they say of each node
-  pub shared-in : {sh : List ℕ} (nodes : ℕ) → sh ≡ tabulate (sharedOf t ca pos len (min nodes 64)) 64 → SharedIn t ca pos len sh (min nodes 64)
+  pub shared-in : {sh : List ℕ} (nodes : ℕ) → sh ≡ tabulate (sharedOf t ca pos len (min nodes mostNodes)) mostNodes
+      → SharedIn t ca pos len sh (min nodes mostNodes)
   unfolding sharedOf
   shared-in nodes e i l =
-      ap (λ s. getD s i 0) e ∙ tabulate-at (sharedOf t ca pos len (min nodes 64)) 64 i 0 (omega arith)
-      ∙ ap (λ b. cond b (sharedBy t ca pos len i) 0) (lt-ltb i (min nodes 64) l)
+      ap (λ s. getD s i 0) e ∙ tabulate-at (sharedOf t ca pos len (min nodes mostNodes)) mostNodes i 0 (omega arith)
+      ∙ ap (λ b. cond b (sharedBy t ca pos len i) 0) (lt-ltb i (min nodes mostNodes) l)
 
-pub marks-all : (ps : List ℕ) (inner : List Bool) {n m : ℕ} → n ≡ m → length inner ≡ 64 → ((k : ℕ) → k < 64 → getD inner k false ≡ not (childless ps (k + 1) n))
-    → inner ≡ tabulate (innerOf ps m) 64
+pub marks-all : (ps : List ℕ) (inner : List Bool) {n m : ℕ} → n ≡ m → length inner ≡ mostNodes
+    → ((k : ℕ) → k < mostNodes → getD inner k false ≡ not (childless ps (k + 1) n))
+    → inner ≡ tabulate (innerOf ps m) mostNodes
 unfolding innerOf
 marks-all ps inner {n} {m} e l v =
-    ext-getD false inner (tabulate (innerOf ps m) 64) (l ∙ sym (tabulate-length (innerOf ps m) 64))
-    (λ k h. v k (omega arith) ∙ ap (λ j. not (childless ps j n)) (add-one k) ∙ ap (λ j. not (childless ps (suc k) j)) e ∙ sym (tabulate-at (innerOf ps m) 64 k false (omega arith)))
+    ext-getD false inner (tabulate (innerOf ps m) mostNodes) (l ∙ sym (tabulate-length (innerOf ps m) mostNodes))
+    (λ k h. v k (omega arith) ∙ ap (λ j. not (childless ps j n)) (add-one k) ∙ ap (λ j. not (childless ps (suc k) j)) e
+    ∙ sym (tabulate-at (innerOf ps m) mostNodes k false (omega arith)))
 
-pub inner-in : (ps : List ℕ) {inner : List Bool} (n : ℕ) → inner ≡ tabulate (innerOf ps n) 64 → (k : ℕ) → k < 64 → getD inner k false ≡ not (childless ps (k + 1) n)
+pub inner-in : (ps : List ℕ) {inner : List Bool} (n : ℕ) → inner ≡ tabulate (innerOf ps n) mostNodes → (k : ℕ) → k < mostNodes → getD inner k false
+    ≡ not (childless ps (k + 1) n)
 unfolding innerOf
-inner-in ps n e k h = ap (λ s. getD s k false) e ∙ tabulate-at (innerOf ps n) 64 k false h ∙ ap (λ j. not (childless ps j n)) (sym (add-one k))
+inner-in ps n e k h = ap (λ s. getD s k false) e ∙ tabulate-at (innerOf ps n) mostNodes k false h ∙ ap (λ j. not (childless ps j n)) (sym (add-one k))

@@ -5,9 +5,10 @@ use mathlib.Core.Bool.{cond}
 use mathlib.Core.List.{List, []}
 use native.Mathlib.Omega.{arith}
 use borrow.Author.Tests.{lt-ltb, le-ltb}
-use Rattle.theory_resolution.specs.Lists.{tabulate}
-use Rattle.theory_resolution.proofs.Lists.{tabulate-same}
-use Rattle.node_search.specs.Arrays.{stretch, textIn}
+use Rattle.base_lists.specs.Cuts.{stretch}
+use Rattle.base_lists.proofs.Tabulated.{tabulate-same}
+use Rattle.base_lists.specs.Lists.{tabulate}
+use Rattle.node_search.specs.Arrays.{textIn}
 
 -- what the code answers within the room, and past it
 pub text-there : {r : List ℕ} (n : ℕ) (t at len : List ℕ) (i : ℕ) → i < n → r ≡ stretch t at len i → r ≡ textIn n t at len i

@@ -10,16 +10,17 @@ use lib.ListN.{length, getD, take, drop, length-drop}
 use lib.Seq.{take-all}
 use lib.Dec.{eqb, leb}
 use borrow.Author.Tests.{lt-leb, le-leb, lt-ltb, le-ltb, eq-eqb, ne-eqb, eqb-true}
+use Rattle.base_numbers.specs.Numbers.{mostNodes}
+use Rattle.base_lists.proofs.Cuts.{upTo-take, upTo-le, past-drop}
+use Rattle.base_lists.specs.Cuts.{upTo, past, stretch}
 use Rattle.theory_resolution.specs.Names.{sameName}
-use Rattle.base_text.specs.Text.{upTo, past, lowered}
+use Rattle.base_text.specs.Text.{lowered}
 use Rattle.base_text.specs.Words.{commonNext, differAt, endsAt}
 use Rattle.urn_names.specs.Urn.{alertUrn}
 use Rattle.base_text.proofs.Cases.{lowered-length, lowered-ends, lowered-upTo, lowered-past}
 use Rattle.base_text.proofs.Turns.{differ-next}
-use Rattle.base_text.proofs.Fields.{upTo-take, upTo-le, past-drop}
 use Rattle.node_search.specs.declared.uses.Search.{Search}
 use Rattle.node_search.specs.declared.uses.Use.the-variants.{Skipped}
-use Rattle.node_search.specs.Arrays.{stretch}
 use Rattle.node_search.specs.Search.{findName, nothing, coversBy, metWith, countedIn, lookBy, lookAt, searchFrom, foundIn, usedBy, usesOf}
 
 module _ (t s na nl : List ℕ) (n i : ℕ) (v : findName t na nl s 0 n ≡ findName t na nl s i (n - i)) where
@@ -43,12 +44,20 @@ covers-less w all n h = sym (rw (lt-leb all n h))
 pub covers-all : (w : List ℕ) (all n : ℕ) {b : Bool} → all ≤ n → b ≡ endsAt w all → b ≡ (leb all n && endsAt w all)
 covers-all w all n h e = e ∙ sym (rw (le-leb all n h))
 
-pub met-is : (p w : List ℕ) (inner : Bool) (k n : ℕ) (s : Search) {above ends whole : Bool} {node looked : ℕ} → above ≡ (leb (length p) n && endsAt w (length p))
-    → ends ≡ cond above (not inner) false → node ≡ cond above k (s .node) → whole ≡ cond above (eqb (length p) (length w)) (s .whole) → looked ≡ min (length p) (n + 1)
+pub met-is : (p w : List ℕ) (inner : Bool) (k n : ℕ) (s : Search) {above ends whole : Bool} {node looked : ℕ}
+    → above ≡ (leb (length p) n && endsAt w (length p))
+    → ends ≡ cond above (not inner) false → node ≡ cond above k (s .node) → whole ≡ cond above (eqb (length p) (length w)) (s .whole)
+    → looked ≡ min (length p) (n + 1)
     → record { ends = ends; node = node; whole = whole; same = n; compared = s .compared + looked } ≡ metWith p w inner k n s
 unfolding metWith coversBy
 met-is p w inner k n s {above} a e f g h =
-    let here : (b : Bool) → Search = λ b. record { ends = b && not inner; node = cond b k (s .node); whole = cond b (eqb (length p) (length w)) (s .whole); same = n; compared = s .compared + min (length p) (n + 1) } in
+    let here : (b : Bool) → Search = λ b. record {
+      ends = b && not inner;
+      node = cond b k (s .node);
+      whole = cond b (eqb (length p) (length w)) (s .whole);
+      same = n;
+      compared = s .compared + min (length p) (n + 1);
+    } in
     let x = e ∙ both above in
     (λ i. record { ends = x i; node = f i; whole = g i; same = n; compared = s .compared + h i }) ∙ ap here a
   where
@@ -57,8 +66,10 @@ met-is p w inner k n s {above} a e f g h =
     both false = refl
 
 -- the same for a text whose letters are taken as small ones
-pub met-lowered : (p w : List ℕ) (inner : Bool) (k n : ℕ) (s : Search) {above ends whole : Bool} {node looked : ℕ} → above ≡ (leb (length p) n && endsAt w (length p))
-    → ends ≡ cond above (not inner) false → node ≡ cond above k (s .node) → whole ≡ cond above (eqb (length p) (length w)) (s .whole) → looked ≡ min (length p) (n + 1)
+pub met-lowered : (p w : List ℕ) (inner : Bool) (k n : ℕ) (s : Search) {above ends whole : Bool} {node looked : ℕ}
+    → above ≡ (leb (length p) n && endsAt w (length p))
+    → ends ≡ cond above (not inner) false → node ≡ cond above k (s .node) → whole ≡ cond above (eqb (length p) (length w)) (s .whole)
+    → looked ≡ min (length p) (n + 1)
     → record { ends = ends; node = node; whole = whole; same = n; compared = s .compared + looked } ≡ metWith p (lowered w) inner k n s
 met-lowered p w inner k n s {above} a e f g h =
     met-is p (lowered w) inner k n s (a ∙ ap (λ z. leb (length p) n && z) (sym (lowered-ends w (length p)))) e f
@@ -79,7 +90,8 @@ module _ (t pos len : List ℕ) (inner : List Bool) (w : List ℕ) (i l : ℕ) (
   unfolding lookBy
   look-counted h e = e ∙ sym (rw (lt-ltb (s .same) l h))
 
-  pub look-departs : {p : List ℕ} {b : Bool} {r : Search} → l ≤ s .same → p ≡ stretch t pos len i → b ≡ (eqb (s .same) l && differAt p w l) → b ≡ true → length p ≤ 255
+  pub look-departs : {p : List ℕ} {b : Bool} {r : Search} → l ≤ s .same → p ≡ stretch t pos len i → b ≡ (eqb (s .same) l && differAt p w l)
+      → b ≡ true → length p ≤ 255
       → r ≡ countedIn s → (r ≡ lookBy t pos len inner w i l s) × (s .same + 1 ≤ 255)
   unfolding lookBy metWith coversBy
   look-departs {p} {b} {r} h g d q short e =
@@ -89,8 +101,11 @@ module _ (t pos len : List ℕ) (inner : List Bool) (w : List ℕ) (i l : ℕ) (
       let n : commonNext p w (s .same) l ≡ s .same = ap (commonNext p w (s .same)) (sym same) ∙ k .1 in
       let here : ℕ → Search = λ n. metWith p w (getD inner i false) (i + 1) n s in
       let m : min (length p) (s .same + 1) ≡ s .same + 1 = omega (arith, k .0) in
-      let z : here (s .same) ≡ countedIn s = rw (lt-leb (length p) (s .same) (k .0), m) in
-      (e ∙ sym z ∙ ap here (sym n) ∙ ap (λ z. metWith z w (getD inner i false) (i + 1) (commonNext z w (s .same) l) s) g ∙ sym (rw (le-ltb (s .same) l h)), omega (arith, k .0))
+      let z : here (s .same) ≡ countedIn s = rw (lt-leb (length p) (s .same) (k .0), m) in (
+        e ∙ sym z ∙ ap here (sym n) ∙ ap (λ z. metWith z w (getD inner i false) (i + 1) (commonNext z w (s .same) l) s) g
+            ∙ sym (rw (le-ltb (s .same) l h)),
+        omega (arith, k .0),
+      )
 
   pub look-met : {p : List ℕ} {n : ℕ} {r : Search} → l ≤ s .same → p ≡ stretch t pos len i → n ≡ commonNext p w (s .same) l
       → r ≡ metWith p w (getD inner i false) (i + 1) n s → r ≡ lookBy t pos len inner w i l s
@@ -143,12 +158,13 @@ module _ (t na nl : List ℕ) (k : ℕ) (ca pos len sh : List ℕ) (inner : List
     unfolding usesOf usedBy
     uses-strange l = simp (sym f ∙ e, ← found, le-ltb c 8 l)
 
-    pub uses-found : {w : List ℕ} {l : ℕ} {r : Search} → c < 8 → w ≡ past 58 s → l ≡ min n 64
+    pub uses-found : {w : List ℕ} {l : ℕ} {r : Search} → c < 8 → w ≡ past 58 s → l ≡ min n mostNodes
         → r ≡ searchFrom t ca pos len sh inner c (lowered w) 0 l nothing → foundIn c r ≡ usesOf t na nl k ca pos len sh inner n uri
     unfolding usesOf usedBy
     uses-found {w} {l} {r} u j p d =
-        let r′ : r ≡ searchFrom t ca pos len sh inner c (past 58 (lowered (drop 10 uri))) 0 (min n 64) nothing =
-        d ∙ ap₂ (λ a b. searchFrom t ca pos len sh inner c a 0 b nothing) (ap lowered (j ∙ ap (past 58) i) ∙ sym (lowered-past 58 (omega arith) (inl (omega arith)) (drop 10 uri))) p in
+        let r′ : r ≡ searchFrom t ca pos len sh inner c (past 58 (lowered (drop 10 uri))) 0 (min n mostNodes) nothing =
+        d ∙ ap₂ (λ a b. searchFrom t ca pos len sh inner c a 0 b nothing) (ap lowered (j ∙ ap (past 58) i)
+        ∙ sym (lowered-past 58 (omega arith) (inl (omega arith)) (drop 10 uri))) p in
         sym (simp (sym f ∙ e, ← found, lt-ltb c 8 u, ← r′))
 
 pub part-rest : (uri : List ℕ) (i : ℕ) → take (length uri) (drop i uri) ≡ drop i uri

@@ -2,8 +2,8 @@
 use Prim.Native.Nat.{ℕ, zero, suc, _+_, _-_, _≤_, _<_, min}
 use mathlib.Core.Path.{_≡_, refl, sym, ap, ap₂, _∙_}
 use mathlib.Core.Logic.{inl, inr}
-use mathlib.Core.Bool.{Bool, true, false, cond, not, _&&_, _||_, false≢true, and-false, and-eq-true-iff}
-use mathlib.Core.Option.{Option, none, some}
+use mathlib.Core.Bool.{Bool, true, false, cond, not, _&&_, _||_, and-false, and-eq-true-iff}
+use mathlib.Core.Option.{none, some}
 use mathlib.Core.List.{List, [], _∷_, _++_, append-nil}
 use lib.Dec.{eqb, ltb, leb}
 use borrow.Author.Tests.{eqb-true, eq-eqb, ne-eqb, lt-ltb, ltb-true, lt-leb, leb-true, leb-false}
@@ -13,21 +13,23 @@ use native.Mathlib.Omega.{arith}
 use native.Mathlib.Decide.{ℕ-discrete}
 use native.Mathlib.Nat.{add-zero, zero-add}
 use native.Mathlib.Numerals.{add-one}
-use Rattle.theory_resolution.specs.Names.{Name, Parts, sameName, sameParts, below, Above}
-use Rattle.theory_resolution.proofs.Names.{below-to, below-self}
-use Rattle.theory_resolution.specs.Lists.{memberBy, indexBy}
-use Rattle.theory_resolution.proofs.Lists.{member-of, mem-at, index-member}
-use Rattle.theory_resolution.proofs.Names.{name-exact}
+use Rattle.base_numbers.specs.Numbers.{mostNodes}
+use Rattle.base_lists.proofs.Numbers.{min-le}
+use Rattle.base_lists.proofs.Bools.{byTest}
+use Rattle.base_lists.specs.Cuts.{upTo, past, stretch}
+use Rattle.base_lists.proofs.Lists.{member-of, mem-at, index-member}
+use Rattle.base_lists.specs.Lists.{memberBy, indexBy}
+use Rattle.theory_resolution.specs.Names.{Name, Parts, sameName, sameParts, below, Above, someBelow}
+use Rattle.theory_resolution.proofs.Names.{some-above, above-some, name-exact}
 use Rattle.theory_resolution.specs.Table.{Urn, urn, Table}
-use Rattle.theory_resolution.specs.Nodes.{sameUrn, nodes, isNode, RootOrNode, hasUnder, isRoot, leaf, deepest}
+use Rattle.theory_resolution.specs.Nodes.{sameUrn, nodes, isNode, RootOrNode, hasUnder, isRoot, leaf, deepest, number, nodeAt}
 use Rattle.theory_resolution.proofs.Nodes.{urn-exact}
-use Rattle.theory_resolution.specs.Nodes.{number, nodeAt}
 use Rattle.theory_resolution.proofs.Numbers.{number-node, number-at, root-number, ancestor-le}
 use Rattle.theory_resolution.proofs.Deepest.{deep-above, deep-most, leaf-ends, deepest-node}
-use Rattle.base_text.specs.Text.{upTo, past, fields, textOf, someBelow, covers, common, comparedBytes, lowered}
+use Rattle.base_text.specs.Text.{fields, textOf, covers, common, comparedBytes, lowered}
 use Rattle.base_text.specs.Words.{commonNext}
 use Rattle.urn_names.specs.Urn.{alertUrn}
-use Rattle.base_text.proofs.Fields.{byTest, fields-first, same-fields, text-fields}
+use Rattle.base_text.proofs.Fields.{fields-first, same-fields, text-fields}
 use Rattle.base_text.proofs.Cases.{lowered-drop, lowered-twice}
 use Rattle.base_text.proofs.LetterCase.{lowered-exactly}
 use Rattle.urn_names.proofs.Cases.{alert-case}
@@ -36,8 +38,7 @@ use Rattle.node_search.specs.declared.uses.Search.{Search}
 use Rattle.node_search.specs.declared.uses.Use.the-variants.{Skipped, Used}
 use Rattle.node_search.specs.Uses.{usedUrn, CaseIgnored, comparedOver, useOf}
 use Rattle.node_search.specs.Search.{findName, nothing, coversBy, metWith, countedIn, lookBy, lookAt, searchFrom, foundIn, usedBy, usesOf}
-use Rattle.node_search.specs.Arrays.{stretch, NamesIn, NodesIn, lastPath, SharedIn, InnerIn}
-use Rattle.base_text.proofs.Lesser.{min-le}
+use Rattle.node_search.specs.Arrays.{NamesIn, NodesIn, lastPath, SharedIn, InnerIn}
 
 -- the names
 names-right : (t s na nl : List ℕ) (ns : List Name) (i : ℕ)
@@ -89,17 +90,6 @@ module _ (test : ℕ → Bool) where
   last-before : (n : ℕ) → test n ≡ false → last (suc n) ≡ last n
   unfolding last
   last-before n e = rw e
-
--- p is u or above it, as a test and with a witness
-some-above : (p u : Parts) → someBelow (below p u) ≡ true → Above p u
-some-above p u = go (below p u) refl
-  where
-    go : (o : Option Parts) → below p u ≡ o → someBelow o ≡ true → Above p u
-    go none b e = absurd (false≢true e)
-    go (some r) b e = record { rest = r; joined = below-to p u r b }
-
-above-some : (p u : Parts) → Above p u → someBelow (below p u) ≡ true
-above-some p u a = rw (← a .joined, below-self p (a .rest))
 
 -- the deepest node, by the array
 module _ (t : List ℕ) (tb : Table) (ca pos len : List ℕ) (n : ℕ) (ni : NodesIn t ca pos len n tb) (c : ℕ) (w : List ℕ) where
@@ -163,7 +153,8 @@ module _ (t : List ℕ) (tb : Table) (ca pos len : List ℕ) (n : ℕ) (ni : Nod
           let m = number-node ns c d e in
           let l : m .0 < n = omega (arith, m .1, ni .all-nodes) in
           last-is passed n (m .0) l
-          (pass-is (m .0) l ∙ ap (λ x. eqb (x .cat) c && someBelow (below (x .path) u)) (m .3) ∙ ap₂ _&&_ (eq-eqb c c refl) (above-some d u (deep-above ns c u)))
+          (pass-is (m .0) l ∙ ap (λ x. eqb (x .cat) c && someBelow (below (x .path) u)) (m .3)
+          ∙ ap₂ _&&_ (eq-eqb c c refl) (above-some d u (deep-above ns c u)))
           (λ k a b. quiet k b (omega (arith, m .2)))
           ∙ sym (m .2)
 
@@ -172,7 +163,8 @@ module _ (t : List ℕ) (tb : Table) (ca pos len : List ℕ) (n : ℕ) (ni : Nod
   whole-right = go (deepest-node ns c u)
     where
       go : RootOrNode (nodes tb) c d → cond (eqb (number ns c d) 0) false (sameName (stretch t pos len (number ns c d - 1)) w) ≡ sameParts d u
-      go (inl e) = rw (eq-eqb (number ns c d) 0 (ap (number ns c) e ∙ root-number tb c)) (sym (ap (λ z. sameParts z u) e ∙ ap (sameParts []) (fields-first 58 w .1)))
+      go (inl e) = rw (eq-eqb (number ns c d) 0 (ap (number ns c) e ∙ root-number tb c))
+          (sym (ap (λ z. sameParts z u) e ∙ ap (sameParts []) (fields-first 58 w .1)))
       go (inr e) =
           let m = number-node ns c d e in
           let l : m .0 < n = omega (arith, m .1, ni .all-nodes) in
@@ -240,7 +232,11 @@ module _ (t : List ℕ) (tb : Table) (ca pos len : List ℕ) (n : ℕ) (ni : Nod
         let l : getD sh i 0 ≡ common (lastPath t ca pos len c i) (stretch t pos len i) =
         si i h ∙ ap (λ z. common (lastPath t ca pos len z i) (stretch t pos len i)) (eqb-true (getD ca i 0) c x) in
         rw x (byTest (ltb (s .same) (getD sh i 0))
-        (λ q. rw q (counted-is (lastPath t ca pos len c i) (stretch t pos len i) (getD inner i false) (i + 1) s e (omega (arith, l, ltb-true (s .same) (getD sh i 0) q))))
+        (λ q. rw q (counted-is (lastPath t ca pos len c i) (stretch t pos len i) (getD inner i false) (i + 1) s e (omega (
+          arith,
+          l,
+          ltb-true (s .same) (getD sh i 0) q,
+        ))))
         (λ q. rw q (ap (λ z. metWith (stretch t pos len i) w (getD inner i false) (i + 1) z s)
         (ap₂ (commonNext (stretch t pos len i) w) e l ∙ common-three (lastPath t ca pos len c i) (stretch t pos len i) w))))
 
@@ -303,7 +299,8 @@ module _ (t : List ℕ) (tb : Table) (ca pos len : List ℕ) (n : ℕ) (ni : Nod
         all = drop-cons ns i (urn 0 []) (omega (arith, ni .all-nodes)) ∙ ap (λ z. nodeAt ns i ∷ drop z ns) (sym (add-one i))
 
         Next : Search → Type 0
-        Next r = r .ends ≡ false → r .node ≡ last passed (i + 1) → r .whole ≡ wholeAt (last passed (i + 1)) → r .same ≡ sameBefore (i + 1) → Right (from (i + 1) k r) (r .compared + comparedOver ns c u rest)
+        Next r = r .ends ≡ false → r .node ≡ last passed (i + 1) → r .whole ≡ wholeAt (last passed (i + 1)) → r .same ≡ sameBefore (i + 1)
+            → Right (from (i + 1) k r) (r .compared + comparedOver ns c u rest)
 
         below-none : last passed (suc i) ≡ last passed i → last passed i ≡ last passed (i + 1)
         below-none q = sym q ∙ ap (last passed) (sym (add-one i))
@@ -319,14 +316,16 @@ module _ (t : List ℕ) (tb : Table) (ca pos len : List ℕ) (n : ℕ) (ni : Nod
         inside false q z y x ih =
             let m : last passed i ≡ last passed (i + 1) = below-none (last-before passed i (seen false q x)) in
             let o : comparedOver ns c u (drop i ns) ≡ comparedBytes p w + comparedOver ns c u rest =
-            ap (comparedOver ns c u) all ∙ over-node (nodeAt ns i) rest p (ap (λ z. eqb z c) (sym (ni .cat-at i h)) ∙ x) (ni .path-at i h) false (ap (λ z. leaf ns c (nodeAt ns i .path) && z) q ∙ and-false (leaf ns c (nodeAt ns i .path))) in
+            ap (comparedOver ns c u) all ∙ over-node (nodeAt ns i) rest p (ap (λ z. eqb z c) (sym (ni .cat-at i h)) ∙ x) (ni .path-at i h)
+            false (ap (λ z. leaf ns c (nodeAt ns i .path) && z) q ∙ and-false (leaf ns c (nodeAt ns i .path))) in
             right-by (turn i k s {r = met i s} (look-is i h s g x) false (rw (by false q))) (omega (arith, o))
             (ih (met i s) (rw (by false q)) (rw (by false q) (a ∙ m)) (rw (by false q) (b ∙ ap wholeAt m)) (same-here i x))
         inside true q true y x ih =
             let m : suc i ≡ last passed (i + 1) = sym (last-here passed i (seen true q x)) ∙ ap (last passed) (sym (add-one i)) in
             let cat : nodeAt ns i .cat ≡ c = sym (ni .cat-at i h) ∙ eqb-true (getD ca i 0) c x in
             let o : comparedOver ns c u (drop i ns) ≡ comparedBytes p w + comparedOver ns c u rest =
-            ap (comparedOver ns c u) all ∙ over-node (nodeAt ns i) rest p (ap (λ z. eqb z c) (sym (ni .cat-at i h)) ∙ x) (ni .path-at i h) false (ap (λ z. z && covers p w) (leaf-is i h cat ∙ ap not y)) in
+            ap (comparedOver ns c u) all ∙ over-node (nodeAt ns i) rest p (ap (λ z. eqb z c) (sym (ni .cat-at i h)) ∙ x) (ni .path-at i h)
+            false (ap (λ z. z && covers p w) (leaf-is i h cat ∙ ap not y)) in
             right-by (turn i k s {r = met i s} (look-is i h s g x) false (rw (by true q, y))) (omega (arith, o))
             (ih (met i s) (rw (by true q, y)) (rw (by true q) (add-one i ∙ m)) (rw (by true q) (whole-node i q ∙ ap wholeAt m)) (same-here i x))
         inside true q false y x ih =
@@ -334,7 +333,8 @@ module _ (t : List ℕ) (tb : Table) (ca pos len : List ℕ) (n : ℕ) (ni : Nod
             let lf : leaf ns c (nodeAt ns i .path) ≡ true = leaf-is i h cat ∙ ap not y in
             let m : suc i ≡ last passed n = sym (leaf-deepest i h (seen true q x) lf) ∙ sym node-right in
             let o : comparedOver ns c u (drop i ns) ≡ comparedBytes p w + 0 =
-            ap (comparedOver ns c u) all ∙ over-node (nodeAt ns i) rest p (ap (λ z. eqb z c) (sym (ni .cat-at i h)) ∙ x) (ni .path-at i h) true (ap₂ _&&_ lf q) in
+            ap (comparedOver ns c u) all ∙ over-node (nodeAt ns i) rest p (ap (λ z. eqb z c) (sym (ni .cat-at i h)) ∙ x) (ni .path-at i h)
+            true (ap₂ _&&_ lf q) in
             right-by (turn i k s {r = met i s} (look-is i h s g x) true (rw (by true q, y))) (omega (arith, o))
             (rw (by true q) (add-one i ∙ m), rw (by true q) (whole-node i q ∙ ap wholeAt m), refl)
 
@@ -356,20 +356,22 @@ module _ (t : List ℕ) (tb : Table) (ca pos len : List ℕ) (n : ℕ) (ni : Nod
         λ i. Used c (node i) (whole i) (count i)
 
 -- a URN of a category that the table has
-used-right : (t : List ℕ) (tb : Table) (ca pos len : List ℕ) (n : ℕ) → NodesIn t ca pos len n tb → (sh : List ℕ) → SharedIn t ca pos len sh n → (inner : List Bool) → InnerIn inner tb → (c : ℕ) → c < 8 → (w : List ℕ)
+used-right : (t : List ℕ) (tb : Table) (ca pos len : List ℕ) (n : ℕ) → NodesIn t ca pos len n tb → (sh : List ℕ)
+    → SharedIn t ca pos len sh n → (inner : List Bool) → InnerIn inner tb → (c : ℕ) → c < 8 → (w : List ℕ)
     → usedBy t ca pos len sh inner n w c ≡ useOf tb (some (urn c (fields 58 w)))
 unfolding usedBy
 used-right t tb ca pos len n ni sh si inner ii c l w =
-    ap (λ b. cond b (foundIn c (searchFrom t ca pos len sh inner c w 0 (min n 64) nothing)) Skipped) (lt-ltb c 8 l)
+    ap (λ b. cond b (foundIn c (searchFrom t ca pos len sh inner c w 0 (min n mostNodes) nothing)) Skipped) (lt-ltb c 8 l)
     ∙ ap (λ z. foundIn c (searchFrom t ca pos len sh inner c w 0 z nothing)) few
     ∙ found-right t tb ca pos len n ni c w sh si inner ii
   where
-    few : min n 64 ≡ n
-    few = sym (min-le n 64 (ni .few-nodes))
+    few : min n mostNodes ≡ n
+    few = sym (min-le n mostNodes (ni .few-nodes))
 
 -- the use of a URI, by the arrays, is the used URN's
 pub uses-right : (t : List ℕ) (tb : Table) (na nl : List ℕ) (k : ℕ) (cs : List Name) (ca pos len : List ℕ) (n : ℕ)
-    → NamesIn t na nl k cs → NodesIn t ca pos len n tb → (sh : List ℕ) → SharedIn t ca pos len sh n → (inner : List Bool) → InnerIn inner tb → (uri : List ℕ) → usesOf t na nl k ca pos len sh inner n uri ≡ useOf tb (usedUrn cs uri)
+    → NamesIn t na nl k cs → NodesIn t ca pos len n tb → (sh : List ℕ) → SharedIn t ca pos len sh n → (inner : List Bool)
+    → InnerIn inner tb → (uri : List ℕ) → usesOf t na nl k ca pos len sh inner n uri ≡ useOf tb (usedUrn cs uri)
 unfolding usesOf usedUrn usedBy
 uses-right t tb na nl k cs ca pos len n nm ni sh si inner ii uri = go (alertUrn uri)
   where
@@ -404,7 +406,8 @@ lowered-use : (names : List Name) (uri : List ℕ) → usedUrn names (lowered ur
 unfolding usedUrn
 lowered-use names uri =
     let e : lowered (drop 10 (lowered uri)) ≡ lowered (drop 10 uri) = ap lowered (lowered-drop 10 uri) ∙ lowered-twice (drop 10 uri) in
-    ap₂ (λ a s. cond (a && memberBy sameName (upTo 58 s) names) (some (urn (indexBy sameName (upTo 58 s) names) (fields 58 (past 58 s)))) none) (alert-case uri) e
+    ap₂ (λ a s. cond (a && memberBy sameName (upTo 58 s) names) (some (urn (indexBy sameName (upTo 58 s) names) (fields 58 (past 58 s))))
+    none) (alert-case uri) e
 
 pub case-ignored : CaseIgnored
 case-ignored names a b k = sym (lowered-use names a) ∙ ap (usedUrn names) (lowered-exactly a b .1 k) ∙ lowered-use names b

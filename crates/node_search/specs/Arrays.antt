@@ -5,15 +5,13 @@ use mathlib.Core.Path.{_≡_}
 use mathlib.Core.Bool.{Bool, true, false, cond, not, _&&_}
 use mathlib.Core.List.{List, []}
 use lib.Dec.{eqb, ltb}
-use lib.ListN.{getD, length, take, drop}
+use lib.ListN.{getD, length}
+use Rattle.base_numbers.specs.Numbers.{mostCategories, mostNodes}
+use Rattle.base_lists.specs.Cuts.{stretch}
 use Rattle.theory_resolution.specs.Names.{Name}
 use Rattle.theory_resolution.specs.Table.{Table}
 use Rattle.theory_resolution.specs.Nodes.{nodes, nodeAt, hasUnder}
 use Rattle.base_text.specs.Text.{fields, common}
-
--- the bytes of t at the i-th of the places in `at`, as many as `len` says
-abbrev pub stretch : List ℕ → List ℕ → List ℕ → ℕ → List ℕ
-stretch t at len i = take (getD len i 0) (drop (getD at i 0) t)
 
 -- the same in arrays with room for n texts: no bytes past them
 unfoldable pub textIn : ℕ → List ℕ → List ℕ → List ℕ → ℕ → List ℕ
@@ -22,13 +20,13 @@ textIn n t at len i = cond (ltb i n) (stretch t at len i) []
 -- the names of the categories, in order
 pub record NamesIn (t nameAt nameLen : List ℕ) (k : ℕ) (names : List Name) : Type 0 where
   pub all-names : length names ≡ k
-  pub few-names : k ≤ 8
+  pub few-names : k ≤ mostCategories
   pub name-at : (i : ℕ) → i < k → stretch t nameAt nameLen i ≡ getD names i []
 
 -- the nodes in order: each one's category, and its path's bytes with colons between the parts
 pub record NodesIn (t category at len : List ℕ) (n : ℕ) (T : Table) : Type 0 where
   pub all-nodes : length (nodes T) ≡ n
-  pub few-nodes : n ≤ 64
+  pub few-nodes : n ≤ mostNodes
   pub cat-at : (i : ℕ) → i < n → getD category i 0 ≡ nodeAt (nodes T) i .cat
   pub path-at : (i : ℕ) → i < n → fields 58 (stretch t at len i) ≡ nodeAt (nodes T) i .path
 

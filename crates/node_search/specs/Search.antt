@@ -4,18 +4,19 @@ use mathlib.Core.Bool.{Bool, false, cond, not, _&&_}
 use mathlib.Core.List.{List}
 use lib.ListN.{length, getD, drop}
 use lib.Dec.{eqb, ltb, leb}
+use Rattle.base_numbers.specs.Numbers.{mostCategories, mostNodes}
+use Rattle.base_lists.specs.Cuts.{stretch}
 use Rattle.theory_resolution.specs.Names.{sameName}
 use Rattle.base_text.specs.Text.{lowered}
 use Rattle.base_text.specs.Words.{commonNext, endsAt}
 use Rattle.urn_names.specs.Urn.{alertUrn, categoryOf, pathOf}
-use Rattle.node_search.specs.Arrays.{stretch}
 use Rattle.node_search.specs.declared.uses.Search.{Search}
 use Rattle.node_search.specs.declared.uses.Use.{Use}
 use Rattle.node_search.specs.declared.uses.Use.the-variants.{Skipped, Used}
 
 -- the first of the n names from i on that is s, or 8
 unfoldable pub findName : List ℕ → List ℕ → List ℕ → List ℕ → ℕ → ℕ → ℕ
-findName t nameAt nameLen s i zero = 8
+findName t nameAt nameLen s i zero = mostCategories
 findName t nameAt nameLen s i (suc n) =
     cond (sameName s (stretch t nameAt nameLen i)) i (findName t nameAt nameLen s (i + 1) n)
 
@@ -67,11 +68,11 @@ foundIn c s = Used c (s .node) (s .whole) (s .compared)
 
 -- the path w in category c, if that is one
 unfoldable pub usedBy : List ℕ → List ℕ → List ℕ → List ℕ → List ℕ → List Bool → ℕ → List ℕ → ℕ → Use
-usedBy t category at len shared inner n w c = cond (ltb c 8) (foundIn c (searchFrom t category at len shared inner c w 0 (min n 64) nothing)) Skipped
+usedBy t category at len shared inner n w c = cond (ltb c mostCategories) (foundIn c (searchFrom t category at len shared inner c w 0 (min n mostNodes) nothing)) Skipped
 
 -- what a URI is to the table in the arrays
 unfoldable pub usesOf : List ℕ → List ℕ → List ℕ → ℕ → List ℕ → List ℕ → List ℕ → List ℕ → List Bool → ℕ → List ℕ → Use
 usesOf t nameAt nameLen k category at len shared inner n uri =
     cond (alertUrn uri)
-    (usedBy t category at len shared inner n (pathOf (lowered (drop 10 uri))) (findName t nameAt nameLen (categoryOf (lowered (drop 10 uri))) 0 (min k 8)))
+    (usedBy t category at len shared inner n (pathOf (lowered (drop 10 uri))) (findName t nameAt nameLen (categoryOf (lowered (drop 10 uri))) 0 (min k mostCategories)))
     Skipped

@@ -7,11 +7,11 @@ use mathlib.Core.Option.{Option, none, some}
 use mathlib.Core.List.{List, [], _∷_}
 use lib.ListN.{drop}
 use lib.Dec.{eqb}
-use Rattle.theory_resolution.specs.Names.{Name, Parts, sameName, sameParts, below}
-use Rattle.theory_resolution.specs.Lists.{memberBy, indexBy}
+use Rattle.base_lists.specs.Lists.{memberBy, indexBy}
+use Rattle.theory_resolution.specs.Names.{Name, Parts, sameName, sameParts, below, someBelow}
 use Rattle.theory_resolution.specs.Table.{Urn, urn, Table}
 use Rattle.theory_resolution.specs.Nodes.{nodes, number, leaf, deepest}
-use Rattle.base_text.specs.Text.{fields, textOf, someBelow, comparedBytes, lowered}
+use Rattle.base_text.specs.Text.{fields, textOf, comparedBytes, lowered}
 use Rattle.base_text.specs.LetterCase.{SameButCase}
 use Rattle.urn_names.specs.Urn.{alertUrn, categoryOf, pathOf}
 use Rattle.node_search.specs.declared.uses.Use.{Use}

@@ -1,10 +1,14 @@
+// The search for the deepest node that is a URN or above it, and what a URI is to a table.
 use crate::texts::name_text;
 use crate::texts::node_text;
+use base_numbers::MOST_CATEGORIES;
+use base_numbers::MOST_NODES;
 ghost use mathlib.Core.Path.{_≡_};
 ghost use mathlib.Core.Bool.{true, cond, _&&_};
 ghost use Prim.Native.Nat.{_+_, _*_, _≤_, _<_, min};
 ghost use lib.Dec.{eqb, leb};
 ghost use lib.ListN.{length};
+ghost use Rattle.base_numbers.specs.Numbers.{mostCategories, mostNodes};
 ghost use Rattle.base_text.specs.Text.{lowered};
 ghost use Rattle.base_text.specs.Words.{differAt, endsAt};
 ghost use Rattle.node_search.specs.Search.{findName, nothing, metWith, countedIn, lookBy, searchFrom, usesOf};
@@ -34,12 +38,12 @@ struct Search {
 // The number of the first of the n categories that has the name s, whatever its letter case, or 8.
 fn find_name<'a>(
     t: &[u8],
-    name_at: &'a [u16; 8],
-    name_len: &'a [u8; 8],
+    name_at: &'a [u16; MOST_CATEGORIES],
+    name_len: &'a [u8; MOST_CATEGORIES],
     s: &[u8],
     n: usize,
 ) -> usize
-    requires { ⌜ n ≤ 8 ⌝ }
+    requires { ⌜ n ≤ mostCategories ⌝ }
     ensures { λ r. ⌜ r ≡ findName (now (t .entry)) (now («name_at» .entry)) (now («name_len» .entry)) (lowered (now (s .entry))) 0 n ⌝ }
 {
     let mut i = 0;
@@ -49,7 +53,7 @@ fn find_name<'a>(
         }
         i += 1;
     }
-    8
+    MOST_CATEGORIES
 }
 
 // A path of so many bytes, n of them in common with w, is w or above it.
@@ -63,7 +67,7 @@ fn covers_by(all: usize, w: &[u8], n: usize) -> bool
 }
 
 // How many bytes are compared of a path of so many bytes, n of them in common with another.
-fn looked(all: usize, n: usize) -> u32
+fn bytes_compared(all: usize, n: usize) -> u32
     requires { ⌜ all ≤ 255 ⌝ }
     ensures { λ r. ⌜ (r ≡ min all (n + 1)) × (r ≤ 255) ⌝ }
 {
@@ -93,7 +97,7 @@ fn pick_bool(b: bool, x: bool, y: bool) -> bool
 }
 
 // The search for w at node k with the path p, which has n bytes in common with w, and has nodes under it or none.
-fn met(p: &[u8], w: &[u8], inner: bool, k: u8, n: usize, s: Search) -> Search
+fn meet(p: &[u8], w: &[u8], inner: bool, k: u8, n: usize, s: Search) -> Search
     requires { ⌜ (length (now p) ≤ 255) × (s .compared ≤ 65535) ⌝ }
     ensures { λ r. ⌜ r ≡ metWith (now (p .entry)) (lowered (now (w .entry))) inner k n s ⌝ }
     ensures { λ r. ⌜ r .compared ≤ s .compared + 255 ⌝ }
@@ -107,12 +111,12 @@ fn met(p: &[u8], w: &[u8], inner: bool, k: u8, n: usize, s: Search) -> Search
         node: pick(above, k, s.node),
         whole: pick_bool(above, whole, s.whole),
         same: n,
-        compared: s.compared + looked(all, n),
+        compared: s.compared + bytes_compared(all, n),
     }
 }
 
 // The search at a path that differs from w where the last one did.
-fn counted(s: Search) -> Search
+fn count_differing(s: Search) -> Search
     requires { ⌜ (s .same ≤ 255) × (s .compared ≤ 65535) ⌝ }
     ensures { λ r. ⌜ r ≡ countedIn s ⌝ }
 {
@@ -127,7 +131,7 @@ fn counted(s: Search) -> Search
 }
 
 // The path p, which shares with the one before just what that has in common with w, differs from w right after it.
-fn departs(p: &[u8], w: &[u8], same: usize, l: usize) -> bool
+fn differs_after(p: &[u8], w: &[u8], same: usize, l: usize) -> bool
     ensures { λ r. ⌜ r ≡ (eqb same l && differAt (now (p .entry)) (lowered (now (w .entry))) l) ⌝ }
 {
     if same == l {
@@ -140,44 +144,44 @@ fn departs(p: &[u8], w: &[u8], same: usize, l: usize) -> bool
 // the one before it.
 fn look<'a>(
     t: &[u8],
-    at: &'a [u16; 64],
-    len: &'a [u8; 64],
-    inner: &'a [bool; 64],
+    at: &'a [u16; MOST_NODES],
+    len: &'a [u8; MOST_NODES],
+    inner: &'a [bool; MOST_NODES],
     w: &[u8],
     small: bool,
     i: usize,
     l: usize,
     s: Search,
 ) -> Search
-    requires { ⌜ (i < 64) × (l ≤ 255) × (s .compared ≤ 255 * i) × (small ≡ true → lowered (now w) ≡ now w) ⌝ }
+    requires { ⌜ (i < mostNodes) × (l ≤ 255) × (s .compared ≤ 255 * i) × (small ≡ true → lowered (now w) ≡ now w) ⌝ }
     ensures { λ r. ⌜ r ≡ lookBy (now (t .entry)) (now (at .entry)) (now (len .entry)) (now (inner .entry)) (lowered (now (w .entry))) i l s ⌝ }
     ensures { λ r. ⌜ r .compared ≤ 255 * (i + 1) ⌝ }
 {
     if s.same < l {
-        return counted(s);
+        return count_differing(s);
     }
     let p = node_text(t, at, len, i);
-    if departs(p, w, s.same, l) {
-        return counted(s);
+    if differs_after(p, w, s.same, l) {
+        return count_differing(s);
     }
     let n = base_text::letter_case::common_lowered_next(p, w, small, s.same, l);
     let k = i as u8 + 1;
-    met(p, w, inner[i], k, n, s)
+    meet(p, w, inner[i], k, n, s)
 }
 
 // The search for w in category c, over the n nodes in their order.
 fn search_nodes<'a>(
     t: &[u8],
-    category: &'a [u8; 64],
-    at: &'a [u16; 64],
-    len: &'a [u8; 64],
-    shared: &'a [u8; 64],
-    inner: &'a [bool; 64],
+    category: &'a [u8; MOST_NODES],
+    at: &'a [u16; MOST_NODES],
+    len: &'a [u8; MOST_NODES],
+    shared: &'a [u8; MOST_NODES],
+    inner: &'a [bool; MOST_NODES],
     c: u8,
     w: &[u8],
     n: usize,
 ) -> Search
-    requires { ⌜ n ≤ 64 ⌝ }
+    requires { ⌜ n ≤ mostNodes ⌝ }
     ensures { λ r. ⌜
         r ≡ searchFrom (now (t .entry)) (now (category .entry)) (now (at .entry)) (now (len .entry)) (now (shared .entry)) (now (inner .entry))
         c (lowered (now (w .entry))) 0 n nothing
@@ -194,7 +198,7 @@ fn search_nodes<'a>(
     let mut i = 0;
     while i < n {
         if category[i] == c {
-            let l = base_text::cut::wide(shared[i]);
+            let l = base_bytes::numbers::wide(shared[i]);
             s = look(t, at, len, inner, w, small, i, l, s);
             if s.ends {
                 return s;
@@ -208,14 +212,14 @@ fn search_nodes<'a>(
 // What a URI is to the table t, whose names and nodes the arrays hold.
 pub fn uses<'a>(
     t: &[u8],
-    name_at: &'a [u16; 8],
-    name_len: &'a [u8; 8],
+    name_at: &'a [u16; MOST_CATEGORIES],
+    name_len: &'a [u8; MOST_CATEGORIES],
     categories: usize,
-    category: &'a [u8; 64],
-    at: &'a [u16; 64],
-    len: &'a [u8; 64],
-    shared: &'a [u8; 64],
-    inner: &'a [bool; 64],
+    category: &'a [u8; MOST_NODES],
+    at: &'a [u16; MOST_NODES],
+    len: &'a [u8; MOST_NODES],
+    shared: &'a [u8; MOST_NODES],
+    inner: &'a [bool; MOST_NODES],
     nodes: usize,
     uri: &[u8],
 ) -> Use
@@ -227,20 +231,20 @@ pub fn uses<'a>(
     if urn_names::urn::is_alert_urn(uri) {
         let n = uri.len();
         let s = base_text::cut::part(uri, 10, n);
-        let colon = base_text::cut::find(s, 58);
+        let colon = base_text::cut::find(s, b':');
         let name = base_text::cut::part(s, 0, colon);
         let c = find_name(
             t,
             name_at,
             name_len,
             name,
-            base_text::compare::at_most(categories, 8),
+            base_bytes::numbers::at_most(categories, MOST_CATEGORIES),
         );
-        if c < 8 {
+        if c < MOST_CATEGORIES {
             let found = c as u8;
             let path = colon + 1;
             let w = base_text::cut::part(s, path, n);
-            let most = base_text::compare::at_most(nodes, 64);
+            let most = base_bytes::numbers::at_most(nodes, MOST_NODES);
             let e = search_nodes(t, category, at, len, shared, inner, found, w, most);
             return Use::Used {
                 category: found,

@@ -9,6 +9,9 @@ use lib.ListN.{length, getD, replicate, List·getD-eq-default}
 use native.Mathlib.Omega.{arith}
 use native.Mathlib.Nat.{zero-add}
 use native.Mathlib.Decide.{decLt}
+use lib.Seq.{ext-getD}
+use Rattle.base_numbers.specs.Numbers.{mostNodes}
+use Rattle.base_lists.proofs.Bools.{same-test}
 use Rattle.theory_resolution.specs.Names.{Parts, sameParts, properAncestor}
 use Rattle.theory_resolution.specs.Table.{Urn, Table, Row, rowOf, find, WellFormed}
 use Rattle.theory_resolution.specs.Nodes.{nodes, isNode, RootOrNode, isInner, deepest}
@@ -16,7 +19,6 @@ use Rattle.theory_resolution.proofs.TableStep.{table-laws}
 use Rattle.theory_resolution.specs.Nodes.{number}
 use Rattle.theory_resolution.proofs.Numbers.{number-node, number-same}
 use Rattle.theory_resolution.specs.Direct.{envBy, envOf, start, step, statusFits, StateOf, sameState}
-use Rattle.theory_resolution.proofs.Lists.{same-test}
 use Rattle.theory_resolution.proofs.Direct.{state-exact}
 use Rattle.theory_resolution.specs.Direct as direct
 use Rattle.theory_resolution.specs.Symbols.{Symbol, stepsAs}
@@ -25,7 +27,7 @@ use Rattle.theory_resolution.proofs.NodeStep.{direct-at-node, symbol-at-node}
 use Rattle.node_step.specs.Step.{codedStatus, progressFrom, coded, statusIn, stepNumbers}
 use Rattle.node_search.specs.Arrays.{InnerIn}
 use Rattle.node_step.specs.Rows.{Numbers}
-use Rattle.node_step.proofs.ProgressLaws.{progress-length, progress-at, same-lists}
+use Rattle.node_step.proofs.ProgressLaws.{progress-length, progress-at}
 use Rattle.node_step.specs.StatusByte.{packed, unpacked, packedOf, ofPacked, samePacked}
 use Rattle.node_step.proofs.ByteLaws.{Numbered, pack-again}
 use Rattle.node_step.proofs.PackedStep.{packed-exact}
@@ -39,15 +41,19 @@ use Rattle.node_step.specs.declared.State.{State}
 pub step-by : (table ps : List ℕ) (inner : List Bool) (n : ℕ) (t : Table) (wf : WellFormed t) → Numbers table ps n t → InnerIn inner t
     → (finder : Row → Option ℕ) → EnvLaws (envBy t finder) (t .cats) (nodes t) → (rows : List ℕ) → SearchedBy rows n t finder
     → (st : direct.State) → Valid (envBy t finder) (t .cats) (nodes t) st → (u : Urn) → u .cat < t .cats
-    → stepNumbers rows ps inner n (coded t st) (u .cat) (number (nodes t) (u .cat) (deepest (nodes t) (u .cat) (u .path))) (sameParts (deepest (nodes t) (u .cat) (u .path)) (u .path))
+    → stepNumbers rows ps inner n (coded t st) (u .cat) (number (nodes t) (u .cat) (deepest (nodes t) (u .cat) (u .path)))
+    (sameParts (deepest (nodes t) (u .cat) (u .path)) (u .path))
     ≡ coded t (step (envBy t finder) st u)
 step-by table ps inner n t wf nu ii finder laws rows by st g u h =
-    step-right table ps inner n t wf nu ii finder laws rows by st g (u .cat) h (deepest (nodes t) (u .cat) (u .path)) (deepest-node (nodes t) (u .cat) (u .path)) (sameParts (deepest (nodes t) (u .cat) (u .path)) (u .path))
+    step-right table ps inner n t wf nu ii finder laws rows by st g (u .cat) h (deepest (nodes t) (u .cat) (u .path))
+    (deepest-node (nodes t) (u .cat) (u .path)) (sameParts (deepest (nodes t) (u .cat) (u .path)) (u .path))
     ∙ ap (coded t) (sym (direct-at-node (envBy t finder) (t .cats) (nodes t) laws st g u h))
 
-module _ (rows ps : List ℕ) (inner : List Bool) (n : ℕ) (t : Table) (wf : WellFormed t) (nu : Numbers rows ps n t) (ii : InnerIn inner t) (st : direct.State) (g : Valid (envOf t) (t .cats) (nodes t) st) where
+module _ (rows ps : List ℕ) (inner : List Bool) (n : ℕ) (t : Table) (wf : WellFormed t) (nu : Numbers rows ps n t) (ii : InnerIn inner t)
+    (st : direct.State) (g : Valid (envOf t) (t .cats) (nodes t) st) where
   pub step-direct : (u : Urn) → u .cat < t .cats
-      → stepNumbers rows ps inner n (coded t st) (u .cat) (number (nodes t) (u .cat) (deepest (nodes t) (u .cat) (u .path))) (sameParts (deepest (nodes t) (u .cat) (u .path)) (u .path))
+      → stepNumbers rows ps inner n (coded t st) (u .cat) (number (nodes t) (u .cat) (deepest (nodes t) (u .cat) (u .path)))
+      (sameParts (deepest (nodes t) (u .cat) (u .path)) (u .path))
       ≡ coded t (step (envOf t) st u)
   step-direct = step-by rows ps inner n t wf nu ii (find t) (table-laws t wf) rows (table-searched nu) st g
 
@@ -99,7 +105,7 @@ coded-at t st c h =
 pub coded-same : (t : Table) → t .cats ≤ 8 → (a b : direct.State) → StateOf t a → StateOf t b → coded t a ≡ coded t b → a ≡ b
 coded-same t few a b ga gb e =
     let p : a .signal ≡ b .signal = ap (λ z. z .signal) e in
-    let q : a .status ≡ b .status = same-lists (a .status) (b .status) direct.Open (ga .sized ∙ sym (gb .sized)) (λ c h. each c (rw (ga .sized) at h)) in
+    let q : a .status ≡ b .status = ext-getD direct.Open (a .status) (b .status) (ga .sized ∙ sym (gb .sized)) (λ c h. each c (rw (ga .sized) at h)) in
     λ i. record { signal = p i; status = q i }
   where
     each : (c : ℕ) → c < t .cats → getD (a .status) c direct.Open ≡ getD (b .status) c direct.Open
@@ -108,7 +114,7 @@ coded-same t few a b ga gb e =
         (sym (coded-at t a c (omega arith)) ∙ ap (λ (z : State). statusIn (z .categories) c) e ∙ coded-at t b c (omega arith))
 
 -- a state's categories are told by their bytes in one number
-module _ (t : Table) (few : t .cats ≤ 8) (few-nodes : length (nodes t) ≤ 64) where
+module _ (t : Table) (few : t .cats ≤ 8) (few-nodes : length (nodes t) ≤ mostNodes) where
   numbered : (c : ℕ) (p : Parts) (s : direct.Status) → statusFits (nodes t) c p s ≡ true → Numbered (codedStatus (nodes t) c s)
   numbered c p direct.Open e = tt
   numbered c p (direct.Held w) e =
@@ -134,5 +140,6 @@ module _ (t : Table) (few : t .cats ≤ 8) (few-nodes : length (nodes t) ≤ 64)
   packed-test a b ga gb =
       same-test (samePacked (packedOf (coded t a)) (packedOf (coded t b))) (sameState a b)
       (λ h. subst (λ (z : direct.State). sameState a z ≡ true)
-      (coded-same t few a b ga gb (sym (of-packed a ga) ∙ ap ofPacked (packed-exact .to (packedOf (coded t a)) (packedOf (coded t b)) h) ∙ of-packed b gb)) (state-exact .self a))
+      (coded-same t few a b ga gb (sym (of-packed a ga) ∙ ap ofPacked (packed-exact .to (packedOf (coded t a)) (packedOf (coded t b)) h)
+      ∙ of-packed b gb)) (state-exact .self a))
       (λ h. ap (λ z. samePacked (packedOf (coded t a)) (packedOf (coded t z))) (sym (state-exact .to a b h)) ∙ packed-exact .self (packedOf (coded t a)))

@@ -5,11 +5,12 @@ use mathlib.Core.Bool.{Bool, true, false, cond}
 use mathlib.Core.List.{List, [], _∷_}
 use lib.Dec.{ltb, eqb}
 use lib.ListN.{length, getD, set, length-replicate, length-set}
-use lib.Seq.{getD-set-same, getD-set-other}
+use lib.Seq.{getD-set-same, getD-set-other, ext-getD}
 use native.Mathlib.Nat.{add-zero, zero-add, pow-succ'}
 use borrow.Author.Tests.{lt-ltb, le-ltb, eq-eqb, ne-eqb, ltb-true}
 use native.Mathlib.Omega.{arith}
 use native.Mathlib.Decide.{ℕ-discrete}
+use Rattle.base_numbers.specs.Numbers.{mostNodes}
 use Rattle.node_step.specs.declared.Status.{Status}
 use Rattle.node_step.specs.declared.Status.the-variants.{Open, Held, Shut}
 use Rattle.node_step.specs.StatusByte.{byteOf, statusOf, packed, unpacked, samePacked}
@@ -18,7 +19,6 @@ use Rattle.node_step.specs.declared.Progress.{Progress}
 use Rattle.node_step.specs.Step.{digit, statusIn}
 use Rattle.node_step.specs.Rows.{pack}
 use Rattle.node_step.proofs.PackedLaws.{Bytes, pack-digit}
-use Rattle.node_step.proofs.ProgressLaws.{same-lists}
 
 -- a held category's byte
 module _ (s : Status) where
@@ -40,7 +40,7 @@ of-more b n m = simp (ne-eqb b 0 n, ne-eqb b 1 m)
 -- a node that a category can be held at: its number is not 0, and fits
 abbrev pub Numbered : Status → Type 0
 Numbered Open = Unit {0}
-Numbered (Held n) = (0 < n) × (n ≤ 64)
+Numbered (Held n) = (0 < n) × (n ≤ mostNodes)
 Numbered Shut = Unit {0}
 
 -- a byte tells the status, and the other way round
@@ -105,7 +105,8 @@ bytes-long l c (suc n) = ap suc (bytes-long l (suc c) n)
 -- category k's byte
 pub packed-digit : (l : List Progress) (k : ℕ) → k < 8 → digit (packed l 0 8) k ≡ byteOf (statusIn l k)
 packed-digit l k h =
-    ap (λ z. digit z k) (bytes-pack l 0 8) ∙ pack-digit (bytesFrom l 0 8) k (bytes-small l 0 8) ∙ bytes-at l 0 8 k h ∙ ap (λ z. byteOf (statusIn l z)) (zero-add k)
+    ap (λ z. digit z k) (bytes-pack l 0 8) ∙ pack-digit (bytesFrom l 0 8) k (bytes-small l 0 8) ∙ bytes-at l 0 8 k h
+    ∙ ap (λ z. byteOf (statusIn l z)) (zero-add k)
 
 pub unpacked-length : (x n : ℕ) → length (unpacked x n) ≡ 8
 unfolding unpacked
@@ -125,7 +126,7 @@ unpacked-at x (suc n) k p h l = go (ℕ-discrete k n) (λ i. unpacked-at x n k p
 -- unpacking gives back what was packed
 pub pack-again : (l : List Progress) → length l ≡ 8 → ((k : ℕ) → k < 8 → Numbered (statusIn l k)) → unpacked (packed l 0 8) 8 ≡ l
 pack-again l long numbered =
-    same-lists (unpacked (packed l 0 8) 8) l (record { status = Open }) (unpacked-length (packed l 0 8) 8 ∙ sym long)
+    ext-getD (record { status = Open }) (unpacked (packed l 0 8) 8) l (unpacked-length (packed l 0 8) 8 ∙ sym long)
     (λ k h. at k (rw (unpacked-length (packed l 0 8) 8) at h))
   where
     at : (k : ℕ) → k < 8 → getD (unpacked (packed l 0 8) 8) k (record { status = Open }) ≡ getD l k (record { status = Open })

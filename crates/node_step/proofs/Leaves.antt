@@ -10,10 +10,11 @@ use lib.ListN.{length, getD, length-append}
 use native.Mathlib.Omega.{arith}
 use native.Mathlib.Decide.{ℕ-discrete}
 use native.Mathlib.Numerals.{add-one}
+use Rattle.base_lists.proofs.Lists.{mem-at, member-of}
+use Rattle.base_lists.proofs.Bools.{same-test}
 use Rattle.theory_resolution.specs.Names.{Name, Parts}
 use Rattle.theory_resolution.specs.Table.{Urn, urn, Table}
 use Rattle.theory_resolution.specs.Nodes.{sameUrn, nodes, isNode, number, nodeAt, RootOrNode, hasUnder, isRoot, leaf}
-use Rattle.theory_resolution.proofs.Lists.{same-test, mem-at, member-of}
 use Rattle.theory_resolution.proofs.Names.{snoc-view}
 use Rattle.theory_resolution.proofs.Nodes.{urn-exact, root-free}
 use Rattle.theory_resolution.proofs.Numbers.{number-node, number-positive, number-at, ancestor-node}

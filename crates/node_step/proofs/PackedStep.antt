@@ -7,12 +7,13 @@ use lib.Dec.{eqb}
 use lib.Arith.{mod-mul}
 use lib.Pow.{pow-add}
 use lib.ListN.{length, getD, set, length-set}
-use lib.Seq.{getD-set-same, getD-set-other}
+use lib.Seq.{getD-set-same, getD-set-other, ext-getD}
 use borrow.Author.Tests.{eqb-true, eq-eqb, ne-eqb, le-leb, lt-leb, lt-ltb, le-ltb}
 use native.Mathlib.Nat.{zero-add, div-div-eq-div-mul, pow-succ', one-le-pow}
 use native.Mathlib.Decide.{ℕ-discrete}
 use native.Mathlib.Omega.{arith}
-use Rattle.theory_resolution.proofs.Lists.{Exact}
+use Rattle.base_numbers.specs.Numbers.{mostNodes, mostSignals, mostTries}
+use Rattle.base_lists.proofs.Lists.{Exact}
 use Rattle.node_step.specs.declared.Status.{Status}
 use Rattle.node_step.specs.declared.Status.the-variants.{Open}
 use Rattle.node_step.specs.declared.Progress.{Progress}
@@ -22,13 +23,18 @@ use Rattle.node_step.specs.Step.{digit, put, rowAt, seek, extends, statu
 use Rattle.node_step.specs.StatusByte.{byteOf, statusOf, packed, unpacked, packedOf, ofPacked, samePacked, stepPacked, movedPacked, fitsBy}
 use Rattle.node_step.specs.Rows.{pack}
 use Rattle.node_step.proofs.PackedLaws.{pack-set}
-use Rattle.node_step.proofs.ProgressLaws.{same-lists}
 use Rattle.node_step.proofs.ByteLaws.{byte-status, bytesFrom, bytes-pack, bytes-small, bytes-at, bytes-long, unpacked-length, unpacked-at}
 
 -- the test tells equal ones
 pub packed-exact : Exact samePacked
 unfolding samePacked
-packed-exact = record { to = to; self = λ x. and-eq-true-iff (eqb (x .signal) (x .signal)) (eqb (x .statuses) (x .statuses)) .1 (eq-eqb (x .signal) (x .signal) refl, eq-eqb (x .statuses) (x .statuses) refl) }
+packed-exact = record {
+  to = to;
+  self = λ x. and-eq-true-iff (eqb (x .signal) (x .signal)) (eqb (x .statuses) (x .statuses)) .1 (
+    eq-eqb (x .signal) (x .signal) refl,
+    eq-eqb (x .statuses) (x .statuses) refl,
+  );
+}
   where
     to : (a b : Packed) → eqb (a .signal) (b .signal) && eqb (a .statuses) (b .statuses) ≡ true → a ≡ b
     to a b e =
@@ -46,18 +52,23 @@ digits l x h (suc n) c k =
     let a = digits l x h n (suc c) (omega arith) in
     let e : 8 * suc c ≡ 8 * c + 8 = omega arith in
     let b : x / 2 ^ (8 * suc c) ≡ y / 256 = ap (λ z. x / 2 ^ z) e ∙ ap (λ z. x / z) (pow-add 2 (8 * c) 8) ∙ sym (div-div-eq-div-mul x (2 ^ (8 * c)) 256) in
-    let g : y % 256 ^ suc n ≡ (y / 256 % 256 ^ n) * 256 + y % 256 = ap (λ z. y % z) (pow-succ' 256 n ∙ omega arith) ∙ mod-mul y {m = 256 ^ n} {c = 256} (one-le-pow n 256 (omega arith)) (omega arith) in
+    let g : y % 256 ^ suc n ≡ (y / 256 % 256 ^ n) * 256 + y % 256 = ap (λ z. y % z) (pow-succ' 256 n ∙ omega arith)
+    ∙ mod-mul y {m = 256 ^ n} {c = 256} (one-le-pow n 256 (omega arith)) (omega arith) in
     ap₂ (λ u v. u + 256 * v) (h c (omega arith)) (a ∙ ap (λ z. z % 256 ^ n) b) ∙ omega (arith, g)
 
 -- packing gives back what was unpacked
 pub unpack-again : (x : ℕ) → x < 2 ^ 64 → packed (unpacked x 8) 0 8 ≡ x
-unpack-again x h = digits (unpacked x 8) x (λ k i. ap byteOf (ap (λ p. p .status) (unpacked-at x 8 k (record { status = Open }) i (omega arith))) ∙ byte-status (digit x k) (omega arith)) 8 0 (omega arith) ∙ omega arith
+unpack-again x h = digits (unpacked x 8) x
+    (λ k i. ap byteOf (ap (λ p. p .status) (unpacked-at x 8 k (record { status = Open }) i (omega arith)))
+    ∙ byte-status (digit x k) (omega arith)) 8 0 (omega arith) ∙ omega arith
 
 -- a status set is its byte put
-pub packed-set : (l : List Progress) (c : ℕ) (s : Status) → length l ≡ 8 → c < 8 → packed (set l c (record { status = s })) 0 8 ≡ put (packed l 0 8) c (byteOf s)
+pub packed-set : (l : List Progress) (c : ℕ) (s : Status) → length l ≡ 8 → c < 8 → packed (set l c (record { status = s })) 0 8
+    ≡ put (packed l 0 8) c (byteOf s)
 packed-set l c s e h =
     bytes-pack l′ 0 8
-    ∙ ap pack (same-lists (bytesFrom l′ 0 8) (set (bytesFrom l 0 8) c (byteOf s)) 0 (bytes-long l′ 0 8 ∙ sym (length-set (bytesFrom l 0 8) c (byteOf s) ∙ bytes-long l 0 8)) (λ k i. at k (rw (bytes-long l′ 0 8) at i)))
+    ∙ ap pack (ext-getD 0 (bytesFrom l′ 0 8) (set (bytesFrom l 0 8) c (byteOf s)) (bytes-long l′ 0 8
+    ∙ sym (length-set (bytesFrom l 0 8) c (byteOf s) ∙ bytes-long l 0 8)) (λ k i. at k (rw (bytes-long l′ 0 8) at i)))
     ∙ sym (pack-set (bytesFrom l 0 8) c (byteOf s) (bytes-small l 0 8) (omega (arith, bytes-long l 0 8)))
     ∙ ap (λ z. put z c (byteOf s)) (sym (bytes-pack l 0 8))
   where
@@ -106,7 +117,8 @@ module _ (rows ps : List ℕ) (inner : List Bool) (n : ℕ) (st : Packed) (c d :
       ∙ ap (λ z. put z c (byteOf (statusFrom inner d whole (i .node)))) (unpack-again (st .statuses) fits)))
   moved-is h i false e = rw e again
 
-  module _ (h : c < 8) {row q x : ℕ} {o : Status} {b : Bool} (r : row ≡ rowAt rows (st .signal)) (e : q ≡ digit row c) (f : x ≡ digit (st .statuses) c) (g : o ≡ statusOf x)
+  module _ (h : c < 8) {row q x : ℕ} {o : Status} {b : Bool} (r : row ≡ rowAt rows (st .signal)) (e : q ≡ digit row c)
+      (f : x ≡ digit (st .statuses) c) (g : o ≡ statusOf x)
       (t : b ≡ takes ps o q d whole) where
     status-is : o ≡ statusIn (unpacked (st .statuses) 8) c
     status-is = g ∙ ap statusOf f ∙ sym (ap (λ p. p .status) (unpacked-at (st .statuses) 8 c (record { status = Open }) h (omega arith)))
@@ -121,12 +133,14 @@ module _ (rows ps : List ℕ) (inner : List Bool) (n : ℕ) (st : Packed) (c d :
     unfolding stepPacked stepNumbers
     packed-stay z = let a = test-is ∙ z in sym (rw (lt-leb 8 c h, a) again)
 
-    module _ {m : ℕ} {i : Hit} {res : Packed} (z : b ≡ true) (em : m ≡ min n 32) (ei : i ≡ seek rows ps m row c q 9 d) (er : res ≡ movedPacked inner st c d whole i) where
+    module _ {m : ℕ} {i : Hit} {res : Packed} (z : b ≡ true) (em : m ≡ min n mostSignals) (ei : i ≡ seek rows ps m row c q mostTries d)
+        (er : res ≡ movedPacked inner st c d whole i) where
       abbrev hit : Hit
-      hit = seek rows ps (min n 32) (rowAt rows (st .signal)) c (digit (rowAt rows (st .signal)) c) 9 d
+      hit = seek rows ps (min n mostSignals) (rowAt rows (st .signal)) c (digit (rowAt rows (st .signal)) c) mostTries d
 
       hit-is : i ≡ hit
-      hit-is = ei ∙ ap₂ (λ x y. seek rows ps m x c y 9 d) r q-is ∙ ap (λ x. seek rows ps x (rowAt rows (st .signal)) c (digit (rowAt rows (st .signal)) c) 9 d) em
+      hit-is = ei ∙ ap₂ (λ x y. seek rows ps m x c y 9 d) r q-is
+          ∙ ap (λ x. seek rows ps x (rowAt rows (st .signal)) c (digit (rowAt rows (st .signal)) c) mostTries d) em
 
       pub packed-goes : res ≡ stepPacked rows ps inner n st c d whole
       unfolding stepPacked stepNumbers
@@ -143,7 +157,7 @@ module _ (rows ps : List ℕ) (inner : List Bool) (ca : List ℕ) (n s c b : ℕ
     unfolding fitsBy
     fits-past l = sym (rw (lt-leb b 1 h, le-leb 8 c l))
 
-    module _ (l : c < 8) {m : ℕ} (e : m ≡ min n 64) where
+    module _ (l : c < 8) {m : ℕ} (e : m ≡ min n mostNodes) where
       pub fits-out : m ≤ b - 2 → false ≡ fitsBy rows ps inner ca n s c b
       unfolding fitsBy
       fits-out k = sym (rw (lt-leb b 1 h, lt-leb 8 c l, ← e, le-ltb (b - 2) m k))

@@ -8,12 +8,13 @@ use borrow.Author.Tests.{eqb-true, eq-eqb, lt-ltb}
 use lib.ListN.{length, getD}
 use native.Mathlib.Omega.{arith}
 use native.Mathlib.Nat.{zero-add}
+use Rattle.base_numbers.specs.Numbers.{mostNodes, mostSignals}
+use Rattle.base_lists.proofs.Bools.{same-test}
 use Rattle.theory_resolution.specs.Table.{Table, Row, rowOf, sameRow, find}
 use Rattle.theory_resolution.specs.Nodes.{nodes}
 use Rattle.theory_resolution.proofs.Names.{row-exact}
 use Rattle.theory_resolution.proofs.Table.{row-length, find-below}
 use Rattle.theory_resolution.proofs.Nodes.{row-nodes}
-use Rattle.theory_resolution.proofs.Lists.{same-test}
 use Rattle.node_step.specs.Step.{rowAt, findRow}
 use Rattle.node_step.specs.Rows.{pack, numbersFrom, Numbers}
 use Rattle.node_step.proofs.PackedLaws.{pack-same}
@@ -25,7 +26,7 @@ pub record SearchedBy (rows : List ℕ) (n : ℕ) (t : Table) (finder : Row → 
   pub finds : (r : Row) → Anchored t 0 r → length r ≡ t .cats → finder r ≡ foundRow (findRow rows (pack (numbersFrom (nodes t) 0 r)) 0 n)
 
 -- rows of nodes are told by their numbers
-pub row-test : (t : Table) → length (nodes t) ≤ 64 → (r u : Row) → Anchored t 0 r → Anchored t 0 u → length r ≡ length u
+pub row-test : (t : Table) → length (nodes t) ≤ mostNodes → (r u : Row) → Anchored t 0 r → Anchored t 0 u → length r ≡ length u
     → sameRow r u ≡ eqb (pack (numbersFrom (nodes t) 0 r)) (pack (numbersFrom (nodes t) 0 u))
 row-test t few r u a b l =
     same-test (sameRow r u) (eqb (pack (numbersFrom (nodes t) 0 r)) (pack (numbersFrom (nodes t) 0 u)))
@@ -36,7 +37,7 @@ row-test t few r u a b l =
 
 module _ {rows ps : List ℕ} {n : ℕ} {t : Table} (nu : Numbers rows ps n t) where
   pub rows-own : (s : ℕ) → s < n → rowAt rows s ≡ pack (numbersFrom (nodes t) 0 (rowOf t s))
-  rows-own s h = let l = nu .few-signals in rw (lt-ltb s 32 (omega arith)) (nu .packed s h)
+  rows-own s h = let l = nu .few-signals in rw (lt-ltb s mostSignals (omega arith)) (nu .packed s h)
 
   -- a signal's row is the one looked for
   pub row-agrees : (r : Row) → Anchored t 0 r → length r ≡ t .cats → (k : ℕ) → k < length (t .signals)
@@ -51,6 +52,7 @@ module _ {rows ps : List ℕ} {n : ℕ} {t : Table} (nu : Numbers rows ps n t) w
       record {
         own = λ s e. rows-own s (omega (arith, find-below (t .cats) 0 (t .signals) (rowOf t s) s e, nu .all-signals));
         finds = λ r a l.
-            finds (t .cats) r rows (pack (numbersFrom (nodes t) 0 r)) 0 (t .signals) (row-agrees r a l) (let f = nu .few-signals in let m = nu .all-signals in omega arith)
+            finds (t .cats) r rows (pack (numbersFrom (nodes t) 0 r)) 0 (t .signals) (row-agrees r a l) (let f = nu .few-signals in let m =
+            nu .all-signals in omega arith)
             ∙ ap (λ z. foundRow (findRow rows (pack (numbersFrom (nodes t) 0 r)) 0 z)) (nu .all-signals);
       }

@@ -1,5 +1,5 @@
 -- The step at a node's number is the theory's step at the node.
-use Prim.Native.Nat.{ℕ, suc, _+_, _-_, _≤_, _<_, min}
+use Prim.Native.Nat.{ℕ, suc, _-_, _≤_, _<_, min}
 use mathlib.Core.Path.{_≡_, refl, sym, ap, ap₂, _∙_}
 use mathlib.Core.Logic.{inl, inr}
 use mathlib.Core.Bool.{Bool, true, false, cond, not, _&&_, and-false, false≢true, and-eq-true-iff}
@@ -9,8 +9,10 @@ use borrow.Author.Tests.{eq-eqb, ne-eqb, le-leb, lt-leb}
 use lib.ListN.{length, getD, set, length-append}
 use native.Mathlib.Omega.{arith}
 use native.Mathlib.Nat.{zero-add}
-use Rattle.theory_resolution.specs.Names.{Name, Parts, sameParts, below, somePart, properAncestor, Above, candidates}
-use Rattle.theory_resolution.proofs.Names.{parts-exact, below-to, proper-above, above-trans, someBelow, some-above, above-some}
+use Rattle.base_numbers.specs.Numbers.{mostNodes, mostSignals, mostTries}
+use Rattle.base_lists.proofs.Numbers.{min-le}
+use Rattle.theory_resolution.specs.Names.{Name, Parts, sameParts, below, somePart, properAncestor, Above, candidates, someBelow}
+use Rattle.theory_resolution.proofs.Names.{parts-exact, below-to, proper-above, above-trans, some-above, above-some}
 use Rattle.theory_resolution.specs.Table.{Table, Row, rowOf, WellFormed}
 use Rattle.theory_resolution.specs.Nodes.{nodes, isNode, RootOrNode, hasUnder, isInner, number}
 use Rattle.theory_resolution.proofs.Nodes.{root-free, row-nodes}
@@ -21,17 +23,15 @@ use Rattle.theory_resolution.specs.Direct as direct
 use Rattle.theory_resolution.proofs.Direct.{search-hit}
 use Rattle.theory_resolution.proofs.Step.{EnvLaws, Valid, hit-node}
 use Rattle.theory_resolution.specs.NodeStep.{nodeUnder, nodeTakes, nodeMove, nodeIfTaken, nodeStep}
-use Rattle.node_step.specs.declared.Status.{Status}
 use Rattle.node_step.specs.declared.Status.the-variants.{Open, Held, Shut}
 use Rattle.node_step.specs.declared.State.{State}
-use Rattle.node_step.specs.declared.Hit.{Hit}
-use Rattle.node_step.specs.Step.{codedStatus, progressFrom, coded, digit, rowAt, innerAt, noHit, seek, extends, statusIn, isShut, lastTaken, takesPast, takes, statusFrom, moved, hitNumbers, stepNumbers}
+use Rattle.node_step.specs.Step.{codedStatus, progressFrom, coded, digit, rowAt, innerAt, noHit, seek, extends, statusIn, isShut, lastTaken}
+use Rattle.node_step.specs.Step.{takesPast, takes, statusFrom, moved, hitNumbers, stepNumbers}
 use Rattle.node_search.specs.Arrays.{InnerIn}
 use Rattle.node_step.specs.Rows.{pack, numbersFrom, Numbers}
 use Rattle.node_step.proofs.ProgressLaws.{progress-at, progress-set}
 use Rattle.node_step.proofs.SearchedBy.{SearchedBy, rows-own}
 use Rattle.node_step.proofs.SeekRight.{reach-right, wide, digit-is, hitOf, seek-right}
-use Rattle.base_text.proofs.Lesser.{min-le}
 
 -- what has a proper extension of p has p above it
 some-under : (u : Option Parts) (whole : Bool) → nodeUnder u whole ≡ true → someBelow u ≡ true
@@ -46,7 +46,7 @@ few-parts-at t nu c d (inr e) =
     omega (arith, nu .few-parts (w .0) (w .1), ap (λ u. length (u .path)) (w .3))
 
 -- a node or root's number tells whether it has nodes under it
-pub inner-right : (inner : List Bool) (t : Table) → InnerIn inner t → length (nodes t) ≤ 64 → (c : ℕ) (d : Parts) → RootOrNode (nodes t) c d
+pub inner-right : (inner : List Bool) (t : Table) → InnerIn inner t → length (nodes t) ≤ mostNodes → (c : ℕ) (d : Parts) → RootOrNode (nodes t) c d
     → innerAt inner (number (nodes t) c d) ≡ isInner (nodes t) c d
 inner-right inner t ii few c d (inl e) =
     let z : number (nodes t) c d ≡ 0 = ap (number (nodes t) c) e ∙ root-number t c in
@@ -56,10 +56,11 @@ inner-right inner t ii few c d (inr e) =
     let w = number-node (nodes t) c d e in
     let i : suc (w .0) - 1 ≡ w .0 = omega arith in
     ap (innerAt inner) (w .2)
-    ∙ rw (ne-eqb (suc (w .0)) 0 (λ z. omega arith), le-leb (suc (w .0)) 64 (omega (arith, w .1)), i)
+    ∙ rw (ne-eqb (suc (w .0)) 0 (λ z. omega arith), le-leb (suc (w .0)) mostNodes (omega (arith, w .1)), i)
     (ii (w .0) (w .1) ∙ ap (λ u. hasUnder (nodes t) (u .cat) (u .path)) (w .3) ∙ sym (ap (λ b. b && hasUnder (nodes t) c d) e))
 
-module _ (rows ps : List ℕ) (n : ℕ) (t : Table) (wf : WellFormed t) (nu : Numbers rows ps n t) (c : ℕ) (known : c < t .cats) (d : Parts) (ad : RootOrNode (nodes t) c d) (whole : Bool) where
+module _ (rows ps : List ℕ) (n : ℕ) (t : Table) (wf : WellFormed t) (nu : Numbers rows ps n t) (c : ℕ) (known : c < t .cats) (d : Parts)
+    (ad : RootOrNode (nodes t) c d) (whole : Bool) where
   -- p is a proper ancestor of what is said
   pub extends-right : (p : Parts) → RootOrNode (nodes t) c p → extends ps (number (nodes t) c p) (number (nodes t) c d) whole ≡ nodeUnder (below p d) whole
   unfolding extends
@@ -104,7 +105,8 @@ place-extends rows ps n t wf nu c known s h w e =
 -- the step over some rows, with any finder that searches there
 module _ (table ps : List ℕ) (inner : List Bool) (n : ℕ) (t : Table) (wf : WellFormed t) (nu : Numbers table ps n t) (ii : InnerIn inner t)
     (finder : Row → Option ℕ) (laws : EnvLaws (envBy t finder) (t .cats) (nodes t)) (rows : List ℕ) (by : SearchedBy rows n t finder)
-    (st : direct.State) (g : Valid (envBy t finder) (t .cats) (nodes t) st) (c : ℕ) (known : c < t .cats) (d : Parts) (ad : RootOrNode (nodes t) c d) (whole : Bool) where
+    (st : direct.State) (g : Valid (envBy t finder) (t .cats) (nodes t) st) (c : ℕ) (known : c < t .cats) (d : Parts)
+    (ad : RootOrNode (nodes t) c d) (whole : Bool) where
   abbrev env : Env
   env = envBy t finder
 
@@ -131,7 +133,8 @@ module _ (table ps : List ℕ) (inner : List Bool) (n : ℕ) (t : Table) (wf : W
       (inner-node (nodes t) c w (k .1), proper-above here w (k .0))
 
   -- the test
-  takes-right : (o : direct.Status) → statusFits (nodes t) c here o ≡ true → takes ps (codedStatus (nodes t) c o) (no here) (no d) whole ≡ nodeTakes o here d whole
+  takes-right : (o : direct.Status) → statusFits (nodes t) c here o ≡ true → takes ps (codedStatus (nodes t) c o) (no here) (no d) whole
+      ≡ nodeTakes o here d whole
   unfolding isShut lastTaken takesPast
   takes-right direct.Open ok = extends-right table ps n t wf nu c known d ad whole here here-anchor
   takes-right (direct.Held w) ok = extends-right table ps n t wf nu c known d ad whole w (inr (held-node w ok .0))
@@ -156,11 +159,17 @@ module _ (table ps : List ℕ) (inner : List Bool) (n : ℕ) (t : Table) (wf : W
       → seek rows ps n packs c (no here) 9 (no d) ≡ hitOf t c (firstHit env (rowOf t (st .signal)) c (candidates here r))
   seek-at r j =
       ap (λ z. seek rows ps n packs c (no here) 9 (no z)) (sym j)
-      ∙ seek-right table ps n t wf nu c known finder laws rows by (st .signal) (g .live) 9 r (omega (arith, few-parts-at t nu c d ad, length-append here r, ap length j)) (rw j ad)
+      ∙ seek-right table ps n t wf nu c known finder laws rows by (st .signal) (g .live) 9 r (omega (
+        arith,
+        few-parts-at t nu c d ad,
+        length-append here r,
+        ap length j,
+      )) (rw j ad)
 
   -- the move
   move-right : (r : Parts) → here ++ r ≡ d
-      → moved inner (coded t st) c (no d) whole (seek rows ps n packs c (no here) 9 (no d)) ≡ coded t (nodeMove env st c d whole (firstHit env (rowOf t (st .signal)) c (candidates here r)))
+      → moved inner (coded t st) c (no d) whole (seek rows ps n packs c (no here) 9 (no d))
+      ≡ coded t (nodeMove env st c d whole (firstHit env (rowOf t (st .signal)) c (candidates here r)))
   unfolding moved
   move-right r j =
       ap (moved inner (coded t st) c (no d) whole) (seek-at r j)
@@ -169,7 +178,8 @@ module _ (table ps : List ℕ) (inner : List Bool) (n : ℕ) (t : Table) (wf : W
       low-c : c < 8
       low-c = let k = nu .few-cats in omega arith
 
-      put-status : (s : direct.Status) → set (progressFrom (nodes t) (st .status) 0 8) c (record { status = codedStatus (nodes t) c s }) ≡ progressFrom (nodes t) (set (st .status) c s) 0 8
+      put-status : (s : direct.Status) → set (progressFrom (nodes t) (st .status) 0 8) c (record { status = codedStatus (nodes t) c s })
+          ≡ progressFrom (nodes t) (set (st .status) c s) 0 8
       put-status s = rw (zero-add c) at (progress-set (nodes t) (st .status) 0 8 c s low-c (omega (arith, g .sized)))
 
       go : (h : Option direct.Hit) → firstHit env (rowOf t (st .signal)) c (candidates here r) ≡ h
@@ -179,7 +189,8 @@ module _ (table ps : List ℕ) (inner : List Bool) (n : ℕ) (t : Table) (wf : W
           let w = search-hit env (rowOf t (st .signal)) c (candidates here r) h e in
           let a = hit-node env (t .cats) (nodes t) laws (rowOf t (st .signal)) c (h .at) (h .signal) (wide t (nu .few-nodes) c known (st .signal)) (w .0) in
           ap (λ z. record { signal = h .signal; categories = set (progressFrom (nodes t) (st .status) 0 8) c (record { status = z }) }) (status-right h a)
-          ∙ ap (λ z. record { signal = h .signal; categories = z }) (put-status (openOr (whole && sameParts (h .at) d) (heldIf (whole && isInner (nodes t) c d) d)))
+          ∙ ap (λ z. record { signal = h .signal; categories = z })
+          (put-status (openOr (whole && sameParts (h .at) d) (heldIf (whole && isInner (nodes t) c d) d)))
 
   -- what is taken lies at or under the place
   pub taken-above : (o : direct.Status) → statusFits (nodes t) c here o ≡ true → nodeTakes o here d whole ≡ true → someBelow (below here d) ≡ true
@@ -189,7 +200,8 @@ module _ (table ps : List ℕ) (inner : List Bool) (n : ℕ) (t : Table) (wf : W
 
   -- the whole step, by the test
   by-test : (b : Bool) → nodeTakes now here d whole ≡ b
-      → cond b (moved inner (coded t st) c (no d) whole (seek rows ps n packs c (no here) 9 (no d))) (coded t st) ≡ coded t (nodeIfTaken env st c d whole b (below here d))
+      → cond b (moved inner (coded t st) c (no d) whole (seek rows ps n packs c (no here) 9 (no d))) (coded t st)
+      ≡ coded t (nodeIfTaken env st c d whole b (below here d))
   by-test false e = refl
   by-test true e = go (below here d) refl
     where
@@ -204,12 +216,14 @@ module _ (table ps : List ℕ) (inner : List Bool) (n : ℕ) (t : Table) (wf : W
       ∙ ap (λ z. codedStatus (nodes t) z (getD (st .status) z direct.Open)) (zero-add c)
 
   -- the hit by numbers, by the theory's test
-  hit-test : hitNumbers rows ps n (coded t st) c (number (nodes t) c d) whole ≡ cond (nodeTakes now here d whole) (seek rows ps n packs c (no here) 9 (no d)) noHit
+  hit-test : hitNumbers rows ps n (coded t st) c (number (nodes t) c d) whole
+      ≡ cond (nodeTakes now here d whole) (seek rows ps n packs c (no here) 9 (no d)) noHit
   unfolding hitNumbers
   hit-test =
-      ap₂ (λ r m. cond (takes ps (statusIn (progressFrom (nodes t) (st .status) 0 8) c) (digit r c) (no d) whole) (seek rows ps m r c (digit r c) 9 (no d)) noHit)
+      ap₂ (λ r m. cond (takes ps (statusIn (progressFrom (nodes t) (st .status) 0 8) c) (digit r c) (no d) whole)
+      (seek rows ps m r c (digit r c) 9 (no d)) noHit)
       (by .own (st .signal) (g .live))
-      (sym (min-le n 32 (nu .few-signals)))
+      (sym (min-le n mostSignals (nu .few-signals)))
       ∙ ap₂ (λ s z. cond (takes ps s z (no d) whole) (seek rows ps n packs c z 9 (no d)) noHit) status-is (digit-is t (nu .few-nodes) c known (st .signal))
       ∙ ap (λ b. cond b (seek rows ps n packs c (no here) 9 (no d)) noHit) (takes-right now (g .fits c known))
 
@@ -226,9 +240,10 @@ module _ (table ps : List ℕ) (inner : List Bool) (n : ℕ) (t : Table) (wf : W
   unfolding stepNumbers nodeStep
   step-right =
       ap (λ b. cond b (coded t st) body) (lt-leb 8 c (let k = nu .few-cats in omega arith))
-      ∙ ap₂ (λ r m. cond (takes ps (statusIn (progressFrom (nodes t) (st .status) 0 8) c) (digit r c) (no d) whole) (moved inner (coded t st) c (no d) whole (seek rows ps m r c (digit r c) 9 (no d))) (coded t st))
+      ∙ ap₂ (λ r m. cond (takes ps (statusIn (progressFrom (nodes t) (st .status) 0 8) c) (digit r c) (no d) whole)
+      (moved inner (coded t st) c (no d) whole (seek rows ps m r c (digit r c) 9 (no d))) (coded t st))
       (by .own (st .signal) (g .live))
-      (sym (min-le n 32 (nu .few-signals)))
+      (sym (min-le n mostSignals (nu .few-signals)))
       ∙ ap₂ (λ s z. cond (takes ps s z (no d) whole) (moved inner (coded t st) c (no d) whole (seek rows ps n packs c z 9 (no d))) (coded t st))
       status-is
       (digit-is t (nu .few-nodes) c known (st .signal))
@@ -238,5 +253,6 @@ module _ (table ps : List ℕ) (inner : List Bool) (n : ℕ) (t : Table) (wf : W
       body : State
       body =
           cond (takes ps (statusIn (progressFrom (nodes t) (st .status) 0 8) c) (digit (rowAt rows (st .signal)) c) (no d) whole)
-          (moved inner (coded t st) c (no d) whole (seek rows ps (min n 32) (rowAt rows (st .signal)) c (digit (rowAt rows (st .signal)) c) 9 (no d)))
+          (moved inner (coded t st) c (no d) whole (seek rows ps (min n mostSignals) (rowAt rows (st .signal)) c
+          (digit (rowAt rows (st .signal)) c) mostTries (no d)))
           (coded t st)

@@ -6,6 +6,7 @@ use mathlib.Core.List.{List}
 use borrow.Author.Tests.{ne-eqb, le-leb, lt-leb}
 use lib.Dec.{eqb, leb}
 use native.Mathlib.Omega.{arith}
+use Rattle.base_numbers.specs.Numbers.{mostTries}
 use Rattle.node_step.specs.declared.State.{State}
 use Rattle.node_step.specs.declared.Hit.{Hit}
 use Rattle.node_step.specs.Step.{parentOf, hitNumbers}
@@ -22,34 +23,35 @@ depth-suc : (ps : List ℕ) (n p : ℕ) → (p ≡ 0 → ⊥) → depth ps (suc 
 unfolding depth
 depth-suc ps n p h = rw (ne-eqb p 0 h)
 
-pub depth-start : (ps : List ℕ) (d : ℕ) → depth ps 9 d ≡ 0 + depth ps (9 - 0) d
+pub depth-start : (ps : List ℕ) (d : ℕ) → depth ps mostTries d ≡ 0 + depth ps (9 - 0) d
 depth-start ps d = omega arith
 
 -- n nodes passed, the next one is p
-module _ (ps : List ℕ) (d n p : ℕ) (v : depth ps 9 d ≡ n + depth ps (9 - n) p) where
-  pub depth-root : p ≡ 0 → n ≡ depth ps 9 d
-  depth-root e = let z = depth-zero ps (9 - n) in let w : depth ps 9 d ≡ n + depth ps (9 - n) 0 = v ∙ ap (λ x. n + depth ps (9 - n) x) e in omega arith
+module _ (ps : List ℕ) (d n p : ℕ) (v : depth ps mostTries d ≡ n + depth ps (9 - n) p) where
+  pub depth-root : p ≡ 0 → n ≡ depth ps mostTries d
+  depth-root e = let z = depth-zero ps (9 - n) in let w : depth ps mostTries d ≡ n + depth ps (9 - n) 0 = v ∙ ap (λ x. n + depth ps (9 - n) x) e in omega arith
 
-  pub depth-more : {r : ℕ} → n < 9 → (p ≡ 0 → ⊥) → r ≡ parentOf ps p → depth ps 9 d ≡ n + 1 + depth ps (9 - (n + 1)) r
+  pub depth-more : {r : ℕ} → n < 9 → (p ≡ 0 → ⊥) → r ≡ parentOf ps p → depth ps mostTries d ≡ n + 1 + depth ps (9 - (n + 1)) r
   depth-more {r} h e f =
       let m : 9 - n ≡ suc (9 - (n + 1)) = omega arith in
-      let w : depth ps (9 - n) p ≡ suc (depth ps (9 - (n + 1)) r) = ap (λ x. depth ps x p) m ∙ depth-suc ps (9 - (n + 1)) p e ∙ ap (λ x. suc (depth ps (9 - (n + 1)) x)) (sym f) in
+      let w : depth ps (9 - n) p ≡ suc (depth ps (9 - (n + 1)) r) = ap (λ x. depth ps x p) m ∙ depth-suc ps (9 - (n + 1)) p e
+      ∙ ap (λ x. suc (depth ps (9 - (n + 1)) x)) (sym f) in
       omega arith
 
-  pub depth-end : 9 ≤ n → n ≡ depth ps 9 d
+  pub depth-end : 9 ≤ n → n ≡ depth ps mostTries d
   unfolding depth
   depth-end h = let m : 9 - n ≡ 0 = omega arith in let w : depth ps (9 - n) p ≡ 0 = ap (λ x. depth ps x p) m in omega arith
 
 -- the tries to a hit at p, if there is one
 module _ (ps : List ℕ) (d p : ℕ) (f : Bool) where
-  pub tries-none : f ≡ false → 0 ≡ cond f (suc (depth ps 9 d) - depth ps 9 p) 0
+  pub tries-none : f ≡ false → 0 ≡ cond f (suc (depth ps mostTries d) - depth ps mostTries p) 0
   tries-none e = rw e
 
-  module _ {a b : ℕ} (e : f ≡ true) (i : a ≡ depth ps 9 d) (j : b ≡ depth ps 9 p) where
-    pub tries-count : b ≤ a + 1 → a + 1 - b ≡ cond f (suc (depth ps 9 d) - depth ps 9 p) 0
+  module _ {a b : ℕ} (e : f ≡ true) (i : a ≡ depth ps mostTries d) (j : b ≡ depth ps mostTries p) where
+    pub tries-count : b ≤ a + 1 → a + 1 - b ≡ cond f (suc (depth ps mostTries d) - depth ps mostTries p) 0
     tries-count l = rw (e, ← i, ← j) (omega arith)
 
-    pub tries-over : a + 1 < b → 0 ≡ cond f (suc (depth ps 9 d) - depth ps 9 p) 0
+    pub tries-over : a + 1 < b → 0 ≡ cond f (suc (depth ps mostTries d) - depth ps mostTries p) 0
     tries-over l = rw (e, ← i, ← j) (omega arith)
 
 module _ (rows ps : List ℕ) (n : ℕ) (st : State) (c d : ℕ) (whole : Bool) where
@@ -75,7 +77,7 @@ pub tries-bound : (rows ps : List ℕ) (n : ℕ) (st : State) (c d : ℕ) (whole
 unfolding triesNumbers
 tries-bound rows ps n st c d whole = go (leb 8 c) (hitNumbers rows ps n st c d whole)
   where
-    to : (h : Hit) (b : Bool) → cond b (suc (depth ps 9 d) - depth ps 9 (h .node)) 0 ≤ 10
+    to : (h : Hit) (b : Bool) → cond b (suc (depth ps mostTries d) - depth ps mostTries (h .node)) 0 ≤ 10
     to h true = omega (arith, depth-bound ps 9 d)
     to h false = omega arith
 

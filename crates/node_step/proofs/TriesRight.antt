@@ -1,5 +1,5 @@
 -- The tries by numbers are the theory's.
-use Prim.Native.Nat.{ℕ, zero, suc, _+_, _<_}
+use Prim.Native.Nat.{ℕ, zero, suc, _<_}
 use mathlib.Core.Path.{_≡_, refl, sym, ap, _∙_}
 use mathlib.Core.Logic.{_⊎_, inl, inr}
 use mathlib.Core.Bool.{Bool, true, false, cond, false≢true}
@@ -9,6 +9,7 @@ use lib.Dec.{eqb}
 use borrow.Author.Tests.{eq-eqb, ne-eqb, lt-leb}
 use lib.ListN.{length, getD, length-append}
 use native.Mathlib.Omega.{arith}
+use Rattle.base_numbers.specs.Numbers.{mostTries}
 use Rattle.theory_resolution.specs.Names.{Name, Parts, sameParts, below, candidates}
 use Rattle.theory_resolution.proofs.Names.{below-to, snoc-view}
 use Rattle.theory_resolution.specs.Table.{Urn, Table, rowOf, find, WellFormed}
@@ -50,11 +51,13 @@ module _ (rows ps : List ℕ) (n : ℕ) (t : Table) (wf : WellFormed t) (nu : Nu
           let a′ : RootOrNode (nodes t) c (w .0 ++ w .1 ∷ []) = rw (w .2) at a in
           let l : length d ≡ suc (length (w .0)) = omega (arith, length-append (w .0) (w .1 ∷ []), ap length (w .2)) in
           rw (w .2)
-          (ap (λ b. cond b 0 (suc (depth ps k (parentOf ps (num (w .0 ++ w .1 ∷ [])))))) (ne-eqb (num (w .0 ++ w .1 ∷ [])) 0 (not-root rows ps n t wf nu c known (w .0) (w .1) a′))
-          ∙ ap suc (ap (depth ps k) (up-number rows ps n t wf nu c known (w .0) (w .1) a′) ∙ ih (w .0) (omega arith) (up-anchor rows ps n t wf nu c known (w .0) (w .1) a′))
+          (ap (λ b. cond b 0 (suc (depth ps k (parentOf ps (num (w .0 ++ w .1 ∷ []))))))
+          (ne-eqb (num (w .0 ++ w .1 ∷ [])) 0 (not-root rows ps n t wf nu c known (w .0) (w .1) a′))
+          ∙ ap suc (ap (depth ps k) (up-number rows ps n t wf nu c known (w .0) (w .1) a′)
+          ∙ ih (w .0) (omega arith) (up-anchor rows ps n t wf nu c known (w .0) (w .1) a′))
           ∙ omega (arith, length-append (w .0) (w .1 ∷ [])))
 
-  depth-right : (d : Parts) → RootOrNode (nodes t) c d → depth ps 9 (num d) ≡ length d
+  depth-right : (d : Parts) → RootOrNode (nodes t) c d → depth ps mostTries (num d) ≡ length d
   depth-right d a = depth-within 9 d (omega (arith, few-parts-at t nu c d a)) a
 
 module _ (rows ps : List ℕ) (inner : List Bool) (n : ℕ) (t : Table) (wf : WellFormed t) (nu : Numbers rows ps n t) (ii : InnerIn inner t)
@@ -67,13 +70,16 @@ module _ (rows ps : List ℕ) (inner : List Bool) (n : ℕ) (t : Table) (wf : We
   unfolding triesNumbers
   tries-untaken e =
       simp (lt-leb 8 c (let q = nu .few-cats in omega arith))
-      (ap (triesTo ps (number (nodes t) c d)) (hit-untaken rows ps inner n t wf nu ii (find t) (table-laws t wf) rows (table-searched nu) st (state-valid t st g) c known d ad whole e))
+      (ap (triesTo ps (number (nodes t) c d)) (hit-untaken rows ps inner n t wf nu ii (find t) (table-laws t wf) rows (table-searched nu)
+      st (state-valid t st g) c known d ad whole e))
 
   -- a taken URN
   tries-taken : nodeTakes (getD (st .status) c direct.Open) here d whole ≡ true → (o : Option Parts) → below here d ≡ o
       → triesNumbers rows ps n (coded t st) c (number (nodes t) c d) whole ≡ triesIfTaken (envOf t) (rowOf t (st .signal)) c here true o
   unfolding triesNumbers
-  tries-taken e none f = absurd (false≢true (rw f at (taken-above rows ps inner n t wf nu ii (find t) (table-laws t wf) rows (table-searched nu) st (state-valid t st g) c known d ad whole (getD (st .status) c direct.Open) (g .fits c known) e)))
+  tries-taken e none f = absurd
+      (false≢true (rw f at (taken-above rows ps inner n t wf nu ii (find t) (table-laws t wf) rows (table-searched nu) st
+      (state-valid t st g) c known d ad whole (getD (st .status) c direct.Open) (g .fits c known) e)))
   tries-taken e (some r) f =
       let j : here ++ r ≡ d = below-to here d r f in
       let w = direct-law t wf .finds st g c r in
@@ -103,10 +109,13 @@ module _ (rows ps : List ℕ) (inner : List Bool) (n : ℕ) (t : Table) (wf : We
       by false e = tries-untaken e
 
 -- the tries of a used URN, at its deepest node
-pub tries-direct : (rows ps : List ℕ) (inner : List Bool) (n : ℕ) (t : Table) (wf : WellFormed t) → Numbers rows ps n t → InnerIn inner t → (st : direct.State) → StateOf t st
+pub tries-direct : (rows ps : List ℕ) (inner : List Bool) (n : ℕ) (t : Table) (wf : WellFormed t) → Numbers rows ps n t → InnerIn inner t
+    → (st : direct.State) → StateOf t st
     → (u : Urn) → u .cat < t .cats
-    → triesNumbers rows ps n (coded t st) (u .cat) (number (nodes t) (u .cat) (deepest (nodes t) (u .cat) (u .path))) (sameParts (deepest (nodes t) (u .cat) (u .path)) (u .path))
+    → triesNumbers rows ps n (coded t st) (u .cat) (number (nodes t) (u .cat) (deepest (nodes t) (u .cat) (u .path)))
+    (sameParts (deepest (nodes t) (u .cat) (u .path)) (u .path))
     ≡ tries (envOf t) (nodes t) st u
 tries-direct rows ps inner n t wf nu ii st g u h =
-    tries-right rows ps inner n t wf nu ii st g (u .cat) h (deepest (nodes t) (u .cat) (u .path)) (deepest-node (nodes t) (u .cat) (u .path)) (sameParts (deepest (nodes t) (u .cat) (u .path)) (u .path))
+    tries-right rows ps inner n t wf nu ii st g (u .cat) h (deepest (nodes t) (u .cat) (u .path))
+    (deepest-node (nodes t) (u .cat) (u .path)) (sameParts (deepest (nodes t) (u .cat) (u .path)) (u .path))
     ∙ sym (tries-at-node t wf st g u h)

@@ -4,6 +4,7 @@ use mathlib.Core.Bool.{Bool, true, false, cond, _&&_}
 use mathlib.Core.List.{List}
 use lib.ListN.{getD, set, replicate}
 use lib.Dec.{eqb, ltb, leb}
+use Rattle.base_numbers.specs.Numbers.{mostCategories, mostNodes}
 use Rattle.node_step.specs.declared.Status.{Status}
 use Rattle.node_step.specs.declared.Status.the-variants.{Open, Held, Shut}
 use Rattle.node_step.specs.declared.Progress.{Progress}
@@ -29,16 +30,16 @@ packed l c (suc n) = byteOf (statusIn l c) + 256 * packed l (suc c) n
 
 -- eight categories, the first n by their bytes in x
 unfoldable pub unpacked : ℕ → ℕ → List Progress
-unpacked x zero = replicate 8 (record { status = Open })
+unpacked x zero = replicate mostCategories (record { status = Open })
 unpacked x (suc n) = set (unpacked x n) n (record { status = statusOf (digit x n) })
 
 -- a state with its categories' bytes in one number
 abbrev pub packedOf : State → Packed
-packedOf st = record { signal = st .signal; statuses = packed (st .categories) 0 8 }
+packedOf st = record { signal = st .signal; statuses = packed (st .categories) 0 mostCategories }
 
 -- and the state that it is
 abbrev pub ofPacked : Packed → State
-ofPacked st = record { signal = st .signal; categories = unpacked (st .statuses) 8 }
+ofPacked st = record { signal = st .signal; categories = unpacked (st .statuses) mostCategories }
 
 -- two of them are the same
 unfoldable pub samePacked : Packed → Packed → Bool
@@ -59,7 +60,7 @@ movedPacked inner st c d whole h =
 unfoldable pub fitsBy : List ℕ → List ℕ → List Bool → List ℕ → ℕ → ℕ → ℕ → ℕ → Bool
 fitsBy rows ps inner category n s c b =
     cond (leb b 1) true
-    (cond (leb 8 c) false
-    (cond (ltb (b - 2) (min n 64))
+    (cond (leb mostCategories c) false
+    (cond (ltb (b - 2) (min n mostNodes))
     (eqb (getD category (b - 2) 0) c && (getD inner (b - 2) false && extends ps (digit (rowAt rows s) c) (b - 1) true))
     false))

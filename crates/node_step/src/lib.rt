@@ -11,12 +11,19 @@ pub mod rows;
 pub mod stored;
 pub mod tries;
 
-use base_text::compare::at_most;
+use base_bytes::numbers::at_most;
+use base_numbers::LAST_NODE;
+use base_numbers::MOST_CATEGORIES;
+use base_numbers::MOST_NODES;
+use base_numbers::MOST_SIGNALS;
+use base_numbers::MOST_TRIES;
 ghost use mathlib.Core.Path.{_≡_};
 ghost use mathlib.Core.Bool.{_&&_};
-ghost use Prim.Native.Nat.{_≤_, _<_};
+ghost use Prim.Native.Nat.{_≤_, _<_, min};
 ghost use lib.Dec.{eqb};
-ghost use Rattle.node_step.specs.Step.{rowAt, digit, put, parentOf, innerAt, reaches, findRow, seek, extends, progressIn, isShut, lastTaken, takesPast, statusFrom, moved, hitNumbers, stepNumbers};
+ghost use Rattle.base_numbers.specs.Numbers.{mostCategories, mostSignals, mostTries};
+ghost use Rattle.node_step.specs.Step.{rowAt, digit, put, parentOf, innerAt, reaches, findRow, seek, extends, progressIn, isShut, lastTaken};
+ghost use Rattle.node_step.specs.Step.{takesPast, statusFrom, moved, hitNumbers, stepNumbers};
 
 // What is kept of the last URN that a category took: the category is open at its place, held at a node, or shut for good.
 pub enum Status {
@@ -33,7 +40,7 @@ pub struct Progress {
 // The current signal, and each category's progress; those past the table's are open.
 pub struct State {
     pub signal: u8,
-    pub categories: [Progress; 8],
+    pub categories: [Progress; MOST_CATEGORIES],
 }
 
 // A signal that was found, with the node at which it was.
@@ -44,11 +51,11 @@ pub struct Hit {
 }
 
 // The places of a signal, one byte for each category.
-pub(crate) fn row_at(rows: &[u64; 32], s: u8) -> u64
+pub fn row_at(rows: &[u64; MOST_SIGNALS], s: u8) -> u64
     ensures { λ r. ⌜ r ≡ rowAt (now (rows .entry)) s ⌝ }
 {
     let i = s as usize;
-    if i < 32 {
+    if i < MOST_SIGNALS {
         return rows[i];
     }
     0
@@ -56,7 +63,7 @@ pub(crate) fn row_at(rows: &[u64; 32], s: u8) -> u64
 
 // The place in category c.
 pub(crate) fn digit_at(row: u64, c: usize) -> u8
-    requires { ⌜ c < 8 ⌝ }
+    requires { ⌜ c < mostCategories ⌝ }
     ensures { λ r. ⌜ r ≡ digit row c ⌝ }
 {
     let k = 8 * c;
@@ -65,7 +72,7 @@ pub(crate) fn digit_at(row: u64, c: usize) -> u8
 
 // The row with p for its place q in category c.
 pub(crate) fn put_at(row: u64, c: usize, q: u8, p: u8) -> u64
-    requires { ⌜ (c < 8) × (q ≡ digit row c) ⌝ }
+    requires { ⌜ (c < mostCategories) × (q ≡ digit row c) ⌝ }
     ensures { λ r. ⌜ r ≡ put row c p ⌝ }
 {
     let k = 8 * c;
@@ -75,13 +82,13 @@ pub(crate) fn put_at(row: u64, c: usize, q: u8, p: u8) -> u64
 }
 
 // The number of a node's parent.
-fn parent(parents: &[u8; 64], d: u8) -> u8
+fn parent(parents: &[u8; MOST_NODES], d: u8) -> u8
     ensures { λ r. ⌜ r ≡ parentOf (now (parents .entry)) d ⌝ }
 {
     if d == 0 {
         return 0;
     }
-    if d <= 64 {
+    if d <= LAST_NODE {
         let i = d as usize - 1;
         return parents[i];
     }
@@ -89,13 +96,13 @@ fn parent(parents: &[u8; 64], d: u8) -> u8
 }
 
 // Node d has nodes under it.
-fn inner_at(inner: &[bool; 64], d: u8) -> bool
+pub fn inner_at(inner: &[bool; MOST_NODES], d: u8) -> bool
     ensures { λ r. ⌜ r ≡ innerAt (now (inner .entry)) d ⌝ }
 {
     if d == 0 {
         return false;
     }
-    if d <= 64 {
+    if d <= LAST_NODE {
         let i = d as usize - 1;
         return inner[i];
     }
@@ -103,11 +110,11 @@ fn inner_at(inner: &[bool; 64], d: u8) -> bool
 }
 
 // The node or root q is d or an ancestor of d, at most 8 nodes above it.
-fn reaches_of(parents: &[u8; 64], q: u8, d: u8) -> bool
-    ensures { λ r. ⌜ r ≡ reaches (now (parents .entry)) q 9 d ⌝ }
+pub fn reaches_of(parents: &[u8; MOST_NODES], q: u8, d: u8) -> bool
+    ensures { λ r. ⌜ r ≡ reaches (now (parents .entry)) q mostTries d ⌝ }
 {
     let mut p = d;
-    let mut n: usize = 9;
+    let mut n: usize = MOST_TRIES;
     while 0 < n {
         if p == q {
             return true;
@@ -122,8 +129,8 @@ fn reaches_of(parents: &[u8; 64], q: u8, d: u8) -> bool
 }
 
 // The first of the n signals that has these places, or 32.
-fn find_row(rows: &[u64; 32], n: usize, key: u64) -> usize
-    requires { ⌜ n ≤ 32 ⌝ }
+fn find_row(rows: &[u64; MOST_SIGNALS], n: usize, key: u64) -> usize
+    requires { ⌜ n ≤ mostSignals ⌝ }
     ensures { λ r. ⌜ r ≡ findRow (now (rows .entry)) key 0 n ⌝ }
 {
     let mut i = 0;
@@ -133,28 +140,35 @@ fn find_row(rows: &[u64; 32], n: usize, key: u64) -> usize
         }
         i += 1;
     }
-    32
+    MOST_SIGNALS
+}
+
+// The signal with this row among the first n, at most 32, or 32.
+pub fn find_signal(rows: &[u64; MOST_SIGNALS], n: usize, key: u64) -> usize
+    ensures { λ r. ⌜ r ≡ findRow (now (rows .entry)) key 0 (min n mostSignals) ⌝ }
+{
+    find_row(rows, at_most(n, MOST_SIGNALS), key)
 }
 
 // The first of d and its ancestors down to q at which there is a signal with that place in c and the row's places elsewhere.
 pub(crate) fn seek_from<'a>(
-    rows: &'a [u64; 32],
-    parents: &'a [u8; 64],
+    rows: &'a [u64; MOST_SIGNALS],
+    parents: &'a [u8; MOST_NODES],
     n: usize,
     row: u64,
     c: usize,
     q: u8,
     d: u8,
 ) -> Hit
-    requires { ⌜ (n ≤ 32) × (c < 8) × (q ≡ digit row c) ⌝ }
-    ensures { λ r. ⌜ r ≡ seek (now (rows .entry)) (now (parents .entry)) n row c q 9 d ⌝ }
+    requires { ⌜ (n ≤ mostSignals) × (c < mostCategories) × (q ≡ digit row c) ⌝ }
+    ensures { λ r. ⌜ r ≡ seek (now (rows .entry)) (now (parents .entry)) n row c q mostTries d ⌝ }
 {
     let mut p = d;
-    let mut left: usize = 9;
+    let mut left: usize = MOST_TRIES;
     while 0 < left {
         let key = put_at(row, c, q, p);
         let i = find_row(rows, n, key);
-        if i < 32 {
+        if i < MOST_SIGNALS {
             return Hit {
                 found: true,
                 node: p,
@@ -189,7 +203,7 @@ fn whole_at(whole: bool, p: u8, d: u8) -> bool
 }
 
 // The node or root q is a proper ancestor of what is said: d itself if whole, something under d if not.
-pub(crate) fn extends_of(parents: &[u8; 64], q: u8, d: u8, whole: bool) -> bool
+pub fn extends_of(parents: &[u8; MOST_NODES], q: u8, d: u8, whole: bool) -> bool
     ensures { λ r. ⌜ r ≡ extends (now (parents .entry)) q d whole ⌝ }
 {
     if whole_at(whole, d, q) {
@@ -199,8 +213,8 @@ pub(crate) fn extends_of(parents: &[u8; 64], q: u8, d: u8, whole: bool) -> bool
 }
 
 // The progress of category c.
-pub(crate) fn progress_in(categories: [Progress; 8], c: usize) -> Progress
-    requires { ⌜ c < 8 ⌝ }
+pub(crate) fn progress_in(categories: [Progress; MOST_CATEGORIES], c: usize) -> Progress
+    requires { ⌜ c < mostCategories ⌝ }
     ensures { λ r. ⌜ r ≡ progressIn categories c ⌝ }
 {
     categories[c]
@@ -230,7 +244,13 @@ pub(crate) fn last_taken(progress: Progress, q: u8) -> u8
 }
 
 // A category takes what is said: it is not shut, and what is said properly extends the URN last taken there.
-pub(crate) fn takes_at(parents: &[u8; 64], progress: Progress, last: u8, d: u8, whole: bool) -> bool
+pub(crate) fn takes_at(
+    parents: &[u8; MOST_NODES],
+    progress: Progress,
+    last: u8,
+    d: u8,
+    whole: bool,
+) -> bool
     ensures { λ r. ⌜ r ≡ takesPast (now (parents .entry)) (progress .status) last d whole ⌝ }
 {
     if is_shut(progress) {
@@ -240,7 +260,7 @@ pub(crate) fn takes_at(parents: &[u8; 64], progress: Progress, last: u8, d: u8, 
 }
 
 // A category's progress after a signal was found at node p: open if all of what is said was found, else held at d, or shut.
-pub(crate) fn progress_from(inner: &[bool; 64], d: u8, whole: bool, p: u8) -> Progress
+pub(crate) fn progress_from(inner: &[bool; MOST_NODES], d: u8, whole: bool, p: u8) -> Progress
     ensures { λ r. ⌜ r .status ≡ statusFrom (now (inner .entry)) d whole p ⌝ }
 {
     if !whole {
@@ -264,8 +284,8 @@ pub(crate) fn progress_from(inner: &[bool; 64], d: u8, whole: bool, p: u8) -> Pr
 }
 
 // The state after a search.
-fn moved_by(inner: &[bool; 64], st: State, c: usize, d: u8, whole: bool, h: Hit) -> State
-    requires { ⌜ c < 8 ⌝ }
+fn moved_by(inner: &[bool; MOST_NODES], st: State, c: usize, d: u8, whole: bool, h: Hit) -> State
+    requires { ⌜ c < mostCategories ⌝ }
     ensures { λ r. ⌜ r ≡ moved (now (inner .entry)) st c d whole h ⌝ }
 {
     if h.found {
@@ -282,15 +302,15 @@ fn moved_by(inner: &[bool; 64], st: State, c: usize, d: u8, whole: bool, h: Hit)
 
 // The signal found for what is said at the node or root with number d, in category c, if the category takes it.
 fn hit_for<'a>(
-    rows: &'a [u64; 32],
-    parents: &'a [u8; 64],
+    rows: &'a [u64; MOST_SIGNALS],
+    parents: &'a [u8; MOST_NODES],
     signals: usize,
     st: State,
     c: usize,
     d: u8,
     whole: bool,
 ) -> Hit
-    requires { ⌜ c < 8 ⌝ }
+    requires { ⌜ c < mostCategories ⌝ }
     ensures { λ r. ⌜ r ≡ hitNumbers (now (rows .entry)) (now (parents .entry)) signals st c d whole ⌝ }
 {
     let row = row_at(rows, st.signal);
@@ -299,7 +319,7 @@ fn hit_for<'a>(
     let progress = progress_in(categories, c);
     let last = last_taken(progress, q);
     if takes_at(parents, progress, last, d, whole) {
-        let n = at_most(signals, 32);
+        let n = at_most(signals, MOST_SIGNALS);
         return seek_from(rows, parents, n, row, c, q, d);
     }
     Hit {
@@ -311,9 +331,9 @@ fn hit_for<'a>(
 
 // One step at the node or root with number d, in category c.
 pub fn step<'a>(
-    rows: &'a [u64; 32],
-    parents: &'a [u8; 64],
-    inner: &'a [bool; 64],
+    rows: &'a [u64; MOST_SIGNALS],
+    parents: &'a [u8; MOST_NODES],
+    inner: &'a [bool; MOST_NODES],
     signals: usize,
     st: State,
     c: usize,
@@ -322,7 +342,7 @@ pub fn step<'a>(
 ) -> State
     ensures { λ r. ⌜ r ≡ stepNumbers (now (rows .entry)) (now (parents .entry)) (now (inner .entry)) signals st c d whole ⌝ }
 {
-    if 8 <= c {
+    if MOST_CATEGORIES <= c {
         return st;
     }
     let h = hit_for(rows, parents, signals, st, c, d, whole);

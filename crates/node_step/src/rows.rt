@@ -1,4 +1,5 @@
 // The places of a signal, each in its byte of one number: read and set.
+use base_numbers::MOST_CATEGORIES;
 ghost use mathlib.Core.Path.{_≡_};
 ghost use Rattle.node_step.specs.Step.{placeIn, withPlace};
 
@@ -6,7 +7,7 @@ ghost use Rattle.node_step.specs.Step.{placeIn, withPlace};
 pub fn place_in(row: u64, c: usize) -> u8
     ensures { λ r. ⌜ r ≡ placeIn row c ⌝ }
 {
-    if c < 8 {
+    if c < MOST_CATEGORIES {
         return crate::digit_at(row, c);
     }
     0
@@ -16,7 +17,7 @@ pub fn place_in(row: u64, c: usize) -> u8
 pub fn with_place(row: u64, c: usize, p: u8) -> u64
     ensures { λ r. ⌜ r ≡ withPlace row c p ⌝ }
 {
-    if c < 8 {
+    if c < MOST_CATEGORIES {
         return crate::put_at(row, c, crate::digit_at(row, c), p);
     }
     row

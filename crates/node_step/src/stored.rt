@@ -10,10 +10,14 @@ use crate::put_at;
 use crate::row_at;
 use crate::seek_from;
 use crate::takes_at;
-use base_text::compare::at_most;
+use base_bytes::numbers::at_most;
+use base_numbers::MOST_CATEGORIES;
+use base_numbers::MOST_NODES;
+use base_numbers::MOST_SIGNALS;
 ghost use mathlib.Core.Path.{_≡_};
 ghost use mathlib.Core.Bool.{true};
 ghost use Prim.Native.Nat.{_<_};
+ghost use Rattle.base_numbers.specs.Numbers.{mostCategories};
 ghost use Rattle.node_step.specs.Step.{rowAt, digit, extends};
 ghost use Rattle.node_step.specs.StatusByte.{samePacked, byteOf, statusOf, stepPacked, movedPacked, fitsBy};
 
@@ -72,7 +76,7 @@ pub fn progress_of(b: u8) -> Progress
 
 // The state after a search; b is the byte of category c.
 fn moved_packed(
-    inner: &[bool; 64],
+    inner: &[bool; MOST_NODES],
     st: Packed,
     c: usize,
     b: u8,
@@ -80,7 +84,7 @@ fn moved_packed(
     whole: bool,
     h: Hit,
 ) -> Packed
-    requires { ⌜ (c < 8) × (b ≡ digit (st .statuses) c) ⌝ }
+    requires { ⌜ (c < mostCategories) × (b ≡ digit (st .statuses) c) ⌝ }
     ensures { λ r. ⌜ r ≡ movedPacked (now (inner .entry)) st c d whole h ⌝ }
 {
     if h.found {
@@ -97,9 +101,9 @@ fn moved_packed(
 
 // One step at the node or root with number d, in category c.
 pub fn step_packed<'a>(
-    rows: &'a [u64; 32],
-    parents: &'a [u8; 64],
-    inner: &'a [bool; 64],
+    rows: &'a [u64; MOST_SIGNALS],
+    parents: &'a [u8; MOST_NODES],
+    inner: &'a [bool; MOST_NODES],
     signals: usize,
     st: Packed,
     c: usize,
@@ -108,7 +112,7 @@ pub fn step_packed<'a>(
 ) -> Packed
     ensures { λ r. ⌜ r ≡ stepPacked (now (rows .entry)) (now (parents .entry)) (now (inner .entry)) signals st c d whole ⌝ }
 {
-    if 8 <= c {
+    if MOST_CATEGORIES <= c {
         return st;
     }
     let row = row_at(rows, st.signal);
@@ -117,7 +121,7 @@ pub fn step_packed<'a>(
     let progress = progress_of(b);
     let last = last_taken(progress, q);
     if takes_at(parents, progress, last, d, whole) {
-        let n = at_most(signals, 32);
+        let n = at_most(signals, MOST_SIGNALS);
         let h = seek_from(rows, parents, n, row, c, q, d);
         return moved_packed(inner, st, c, b, d, whole, h);
     }
@@ -125,8 +129,14 @@ pub fn step_packed<'a>(
 }
 
 // The place of signal s in category c is a proper ancestor of node d.
-fn beyond<'a>(rows: &'a [u64; 32], parents: &'a [u8; 64], s: u8, c: usize, d: u8) -> bool
-    requires { ⌜ c < 8 ⌝ }
+fn beyond<'a>(
+    rows: &'a [u64; MOST_SIGNALS],
+    parents: &'a [u8; MOST_NODES],
+    s: u8,
+    c: usize,
+    d: u8,
+) -> bool
+    requires { ⌜ c < mostCategories ⌝ }
     ensures { λ r. ⌜ r ≡ extends (now (parents .entry)) (digit (rowAt (now (rows .entry)) s) c) d true ⌝ }
 {
     let row = row_at(rows, s);
@@ -136,10 +146,10 @@ fn beyond<'a>(rows: &'a [u64; 32], parents: &'a [u8; 64], s: u8, c: usize, d: u8
 
 // Category c can have the byte b at signal s: 0, 1, or 1 + n for a node n of c that has nodes under it and lies beyond its place.
 pub fn fits<'a>(
-    rows: &'a [u64; 32],
-    parents: &'a [u8; 64],
-    inner: &'a [bool; 64],
-    category: &'a [u8; 64],
+    rows: &'a [u64; MOST_SIGNALS],
+    parents: &'a [u8; MOST_NODES],
+    inner: &'a [bool; MOST_NODES],
+    category: &'a [u8; MOST_NODES],
     nodes: usize,
     s: u8,
     c: usize,
@@ -150,15 +160,15 @@ pub fn fits<'a>(
     if b <= 1 {
         return true;
     }
-    if 8 <= c {
+    if MOST_CATEGORIES <= c {
         return false;
     }
-    let n = at_most(nodes, 64);
+    let n = at_most(nodes, MOST_NODES);
     let k = b as usize - 2;
     if n <= k {
         return false;
     }
-    if base_text::cut::wide(category[k]) != c {
+    if base_bytes::numbers::wide(category[k]) != c {
         return false;
     }
     if !inner[k] {

@@ -1,10 +1,10 @@
 -- Numbers in decimal and bytes in hex.
 -- Assumes nothing.
-use Prim.Native.Nat.{ℕ, zero, suc, _+_, _-_, _*_}
+use Prim.Native.Nat.{ℕ, _+_, _-_, _*_}
 use mathlib.Core.Bool.{cond}
-use mathlib.Core.List.{List, [], _∷_, _++_}
+use mathlib.Core.List.{List, [], _∷_}
 use lib.Dec.{leb, ltb}
-use lib.ListN.{length, getD, drop}
+use lib.ListN.{getD}
 
 -- 0 to 9 (bytes 48 to 57); any other byte counts as 0
 unfoldable pub digitOf : ℕ → ℕ
@@ -26,12 +26,3 @@ hexDigit b = cond (ltb b 48) 0 (cond (leb b 57) (b - 48) (cond (ltb b 97) 0 (con
 -- byte k of a text in hex
 abbrev pub hexPair : List ℕ → ℕ → ℕ
 hexPair s k = hexDigit (getD s (2 * k) 0) * 16 + hexDigit (getD s (2 * k + 1) 0)
-
--- f 0, f 1, .., n of them
-unfoldable pub tab : (ℕ → ℕ) → ℕ → List ℕ
-tab f zero = []
-tab f (suc n) = tab f n ++ (f n ∷ [])
-
--- p written over the front of b
-unfoldable pub over : List ℕ → List ℕ → List ℕ
-over p b = p ++ drop (length p) b

@@ -4,8 +4,10 @@
 ghost use mathlib.Core.Path.{_≡_};
 ghost use Prim.Native.Nat.{_≤_, _<_, _/_, min};
 ghost use lib.ListN.{length, getD, take};
-ghost use Rattle.program_lines.specs.Lines.{takeTo, dropPast, partOf};
-ghost use Rattle.program_lines.specs.Numbers.{digitOf, moreDigits, numberOf, hexDigit, hexPair, tab, over};
+ghost use Rattle.base_lists.specs.Lists.{tabulate, over};
+ghost use Rattle.base_lists.specs.Cuts.{upTo, past};
+ghost use Rattle.program_lines.specs.Lines.{partOf};
+ghost use Rattle.program_lines.specs.Numbers.{digitOf, moreDigits, numberOf, hexDigit, hexPair};
 
 // The first byte, 0 if there is none.
 pub fn first(s: &[u8]) -> u8
@@ -16,7 +18,7 @@ pub fn first(s: &[u8]) -> u8
 
 // Where the first byte that is `mark` stands; the length if there is none.
 fn find(s: &[u8], mark: u8) -> usize
-    ensures { λ r. ⌜ r ≡ length (takeTo mark (now (s .entry))) ⌝ }
+    ensures { λ r. ⌜ r ≡ length (upTo mark (now (s .entry))) ⌝ }
 {
     let mut at = 0;
     while at < s.len() {
@@ -30,7 +32,7 @@ fn find(s: &[u8], mark: u8) -> usize
 
 // The bytes before the first `mark`; all if there is none.
 pub fn before<'a>(s: &'a [u8], mark: u8) -> &'a [u8]
-    ensures { λ r. ⌜ now r ≡ takeTo mark (now (s .entry)) ⌝ }
+    ensures { λ r. ⌜ now r ≡ upTo mark (now (s .entry)) ⌝ }
 {
     let end = find(s, mark);
     &s[0..end]
@@ -38,7 +40,7 @@ pub fn before<'a>(s: &'a [u8], mark: u8) -> &'a [u8]
 
 // The bytes after the first `mark`; none if there is none.
 pub fn after<'a>(s: &'a [u8], mark: u8) -> &'a [u8]
-    ensures { λ r. ⌜ now r ≡ dropPast mark (now (s .entry)) ⌝ }
+    ensures { λ r. ⌜ now r ≡ past mark (now (s .entry)) ⌝ }
 {
     let at = find(s, mark);
     let end = s.len();
@@ -124,7 +126,7 @@ fn hex_digit(b: u8) -> u8
 // their number. A lone `-` says no bytes.
 pub fn decode(text: &[u8], out: &mut [u8]) -> usize
     ensures { λ r. ⌜ r ≡ min (length (now (text .entry)) / 2) (length (now (out .entry))) ⌝ }
-    ensures { λ r. ⌜ now (out .exit) ≡ over (tab (hexPair (now (text .entry))) r) (now (out .entry)) ⌝ }
+    ensures { λ r. ⌜ now (out .exit) ≡ over (tabulate (hexPair (now (text .entry))) r) (now (out .entry)) ⌝ }
     ensures { λ r. ⌜ (r ≤ length (now (out .exit))) × (r ≡ length (take r (now (out .exit)))) ⌝ }
 {
     let n = text.len() / 2;

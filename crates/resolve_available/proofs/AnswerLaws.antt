@@ -1,15 +1,15 @@
 -- The answer among the available signals, by how the value ended.
-use Prim.Native.Nat.{ℕ, _<_, min}
+use Prim.Native.Nat.{ℕ, min}
 use mathlib.Core.Path.{_≡_, refl, sym, ap, _∙_}
 use mathlib.Core.Bool.{true, false, cond}
 use mathlib.Core.List.{List}
 use lib.ListN.{length}
 use lib.Dec.{eqb}
 use borrow.Author.Tests.{eq-eqb}
-use native.Mathlib.Omega.{arith}
+use Rattle.base_numbers.specs.Numbers.{mostSignals}
+use Rattle.base_lists.proofs.Numbers.{pos-of-ne, min-le}
+use Rattle.base_lists.proofs.Bools.{byTest}
 use Rattle.value_reader.specs.Value.{refusalOf, urisOf}
-use Rattle.value_reader.proofs.ValueLaws.{refusal-long}
-use Rattle.base_text.proofs.Fields.{byTest}
 use Rattle.theory_resolution.specs.Direct.{State}
 use Rattle.table_decode.specs.Tables.{tableRefusal, tableOf}
 use Rattle.table_decode.specs.Decoded.{Holds}
@@ -19,21 +19,20 @@ use Rattle.resolve_run.specs.declared.run.Current.{Current}
 use Rattle.resolve_run.specs.declared.answer.Ended.{Ended}
 use Rattle.resolve_run.specs.Answers.{refused, answered}
 use Rattle.resolve_run.specs.Run.{startNow, Direct, Machine, signalNow, endedFrom}
-use Rattle.resolve_run.proofs.AnswerLaws.{End, value-refused, none-refused, refused-first, pos-of-ne}
-use Rattle.resolve_run.proofs.AnswerLaws as ends
+use Rattle.resolve_run.proofs.AnswerLaws.{End, value-refused, none-refused, refused-first}
 use Rattle.resolve_run.proofs.DirectLaws.{shown}
 use Rattle.resolve_available.specs.Available.{hasBit, known, availableSignal, availableOf}
 use Rattle.resolve_available.specs.Rows.{rowsAmong, among}
 use Rattle.resolve_available.proofs.RunRight.{last, last-right, run-right}
-use Rattle.base_text.proofs.Lesser.{min-le}
+use Rattle.resolve_run.proofs.AnswerLaws as ends
 
 -- the test by another count of the same size
 pub known-same : (set : ℕ) {n k : ℕ} → n ≡ k → known set n ≡ known set k
 known-same set e = ap (known set) e
 
 -- at most 32 signals are those that there are
-pub signals-few : (t : List ℕ) (d : Decoded) → Holds t (tableOf t) d → min (d .signals) 32 ≡ length (tableOf t .signals)
-signals-few t d h = sym (min-le (d .signals) 32 (h .numbers .few-signals)) ∙ sym (h .numbers .all-signals)
+pub signals-few : (t : List ℕ) (d : Decoded) → Holds t (tableOf t) d → min (d .signals) mostSignals ≡ length (tableOf t .signals)
+signals-few t d h = sym (min-le (d .signals) mostSignals (h .numbers .few-signals)) ∙ sym (h .numbers .all-signals)
 
 module _ (t : List ℕ) (set : ℕ) (v : List ℕ) where
   abbrev list : Resolution
@@ -41,11 +40,6 @@ module _ (t : List ℕ) (set : ℕ) (v : List ℕ) where
 
   abbrev judged : Resolution
   judged = cond (known set (length (tableOf t .signals))) list (refused 23)
-
-  -- a value of over 4,096 bytes
-  pub available-long : 4096 < length v → refused 1 ≡ availableOf t set v
-  unfolding availableOf
-  available-long h = value-refused t v judged (refusal-long v h) (omega arith)
 
   -- a refused table
   pub available-table : {k : ℕ} → k ≡ tableRefusal t → (k ≡ 0 → ⊥) → refused (cond (eqb (refusalOf v) 0) k (refusalOf v)) ≡ availableOf t set v
@@ -71,5 +65,6 @@ module _ (t : List ℕ) (set : ℕ) (v : List ℕ) where
           ∙ ap (λ b. cond b list (refused 23)) (sym k)
           ∙ none-refused t v judged z formed
 
-      pub available-right : {x : Current} → x ≡ Direct startNow 0 → {a : Decoded} → a ≡ among (rowsAmong (hasBit set) (d .rows)) d → {e : Ended} → e ≡ endedFrom t a m x v → e .answer ≡ availableOf t set v
+      pub available-right : {x : Current} → x ≡ Direct startNow 0 → {a : Decoded} → a ≡ among (rowsAmong (hasBit set) (d .rows)) d
+          → {e : Ended} → e ≡ endedFrom t a m x v → e .answer ≡ availableOf t set v
       available-right {x} f q r = by-end _ (run-right t d h (hasBit set) m v f (r ∙ ap (λ (b : Decoded). endedFrom t b m x v) q))

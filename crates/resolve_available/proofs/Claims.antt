@@ -1,17 +1,18 @@
 -- The claims, proved.
-use Prim.Native.Nat.{ℕ, zero, suc, _+_, _≤_, _<_}
+use Prim.Native.Nat.{ℕ, zero, suc, _≤_, _<_}
 use mathlib.Core.Path.{_≡_, refl, sym, ap, _∙_, subst}
 use mathlib.Core.Bool.{Bool, true, false, cond}
-use mathlib.Core.List.{List, [], _∷_, _++_, map}
+use mathlib.Core.List.{List, _++_, map-append}
 use lib.ListN.{length}
 use lib.Dec.{eqb}
 use borrow.Author.Tests.{eq-eqb, ne-eqb}
 use native.Mathlib.Omega.{arith}
+use Rattle.theory_resolution.proofs.Direct.{changes-map}
+use Rattle.base_lists.proofs.Bools.{byTest}
 use Rattle.value_reader.specs.Value.{urisOf}
-use Rattle.base_text.proofs.Fields.{byTest}
 use Rattle.theory_resolution.specs.Table.{Urn, mostParts}
 use Rattle.theory_resolution.specs.Says.{Says}
-use Rattle.theory_resolution.specs.Direct.{State, start, step, stepUri, usedOf, changed, changes}
+use Rattle.theory_resolution.specs.Direct.{State, start, step, stepUri, usedOf}
 use Rattle.theory_resolution.specs.Available.{counts, envAvailable, directAvailable, AvailableLaw}
 use Rattle.theory_resolution.proofs.Claim.{used-append, changes-used}
 use Rattle.theory_resolution.proofs.Available.{available-all, available-law}
@@ -21,7 +22,6 @@ use Rattle.table_decode.proofs.Accepting.{accepted}
 use Rattle.resolve_run.specs.Answers.{takenAs, numberOf, refused, answered}
 use Rattle.resolve_run.specs.declared.Resolution.{Resolution}
 use Rattle.resolve_run.proofs.AnswerLaws.{unless-number}
-use Rattle.resolve_run.proofs.TakenLaws.{map-append}
 use Rattle.resolve_available.specs.Available.{hasBit, known, availableSignal, availableOf}
 use Rattle.resolve_available.specs.Claims.{Strange, Everyone, Answers, Over, AnswerClaim, OverClaim}
 use Rattle.resolve_available.proofs.BitLaws.{strange-bit, bit-strange}
@@ -73,12 +73,6 @@ module _ (t : List ℕ) (set : ℕ) (v : List ℕ) where
 
 pub answer-claim : AnswerClaim
 answer-claim t set v = answers t set v
-
--- changes over a list whose members are seen through a function
-pub changes-map : {S A B : Type 0} (signalOf : S → ℕ) (next : S → B → S) (g : A → B) (s : S) (l : List A)
-    → changes signalOf next s (map g l) ≡ changes signalOf (λ x a. next x (g a)) s l
-changes-map signalOf next g s [] = refl
-changes-map signalOf next g s (a ∷ l) = ap (λ n. changed (eqb (signalOf (next s (g a))) (signalOf s)) + n) (changes-map signalOf next g (next s (g a)) l)
 
 module _ (t : List ℕ) (set : ℕ) (formed : tableRefusal t ≡ 0) (before after : List (List ℕ)) where
   law : AvailableLaw (tableOf t) (hasBit set)

@@ -10,18 +10,19 @@ use borrow.Author.Tests.{lt-ltb, ne-eqb}
 use native.Mathlib.Omega.{arith}
 use native.Mathlib.Nat.{add-zero}
 use native.Mathlib.Numerals.{add-one}
-use Rattle.theory_resolution.specs.Lists.{tabulate}
+use lib.Seq.{ext-getD}
+use Rattle.base_numbers.specs.Numbers.{mostNodes, mostSignals}
+use Rattle.base_lists.proofs.Filled.{filled-more}
+use Rattle.base_lists.proofs.Tabulated.{tabulate-length, tabulate-at}
+use Rattle.base_lists.specs.Lists.{tabulate}
 use Rattle.theory_resolution.specs.Table.{Urn, Table, Row, rowFrom, rowOf, sameRow}
 use Rattle.theory_resolution.specs.Nodes.{nodes}
 use Rattle.theory_resolution.specs.Available.{counts, findAvailableFrom, findAvailable}
-use Rattle.theory_resolution.proofs.Lists.{tabulate-length, tabulate-at}
 use Rattle.theory_resolution.proofs.Numbers.{number-le}
 use Rattle.theory_resolution.proofs.Available.{found-in}
 use Rattle.node_step.specs.Step.{findRow}
 use Rattle.node_step.specs.Rows.{pack, numbersFrom, Numbers}
 use Rattle.node_step.proofs.NumberLaws.{Anchored, foundRow}
-use Rattle.node_step.proofs.ProgressLaws.{same-lists}
-use Rattle.node_step.proofs.StepLaws.{fill-more}
 use Rattle.node_step.proofs.SearchedBy.{SearchedBy, row-agrees}
 use Rattle.resolve_available.specs.Available.{hasBit}
 use Rattle.resolve_available.specs.Rows.{noRow, rowIf}
@@ -43,23 +44,23 @@ row-absent row e = ap (λ b. cond b row noRow) (sym e)
 
 -- the first s rows are filled
 pub record Filled (set : ℕ) (rows kept : List ℕ) (s : ℕ) : Type 0 where
-  pub wide : length kept ≡ 32
+  pub wide : length kept ≡ mostSignals
   pub so-far : (k : ℕ) → k < s → getD kept k 0 ≡ rowIf (hasBit set) rows k
 
 -- one more, by the test
-pub fill-row : (set : ℕ) (rows kept : List ℕ) (s : ℕ) {b : Bool} {row : ℕ} → Filled set rows kept s → s < 32 → b ≡ counts (hasBit set) s
+pub fill-row : (set : ℕ) (rows kept : List ℕ) (s : ℕ) {b : Bool} {row : ℕ} → Filled set rows kept s → s < mostSignals → b ≡ counts (hasBit set) s
     → row ≡ cond b (getD rows s 0) noRow → Filled set rows (store kept s row) (s + 1)
 fill-row set rows kept s {b} {row} i h e f =
     record {
       wide = length-set kept s row ∙ i .wide;
-      so-far = fill-more kept (rowIf (hasBit set) rows) s row (omega (arith, i .wide)) (i .so-far) (f ∙ ap (λ b. cond b (getD rows s 0) noRow) e);
+      so-far = filled-more (rowIf (hasBit set) rows) kept s row (omega (arith, i .wide)) (f ∙ ap (λ b. cond b (getD rows s 0) noRow) e) (i .so-far);
     }
 
 -- all 32 rows are filled
-pub filled : (set : ℕ) (rows kept : List ℕ) (s : ℕ) → Filled set rows kept s → 32 ≤ s → kept ≡ tabulate (rowIf (hasBit set) rows) 32
+pub filled : (set : ℕ) (rows kept : List ℕ) (s : ℕ) → Filled set rows kept s → mostSignals ≤ s → kept ≡ tabulate (rowIf (hasBit set) rows) mostSignals
 filled set rows kept s i h =
-    same-lists kept (tabulate (rowIf (hasBit set) rows) 32) 0 (i .wide ∙ sym (tabulate-length (rowIf (hasBit set) rows) 32))
-    (λ k l. let b : k < 32 = omega (arith, l, i .wide) in i .so-far k (omega arith) ∙ sym (tabulate-at (rowIf (hasBit set) rows) 32 k 0 b))
+    ext-getD 0 kept (tabulate (rowIf (hasBit set) rows) mostSignals) (i .wide ∙ sym (tabulate-length (rowIf (hasBit set) rows) mostSignals))
+    (λ k l. let b : k < mostSignals = omega (arith, l, i .wide) in i .so-far k (omega arith) ∙ sym (tabulate-at (rowIf (hasBit set) rows) mostSignals k 0 b))
 
 -- so many digits
 abbrev digits : ℕ → ℕ
@@ -77,7 +78,7 @@ digits-low n h =
     omega (arith, digits-more n (8 - n), ap digits e, z)
 
 -- no node has number 255, so no row of nodes is the one that stands for none
-module _ (ns : List Urn) (few : length ns ≤ 64) where
+module _ (ns : List Urn) (few : length ns ≤ mostNodes) where
   low-row : (c : ℕ) (r : Row) → 2 * pack (numbersFrom ns c r) + 1 ≤ digits (length r)
   low-row c [] = omega arith
   low-row c (p ∷ r) = omega (arith, number-le ns c p, low-row (suc c) r)
@@ -89,7 +90,7 @@ module _ (on : ℕ → Bool) where
   -- a search by rows among the available signals, and the search by keys that agree with them
   finds-among : (n : ℕ) (r : Row) (kept : List ℕ) (key : ℕ) (i : ℕ) (sigs : List (List Urn))
       → ((k : ℕ) → k < length sigs → counts on (i + k) && sameRow (rowFrom (getD sigs k []) 0 n) r ≡ eqb (getD kept (i + k) 0) key)
-      → i + length sigs ≤ 32 → findAvailableFrom on n i sigs r ≡ foundRow (findRow kept key i (length sigs))
+      → i + length sigs ≤ mostSignals → findAvailableFrom on n i sigs r ≡ foundRow (findRow kept key i (length sigs))
   unfolding findRow
   finds-among n r kept key i [] h l = refl
   finds-among n r kept key i (sig ∷ sigs) h l = go (eqb (getD kept i 0) key) refl (finds-among n r kept key (suc i) sigs more (omega arith))
@@ -102,12 +103,12 @@ module _ (on : ℕ → Bool) where
 
       go : (b : Bool) → eqb (getD kept i 0) key ≡ b → findAvailableFrom on n (suc i) sigs r ≡ foundRow (findRow kept key (suc i) (length sigs))
           → findAvailableFrom on n i (sig ∷ sigs) r ≡ foundRow (findRow kept key i (suc (length sigs)))
-      go true e ih = rw (first, e, lt-ltb i 32 (omega arith))
+      go true e ih = rw (first, e, lt-ltb i mostSignals (omega arith))
       go false e ih = rw (first, e, add-one i) ih
 
   module _ {rows ps : List ℕ} {n : ℕ} {T : Table} (nu : Numbers rows ps n T) where
     abbrev kept : List ℕ
-    kept = tabulate (rowIf on rows) 32
+    kept = tabulate (rowIf on rows) mostSignals
 
     abbrev key : Row → ℕ
     key r = pack (numbersFrom (nodes T) 0 r)
@@ -116,7 +117,7 @@ module _ (on : ℕ → Bool) where
         → counts on (0 + k) && sameRow (rowOf T k) r ≡ eqb (getD kept (0 + k) 0) (key r)
     agrees r a l k h =
         go (counts on (0 + k)) refl
-        ∙ ap (λ z. eqb z (key r)) (sym (tabulate-at (rowIf on rows) 32 (0 + k) 0 (let f = nu .few-signals in let m = nu .all-signals in omega arith)))
+        ∙ ap (λ z. eqb z (key r)) (sym (tabulate-at (rowIf on rows) mostSignals (0 + k) 0 (let f = nu .few-signals in let m = nu .all-signals in omega arith)))
       where
         go : (b : Bool) → counts on (0 + k) ≡ b → counts on (0 + k) && sameRow (rowOf T k) r ≡ eqb (rowIf on rows (0 + k)) (key r)
         go true e = rw e (row-agrees nu r a l k h)
@@ -129,8 +130,9 @@ module _ (on : ℕ → Bool) where
               let w = found-in T on (rowOf T s) s e .0 in
               let f = nu .few-signals in
               let m = nu .all-signals in
-              let h : s < 32 = omega (arith, w .0) in
-              rw (lt-ltb s 32 h) (tabulate-at (rowIf on rows) 32 s 0 h ∙ ap (λ b. cond b (getD rows s 0) noRow) (w .1) ∙ nu .packed s (rw m at (w .0)));
+              let h : s < mostSignals = omega (arith, w .0) in
+              rw (lt-ltb s mostSignals h) (tabulate-at (rowIf on rows) mostSignals s 0 h ∙ ap (λ b. cond b (getD rows s 0) noRow) (w .1)
+              ∙ nu .packed s (rw m at (w .0)));
           finds = λ r a l.
               finds-among (T .cats) r kept (key r) 0 (T .signals) (agrees r a l) (let f = nu .few-signals in let m = nu .all-signals in omega arith)
               ∙ ap (λ z. foundRow (findRow kept (key r) 0 z)) (nu .all-signals);

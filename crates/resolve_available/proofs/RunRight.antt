@@ -43,7 +43,8 @@ module _ (t : List ℕ) (d : Decoded) (h : Holds t (tableOf t) d) (on : ℕ → 
       record {
         at = next (x .at) u;
         count = x .count
-            + triesNumbers rows (d .parent) (d .signals) (coded T (x .at)) (u .cat) (number (nodes T) (u .cat) (deepest (nodes T) (u .cat) (u .path))) (sameParts (deepest (nodes T) (u .cat) (u .path)) (u .path));
+            + triesNumbers rows (d .parent) (d .signals) (coded T (x .at)) (u .cat)
+            (number (nodes T) (u .cat) (deepest (nodes T) (u .cat) (u .path))) (sameParts (deepest (nodes T) (u .cat) (u .path)) (u .path));
       }
 
   at-over : (us : List Urn) (x : Counted) → foldl counts x us .at ≡ foldl next (x .at) us
@@ -60,7 +61,8 @@ module _ (t : List ℕ) (d : Decoded) (h : Holds t (tableOf t) d) (on : ℕ → 
         record {
           moves = λ x u g w.
               ap (λ (s : code.State). Direct s (counts x u .count))
-              (step-by (d .rows) (d .parent) (d .inner) (d .signals) T (h .well-formed) (h .numbers) (h .inner) (findAvailable T on) (available-laws T on (h .well-formed)) rows (only-searched on (h .numbers)) (x .at)
+              (step-by (d .rows) (d .parent) (d .inner) (d .signals) T (h .well-formed) (h .numbers) (h .inner) (findAvailable T on)
+              (available-laws T on (h .well-formed)) rows (only-searched on (h .numbers)) (x .at)
               (available-valid T on (x .at) g) u (w .known));
           stays = λ x u g w. available-step T on (h .well-formed) (x .at) u g;
         }
@@ -75,5 +77,6 @@ module _ (t : List ℕ) (d : Decoded) (h : Holds t (tableOf t) d) (on : ℕ → 
     -- the whole value, from signal 0 with every category open
     pub run-right : (v : List ℕ) {x : Current} → x ≡ Direct startNow 0 → {e : Ended} → e ≡ endedFrom t (among rows d) m x v → End t v m (shown T (last v)) e
     run-right v f q =
-        value-ends t T (among rows d) reads m v (λ x. AvailableState T on (x .at)) counts (shown T) run-steps (begun (start (T .cats))) (available-start T on (h .well-formed)) refl
+        value-ends t T (among rows d) reads m v (λ x. AvailableState T on (x .at)) counts (shown T) run-steps (begun (start (T .cats)))
+        (available-start T on (h .well-formed)) refl
         (f ∙ ap (λ (s : code.State). Direct s 0) (sym (coded-start T (T .cats)))) q

@@ -4,6 +4,7 @@ use mathlib.Core.Bool.{Bool, cond}
 use mathlib.Core.List.{List}
 use lib.Dec.{eqb}
 use lib.ListN.{length}
+use Rattle.base_numbers.specs.Numbers.{unknownAvailable}
 use Rattle.value_reader.specs.Value.{urisOf}
 use Rattle.theory_resolution.specs.Direct.{usedOf}
 use Rattle.theory_resolution.specs.Available.{directAvailable}
@@ -26,4 +27,4 @@ availableSignal t set uris = directAvailable (tableOf t) (hasBit set) (usedOf (t
 -- refused as by the plain resolver (1 to 12), then for a bit that is no signal's (23); else the signal over the value's list
 unfoldable pub availableOf : List ℕ → ℕ → List ℕ → Resolution
 availableOf t set v =
-    unlessRefused t v (cond (known set (length (tableOf t .signals))) (answered t (urisOf v) (availableSignal t set (urisOf v))) (refused 23))
+    unlessRefused t v (cond (known set (length (tableOf t .signals))) (answered t (urisOf v) (availableSignal t set (urisOf v))) (refused unknownAvailable))

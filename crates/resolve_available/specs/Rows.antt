@@ -3,7 +3,8 @@ use Prim.Native.Nat.{ℕ}
 use mathlib.Core.Bool.{Bool, cond}
 use mathlib.Core.List.{List}
 use lib.ListN.{getD}
-use Rattle.theory_resolution.specs.Lists.{tabulate}
+use Rattle.base_numbers.specs.Numbers.{mostSignals}
+use Rattle.base_lists.specs.Lists.{tabulate}
 use Rattle.theory_resolution.specs.Available.{counts}
 use Rattle.table_decode.specs.declared.Decoded.{Decoded}
 
@@ -17,7 +18,7 @@ rowIf on rows s = cond (counts on s) (getD rows s 0) noRow
 
 -- the rows of the available signals, each where it was
 abbrev pub rowsAmong : (ℕ → Bool) → List ℕ → List ℕ
-rowsAmong on rows = tabulate (rowIf on rows) 32
+rowsAmong on rows = tabulate (rowIf on rows) mostSignals
 
 -- the decoded table with these rows
 abbrev pub among : List ℕ → Decoded → Decoded

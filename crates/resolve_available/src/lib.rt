@@ -1,4 +1,4 @@
-// Dark lamps and muted buzzers: the signal of an Alert-Info value among those that can be given just now.
+// The signal of an Alert-Info value, chosen among those signals of the table that are available.
 //
 // In: a table, a set of its signals and a value. Out: a refusal number, or the signal with the numbers of used and skipped
 // entries.
@@ -6,30 +6,32 @@
 //   rows.rt  the places of the available signals
 mod rows;
 
-use base_text::compare::at_most;
+use base_bytes::numbers::at_most;
+use base_numbers::MOST_SIGNALS;
+use base_numbers::UNKNOWN_AVAILABLE;
 use resolve_run::Resolution;
 use resolve_run::answer::direct;
-use resolve_run::answer::refused;
 use resolve_run::answer::value_first;
 use resolve_run::run::at_start;
 use table_decode::Decoded;
 ghost use Prim.Native.Nat.{min};
 ghost use mathlib.Core.Path.{_≡_};
+ghost use Rattle.base_numbers.specs.Numbers.{mostSignals};
 ghost use Rattle.table_decode.specs.Decoded.{Means};
 ghost use Rattle.resolve_available.specs.Available.{hasBit, known, availableOf};
 ghost use Rattle.resolve_available.specs.Rows.{rowsAmong, among as amongOf};
 
 // Each bit of the set is one of so many signals, of which there are at most 32.
-fn is_known(set: u32, signals: usize) -> bool
-    ensures { λ r. ⌜ r ≡ known set (min signals 32) ⌝ }
+pub fn is_known(set: u32, signals: usize) -> bool
+    ensures { λ r. ⌜ r ≡ known set (min signals mostSignals) ⌝ }
 {
-    let n = at_most(signals, 32);
+    let n = at_most(signals, MOST_SIGNALS);
     let bits = set as u64;
     bits >> n == 0
 }
 
 // The decoded table with the rows of the available signals.
-fn among(d: Decoded, set: u32) -> Decoded
+pub fn among(d: Decoded, set: u32) -> Decoded
     ensures { λ r. ⌜ r ≡ amongOf (rowsAmong (hasBit set) (d .rows)) d ⌝ }
 {
     let rows = rows::only(&d.rows, set);
@@ -46,7 +48,7 @@ fn by(t: &[u8], d: Decoded, set: u32, v: &[u8]) -> Resolution
         return value_first(v, d.refusal);
     }
     if !is_known(set, d.signals) {
-        return value_first(v, 23);
+        return value_first(v, UNKNOWN_AVAILABLE);
     }
     let e = direct(t, among(d, set), at_start(), v);
     e.answer
@@ -56,9 +58,5 @@ fn by(t: &[u8], d: Decoded, set: u32, v: &[u8]) -> Resolution
 pub fn resolve(t: &[u8], set: u32, v: &[u8]) -> Resolution
     ensures { λ r. ⌜ r ≡ availableOf (now (t .entry)) set (now (v .entry)) ⌝ }
 {
-    if 4096 < v.len() {
-        return refused(1);
-    }
-    let d = table_decode::decode(t);
-    by(t, d, set, v)
+    by(t, table_decode::decode(t), set, v)
 }

@@ -1,16 +1,18 @@
 // The places of the available signals. The search goes by places, so a signal whose row is none that can be looked for is not
 // found.
+use base_numbers::MOST_SIGNALS;
 ghost use mathlib.Core.Path.{_≡_};
 ghost use mathlib.Core.Bool.{cond};
 ghost use Prim.Native.Nat.{_<_};
-ghost use Rattle.theory_resolution.specs.Lists.{tabulate};
+ghost use Rattle.base_numbers.specs.Numbers.{mostSignals};
+ghost use Rattle.base_lists.specs.Lists.{tabulate};
 ghost use Rattle.theory_resolution.specs.Available.{counts};
 ghost use Rattle.resolve_available.specs.Available.{hasBit};
 ghost use Rattle.resolve_available.specs.Rows.{rowIf, noRow};
 
 // Signal s is available: it has a bit in the set, or it is signal 0.
 fn counts_in(set: u32, s: usize) -> bool
-    requires { ⌜ s < 32 ⌝ }
+    requires { ⌜ s < mostSignals ⌝ }
     ensures { λ r. ⌜ r ≡ counts (hasBit set) s ⌝ }
 {
     if s == 0 {
@@ -30,12 +32,12 @@ fn row_if(available: bool, row: u64) -> u64
 }
 
 // The rows of the available signals, each where it was.
-pub(crate) fn only(rows: &[u64; 32], set: u32) -> [u64; 32]
-    ensures { λ r. ⌜ r ≡ tabulate (rowIf (hasBit set) (now (rows .entry))) 32 ⌝ }
+pub(crate) fn only(rows: &[u64; MOST_SIGNALS], set: u32) -> [u64; MOST_SIGNALS]
+    ensures { λ r. ⌜ r ≡ tabulate (rowIf (hasBit set) (now (rows .entry))) mostSignals ⌝ }
 {
-    let mut kept = [0u64; 32];
+    let mut kept = [0u64; MOST_SIGNALS];
     let mut s: usize = 0;
-    while s < 32 {
+    while s < MOST_SIGNALS {
         let row = row_if(counts_in(set, s), rows[s]);
         kept[s] = row;
         s += 1;

@@ -7,6 +7,7 @@ use mathlib.Core.List.{List}
 use lib.Dec.{eqb, leb}
 use lib.ListN.{length}
 use borrow.Author.Tests.{eq-eqb, ne-eqb, le-leb, lt-leb}
+use Rattle.base_numbers.specs.Numbers.{mostValueBytes}
 use Rattle.value_reader.specs.Value.{refusalOf}
 use Rattle.value_reader.proofs.ValueLaws.{refusal-long}
 use Rattle.theory_resolution.specs.Table.{Urn}
@@ -32,31 +33,33 @@ module _ (t v : List ℕ) where
   abbrev answer : Early
   answer = answerFor (tableOf t) (takenAs t (urisIn v (readOf v))) (readOf v .ended) (numberOf t v)
 
-  pub early-refused : (b : Bool) → leb (length v) 4096 && eqb (tableRefusal t) 0 ≡ b → b ≡ false → refused (numberOf t v) ≡ earlyOf t v
+  pub early-refused : (b : Bool) → leb (length v) mostValueBytes && eqb (tableRefusal t) 0 ≡ b → b ≡ false → refused (numberOf t v) ≡ earlyOf t v
   unfolding earlyOf
   early-refused b e f = sym (ap (λ z. cond z answer (refused (numberOf t v))) (e ∙ f))
 
   -- over 4,096 bytes
-  pub early-long : 4096 < length v → refused 1 ≡ earlyOf t v
+  pub early-long : mostValueBytes < length v → refused 1 ≡ earlyOf t v
   early-long h =
       let one = refusal-long v h in
       let n : numberOf t v ≡ 1 = ap (λ k. cond (eqb k 0) (tableRefusal t) k) one in
-      ap refused (sym n) ∙ early-refused false (ap (λ b. b && eqb (tableRefusal t) 0) (lt-leb (length v) 4096 h)) refl
+      ap refused (sym n) ∙ early-refused false (ap (λ b. b && eqb (tableRefusal t) 0) (lt-leb (length v) mostValueBytes h)) refl
 
   pub early-table : {k : ℕ} → k ≡ tableRefusal t → (k ≡ 0 → ⊥) → refused (cond (eqb (refusalOf v) 0) k (refusalOf v)) ≡ earlyOf t v
   early-table {k} e n =
       ap (λ z. refused (cond (eqb (refusalOf v) 0) z (refusalOf v))) e
-      ∙ early-refused (leb (length v) 4096 && eqb (tableRefusal t) 0) refl (ap (λ b. leb (length v) 4096 && b) (ne-eqb (tableRefusal t) 0 (λ z. n (e ∙ z))) ∙ and-no (leb (length v) 4096))
+      ∙ early-refused (leb (length v) mostValueBytes && eqb (tableRefusal t) 0) refl
+      (ap (λ b. leb (length v) mostValueBytes && b) (ne-eqb (tableRefusal t) 0 (λ z. n (e ∙ z))) ∙ and-no (leb (length v) mostValueBytes))
     where
       and-no : (b : Bool) → b && false ≡ false
       and-no true = refl
       and-no false = refl
 
-  pub early-read : length v ≤ 4096 → tableRefusal t ≡ 0 → earlyOf t v ≡ answer
+  pub early-read : length v ≤ mostValueBytes → tableRefusal t ≡ 0 → earlyOf t v ≡ answer
   unfolding earlyOf
-  early-read h e = ap (λ z. cond z answer (refused (numberOf t v))) (ap₂ _&&_ (le-leb (length v) 4096 h) (eq-eqb (tableRefusal t) 0 e))
+  early-read h e = ap (λ z. cond z answer (refused (numberOf t v))) (ap₂ _&&_ (le-leb (length v) mostValueBytes h) (eq-eqb (tableRefusal t) 0 e))
 
-  module _ (d : Decoded) (m : Means t d) (short : length v ≤ 4096) (formed : d .refusal ≡ 0) {r : Reached} (is : r ≡ runFrom t d v (record { signal = 0; statuses = 0 }) 0 0) where
+  module _ (d : Decoded) (m : Means t d) (short : length v ≤ mostValueBytes) (formed : d .refusal ≡ 0) {r : Reached}
+      (is : r ≡ runFrom t d v (record { signal = 0; statuses = 0 }) 0 0) where
     table-formed : tableRefusal t ≡ 0
     table-formed = sym (m .refusal) ∙ formed
 

@@ -2,22 +2,23 @@
 use Prim.Native.Nat.{ℕ, _≤_, _<_, min}
 use mathlib.Core.Path.{_≡_, refl, sym, ap, ap₂, _∙_, subst}
 use mathlib.Core.Logic.{_⊎_, inl, inr}
-use mathlib.Core.Bool.{Bool, true, false, cond, _&&_, _||_, true≢false, and-eq-true-iff}
+use mathlib.Core.Bool.{Bool, true, false, cond, _&&_, _||_, true≢false, and-eq-true-iff, or-true}
 use mathlib.Core.Option.{Option}
-use mathlib.Core.List.{List, _++_}
+use mathlib.Core.List.{List, _++_, map-append}
 use lib.Dec.{eqb, leb}
 use lib.ListN.{length, take, drop, length-map, length-take, take-append-drop}
 use lib.Seq.{take-all, take-at, take-take, length-take-le}
 use native.Mathlib.Omega.{arith}
 use native.Mathlib.Decide.{decLt}
 use borrow.Author.Tests.{eqb-true, eqb-false, leb-true, leb-false, le-leb}
+use Rattle.base_numbers.specs.Numbers.{mostEntries, mostValueBytes}
+use Rattle.base_lists.proofs.Lists.{map-take}
 use Rattle.value_reader.specs.Value.{refusalOf, urisOf, partOf}
 use Rattle.value_reader.specs.Grammar.{White}
 use Rattle.value_reader.proofs.Agree.{refused-exactly, accepted-list}
 use Rattle.theory_resolution.specs.Table.{Urn, Table, WellFormed}
 use Rattle.theory_resolution.specs.Direct.{direct, usedOf}
 use Rattle.theory_resolution.specs.Settled.{Settled, isSettled, needed, afterFirst}
-use Rattle.theory_resolution.proofs.Lists.{or-true}
 use Rattle.theory_resolution.proofs.TableStep.{state-direct}
 use Rattle.theory_resolution.proofs.Settled.{settled-to, settled-of, needed-within, needed-enough, needed-fewest, needed-early, needed-is, needed-ahead}
 use Rattle.node_search.specs.Uses.{usedUrn}
@@ -28,7 +29,7 @@ use Rattle.resolve_early.specs.Early.{takenAs, numberOf, refused, reache
 use Rattle.resolve_early.specs.Claims.{stateAfter, ReadEnough, settled, ended, Needed, EarlyClaim}
 use Rattle.resolve_early.specs.declared.Early.{Early}
 use Rattle.resolve_early.proofs.FrontLaws.{front-claims}
-use Rattle.resolve_run.proofs.TakenLaws.{taken-used, map-take, map-append}
+use Rattle.resolve_run.proofs.TakenLaws.{taken-used}
 use Rattle.resolve_early.proofs.AnswerLaws.{early-refused, early-read}
 
 module _ (t v : List ℕ) where
@@ -45,8 +46,8 @@ module _ (t v : List ℕ) where
   abbrev l : List (Option Urn)
   l = takenAs t first
 
-  first-is : first ≡ take 64 uris
-  first-is = map-take (partOf v) 64 (frontFrom v 0 .parts)
+  first-is : first ≡ take mostEntries uris
+  first-is = map-take (partOf v) mostEntries (frontFrom v 0 .parts)
 
   uris-parts : length uris ≡ length (frontFrom v 0 .parts)
   uris-parts = length-map (frontFrom v 0 .parts) (partOf v)
@@ -54,8 +55,8 @@ module _ (t v : List ℕ) where
   taken-long : (us : List (List ℕ)) → length (takenAs t us) ≡ length us
   taken-long us = length-map us (usedUrn (categoryNames t))
 
-  first-long : length l ≡ min 64 (length uris)
-  first-long = taken-long first ∙ ap length first-is ∙ length-take 64 uris
+  first-long : length l ≡ min mostEntries (length uris)
+  first-long = taken-long first ∙ ap length first-is ∙ length-take mostEntries uris
 
   -- the answer over the entries read
   abbrev answer : Early
@@ -92,21 +93,24 @@ module _ (t v : List ℕ) where
 
       by : ReadEnough t v us → answer ≡ record { refusal = 0; signal = stateAfter t us .signal; entries = length us }
       by (settled b r e k s) =
-          let f : take (length us) first ≡ us = ap (take (length us)) first-is ∙ take-take (length us) 64 uris (q .few) ∙ front-claims v .begins b r us k e in
+          let f : take (length us) first ≡ us = ap (take (length us)) first-is ∙ take-take (length us) mostEntries uris (q .few)
+          ∙ front-claims v .begins b r us k e in
           let after = takenAs t (drop (length us) first) in
-          let split : l ≡ takenAs t us ++ after = ap (takenAs t) (sym (take-append-drop (length us) first) ∙ ap (λ z. z ++ drop (length us) first) f) ∙ map-append _ us (drop (length us) first) in
+          let split : l ≡ takenAs t us ++ after =
+          ap (takenAs t) (sym (take-append-drop (length us) first) ∙ ap (λ z. z ++ drop (length us) first) f) ∙ map-append _ us (drop (length us) first) in
           let n : needed T l ≡ length us = ap (needed T) split ∙ needed-ahead T (takenAs t us) after s ∙ all-needed wf us (q .fewest) in
           let r : reached T l ≡ stateAfter t us =
           ap₂ (λ x k. direct T (usedOf (take k x))) split n ∙ ap (λ x. direct T (usedOf x)) (take-at (takenAs t us) after (length us) (taken-long us)) in
           given us n r (ap (λ b. readOf v .ended || b) (ap (isSettled T) r ∙ settled-of T (stateAfter t us) s) ∙ or-true (readOf v .ended))
       by (ended k) =
           let w = front-claims v .whole us .0 k in
-          let short : length (frontFrom v 0 .parts) ≤ 64 = omega (arith, q .few, uris-parts, ap length (w .1)) in
-          let f : first ≡ us = first-is ∙ take-all 64 uris (omega (arith, uris-parts)) ∙ w .1 in
+          let short : length (frontFrom v 0 .parts) ≤ mostEntries = omega (arith, q .few, uris-parts, ap length (w .1)) in
+          let f : first ≡ us = first-is ∙ take-all mostEntries uris (omega (arith, uris-parts)) ∙ w .1 in
           let n : needed T l ≡ length us = ap (λ z. needed T (takenAs t z)) f ∙ all-needed wf us (q .fewest) in
           let r : reached T l ≡ stateAfter t us =
-          ap₂ (λ x k. direct T (usedOf (take k (takenAs t x)))) f n ∙ ap (λ x. direct T (usedOf x)) (take-all (length us) (takenAs t us) (omega (arith, taken-long us))) in
-          given us n r (ap (λ b. b || isSettled T (reached T l)) (ap₂ _&&_ (w .0) (le-leb (length (frontFrom v 0 .parts)) 64 short)))
+          ap₂ (λ x k. direct T (usedOf (take k (takenAs t x)))) f n
+          ∙ ap (λ x. direct T (usedOf x)) (take-all (length us) (takenAs t us) (omega (arith, taken-long us))) in
+          given us n r (ap (λ b. b || isSettled T (reached T l)) (ap₂ _&&_ (w .0) (le-leb (length (frontFrom v 0 .parts)) mostEntries short)))
 
   -- an accepted value is read up to its end
   accepted-ended : refusalOf v ≡ 0 → (readOf v .ended ≡ true) × (first ≡ urisOf v)
@@ -114,8 +118,8 @@ module _ (t v : List ℕ) where
       let g = refused-exactly v 0 .0 e in
       let w = front-claims v .whole (g .1) .0 (g .2) in
       let x = front-claims v .whole (urisOf v) .0 (accepted-list v e) in
-      let short : length (frontFrom v 0 .parts) ≤ 64 = omega (arith, g .3, uris-parts, ap length (w .1)) in
-      (ap₂ _&&_ (w .0) (le-leb (length (frontFrom v 0 .parts)) 64 short), first-is ∙ take-all 64 uris (omega (arith, uris-parts)) ∙ x .1)
+      let short : length (frontFrom v 0 .parts) ≤ mostEntries = omega (arith, g .3, uris-parts, ap length (w .1)) in
+      (ap₂ _&&_ (w .0) (le-leb (length (frontFrom v 0 .parts)) mostEntries short), first-is ∙ take-all mostEntries uris (omega (arith, uris-parts)) ∙ x .1)
 
   -- the number 0 is given only where neither the value nor the table is refused
   pub zero-number : numberOf t v ≡ 0 → (refusalOf v ≡ 0) × (tableRefusal t ≡ 0)
@@ -125,36 +129,45 @@ module _ (t v : List ℕ) where
       go true e q = (eqb-true (refusalOf v) 0 e, q)
       go false e q = absurd (eqb-false (refusalOf v) 0 e q)
 
-  accepted-short : refusalOf v ≡ 0 → length v ≤ 4096
+  accepted-short : refusalOf v ≡ 0 → length v ≤ mostValueBytes
   accepted-short e = refused-exactly v 0 .0 e .0
 
   -- how the question comes out
   pub data Out : Type 0 where
-    read : length v ≤ 4096 → tableRefusal t ≡ 0 → enough T l (readOf v .ended) ≡ true → Out
+    read : length v ≤ mostValueBytes → tableRefusal t ≡ 0 → enough T l (readOf v .ended) ≡ true → Out
     not-read : (earlyOf t v .refusal ≡ 0 → ⊥) → earlyOf t v ≡ refused (numberOf t v) → Out
 
   out : Out
-  out = go (leb (length v) 4096) refl (eqb (tableRefusal t) 0) refl
+  out = go (leb (length v) mostValueBytes) refl (eqb (tableRefusal t) 0) refl
     where
       never : (numberOf t v ≡ 0 → ⊥) → earlyOf t v ≡ refused (numberOf t v) → Out
       never n e = not-read (λ z. n (sym (ap (λ (x : Early). x .refusal) e) ∙ z)) e
 
-      inside : length v ≤ 4096 → tableRefusal t ≡ 0 → (b : Bool) → enough T l (readOf v .ended) ≡ b → Out
+      inside : length v ≤ mostValueBytes → tableRefusal t ≡ 0 → (b : Bool) → enough T l (readOf v .ended) ≡ b → Out
       inside s f true e = read s f e
       inside s f false e =
           never (λ z. true≢false (sym (ap (λ b. b || isSettled T (reached T l)) (accepted-ended (zero-number z .0) .0)) ∙ e))
           (early-read t v s f ∙ ap (λ b. cond b (record { refusal = 0; signal = reached T l .signal; entries = needed T l }) (refused (numberOf t v))) e)
 
-      go : (a : Bool) → leb (length v) 4096 ≡ a → (b : Bool) → eqb (tableRefusal t) 0 ≡ b → Out
-      go true e true f = inside (leb-true (length v) 4096 e) (eqb-true (tableRefusal t) 0 f) (enough T l (readOf v .ended)) refl
+      go : (a : Bool) → leb (length v) mostValueBytes ≡ a → (b : Bool) → eqb (tableRefusal t) 0 ≡ b → Out
+      go true e true f = inside (leb-true (length v) mostValueBytes e) (eqb-true (tableRefusal t) 0 f) (enough T l (readOf v .ended)) refl
       go true e false f = never (λ z. eqb-false (tableRefusal t) 0 f (zero-number z .1)) (sym (early-refused t v false (ap₂ _&&_ e f) refl))
       go false e b f =
-          never (λ z. let h = leb-false (length v) 4096 e in omega (arith, accepted-short (zero-number z .0)))
+          never (λ z. let h = leb-false (length v) mostValueBytes e in omega (arith, accepted-short (zero-number z .0)))
           (sym (early-refused t v false (ap (λ a. a && eqb (tableRefusal t) 0) e) refl))
 
   -- the entries that an answer needs are there
-  there : length v ≤ 4096 → tableRefusal t ≡ 0 → enough T l (readOf v .ended) ≡ true → (us : List (List ℕ)) × Needed t v us
-  there s f e = (take k first, record { short = s; formed = f; few = omega (arith, us-long, first-long, within); fewest = fewest; read = how (decLt k (length l)) })
+  there : length v ≤ mostValueBytes → tableRefusal t ≡ 0 → enough T l (readOf v .ended) ≡ true → (us : List (List ℕ)) × Needed t v us
+  there s f e = (
+    take k first,
+    record {
+      short = s;
+      formed = f;
+      few = omega (arith, us-long, first-long, within);
+      fewest = fewest;
+      read = how (decLt k (length l));
+    },
+  )
     where
       wf : WellFormed T
       wf = accepted t f .well
@@ -175,28 +188,34 @@ module _ (t v : List ℕ) where
       fewest j h q = needed-fewest T l j (omega (arith, us-long)) (subst (Settled T) (after-is j (omega (arith, us-long))) q)
 
       -- with a comma after each
-      front : Settled T (afterFirst T l k) → (k < length (frontFrom v 0 .parts)) ⊎ ((k ≡ length (frontFrom v 0 .parts)) × (frontFrom v 0 .ended ≡ false)) → ReadEnough t v (take k first)
+      front : Settled T (afterFirst T l k) → (k < length (frontFrom v 0 .parts))
+          ⊎ ((k ≡ length (frontFrom v 0 .parts)) × (frontFrom v 0 .ended ≡ false)) → ReadEnough t v (take k first)
       front q h =
           let w = front-claims v .stands k h in
-          let z : take k uris ≡ take k first = sym (ap (take k) first-is ∙ take-take k 64 uris (omega (arith, within, first-long))) in
+          let z : take k uris ≡ take k first = sym (ap (take k) first-is ∙ take-take k mostEntries uris (omega (arith, within, first-long))) in
           settled (w .0) (w .1) (w .3) (subst (Begins White (w .0)) z (w .2))
           (subst (Settled T) (sym (ap (stateAfter t) (sym (take-take k k first (omega arith))) ∙ after-is k (omega arith))) q)
 
       last : (b : Bool) → readOf v .ended ≡ b → k ≡ length l → b || isSettled T (reached T l) ≡ true → ReadEnough t v (take k first)
       last true i h q =
-          let p = and-eq-true-iff (frontFrom v 0 .ended) (leb (length (frontFrom v 0 .parts)) 64) .0 i in
-          let few : length (frontFrom v 0 .parts) ≤ 64 = leb-true (length (frontFrom v 0 .parts)) 64 (p .1) in
-          let z : uris ≡ take k first = sym (take-all k first (omega (arith, h, taken-long first)) ∙ first-is ∙ take-all 64 uris (omega (arith, uris-parts))) in
+          let p = and-eq-true-iff (frontFrom v 0 .ended) (leb (length (frontFrom v 0 .parts)) mostEntries) .0 i in
+          let few : length (frontFrom v 0 .parts) ≤ mostEntries = leb-true (length (frontFrom v 0 .parts)) mostEntries (p .1) in
+          let z : uris ≡ take k first = sym (take-all k first (omega (arith, h, taken-long first)) ∙ first-is
+          ∙ take-all mostEntries uris (omega (arith, uris-parts))) in
           ended (front-claims v .whole (take k first) .1 (p .0, z))
-      last false i h q = front (settled-to T (reached T l) (state-direct T wf (usedOf (take k l))) q) (by (decLt 64 (length (frontFrom v 0 .parts))))
+      last false i h q = front (settled-to T (reached T l) (state-direct T wf (usedOf (take k l))) q) (by (decLt mostEntries (length (frontFrom v 0 .parts))))
         where
-          not-ended : (a : Bool) → frontFrom v 0 .ended ≡ a → leb (length (frontFrom v 0 .parts)) 64 ≡ true → a ≡ false
+          not-ended : (a : Bool) → frontFrom v 0 .ended ≡ a → leb (length (frontFrom v 0 .parts)) mostEntries ≡ true → a ≡ false
           not-ended false x y = refl
           not-ended true x y = absurd (true≢false (sym (ap₂ _&&_ x y) ∙ i))
 
-          by : Dec (64 < length (frontFrom v 0 .parts)) → (k < length (frontFrom v 0 .parts)) ⊎ ((k ≡ length (frontFrom v 0 .parts)) × (frontFrom v 0 .ended ≡ false))
+          by : Dec (mostEntries < length (frontFrom v 0 .parts)) → (k < length (frontFrom v 0 .parts))
+              ⊎ ((k ≡ length (frontFrom v 0 .parts)) × (frontFrom v 0 .ended ≡ false))
           by (yes g) = inl (omega (arith, h, first-long, uris-parts))
-          by (no g) = inr (omega (arith, h, first-long, uris-parts), not-ended (frontFrom v 0 .ended) refl (le-leb (length (frontFrom v 0 .parts)) 64 (omega arith)))
+          by (no g) = inr (
+            omega (arith, h, first-long, uris-parts),
+            not-ended (frontFrom v 0 .ended) refl (le-leb (length (frontFrom v 0 .parts)) mostEntries (omega arith)),
+          )
 
       how : Dec (k < length l) → ReadEnough t v (take k first)
       how (yes h) = front (needed-enough T wf l h) (inl (omega (arith, first-long, uris-parts)))
@@ -207,7 +226,8 @@ module _ (t v : List ℕ) where
       let a = accepted-ended e in
       let r : earlyOf t v ≡ record { refusal = 0; signal = reached T l .signal; entries = needed T l } =
       early-read t v (accepted-short e) f
-      ∙ ap (λ b. cond (b || isSettled T (reached T l)) (record { refusal = 0; signal = reached T l .signal; entries = needed T l }) (refused (numberOf t v))) (a .0) in (
+      ∙ ap (λ b. cond (b || isSettled T (reached T l)) (record { refusal = 0; signal = reached T l .signal; entries = needed T l })
+      (refused (numberOf t v))) (a .0) in (
         ap (λ (x : Early). x .refusal) r,
         ap (λ (x : Early). x .signal) r
             ∙ needed-early T (accepted t f .well) l (taken-used t first) ∙ ap (λ z. stateAfter t z .signal) (a .1),
@@ -221,7 +241,13 @@ early-claim t v =
       otherwise = λ n. no-out (out t v) n;
       same-signal = same-signal t v;
       behind = λ us b r after e k s q h.
-          answered t (b ++ after) us (record { short = h; formed = q .formed; few = q .few; fewest = q .fewest; read = settled b after refl k s }) ∙ sym (answered t v us q);
+          answered t (b ++ after) us (record {
+            short = h;
+            formed = q .formed;
+            few = q .few;
+            fewest = q .fewest;
+            read = settled b after refl k s;
+          }) ∙ sym (answered t v us q);
     }
   where
     by-out : Out t v → earlyOf t v .refusal ≡ 0 → (us : List (List ℕ)) × Needed t v us
@@ -231,5 +257,6 @@ early-claim t v =
     no-out : Out t v → (earlyOf t v .refusal ≡ 0 → ⊥) → earlyOf t v ≡ refused (numberOf t v)
     no-out (read s f e) n =
         absurd (n (ap (λ (x : Early). x .refusal) (early-read t v s f
-        ∙ ap (λ b. cond b (record { refusal = 0; signal = reached (tableOf t) (l t v) .signal; entries = needed (tableOf t) (l t v) }) (refused (numberOf t v))) e)))
+        ∙ ap (λ b. cond b (record { refusal = 0; signal = reached (tableOf t) (l t v) .signal; entries = needed (tableOf t) (l t v) })
+        (refused (numberOf t v))) e)))
     no-out (not-read n e) z = e

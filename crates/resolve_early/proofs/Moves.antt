@@ -4,7 +4,8 @@ use mathlib.Core.Path.{_≡_, refl, sym, ap, ap₂, _∙_}
 use mathlib.Core.Logic.{_⊎_, inl, inr}
 use mathlib.Core.Bool.{Bool, true, false}
 use mathlib.Core.Option.{Option, none, some}
-use mathlib.Core.List.{List, [], _∷_, _++_, append-assoc, List·Memᴰ, List·Memᴰ·head, List·Memᴰ·tail, List·Memᴰ·not-nil, List·Memᴰ·cases-cons, List·Memᴰ·eq-of-singleton, Memᴰ·append-right}
+use mathlib.Core.List.{List, [], _∷_, _++_, append-assoc, List·Memᴰ, List·Memᴰ·head, List·Memᴰ·tail, List·Memᴰ·not-nil, List·Memᴰ·cases-cons}
+use mathlib.Core.List.{List·Memᴰ·eq-of-singleton, Memᴰ·append-right}
 use lib.ListN.{length, getD, set, length-append}
 use lib.Seq.{set-getD, getD-set-same}
 use native.Mathlib.Omega.{arith}
@@ -12,7 +13,8 @@ use Rattle.theory_resolution.specs.Names.{Name, Parts, sameParts, properAncesto
 use Rattle.theory_resolution.specs.Table.{Urn, urn, Table, Row, rowOf, find, WellFormed}
 use Rattle.theory_resolution.specs.Direct.{Status, Open, Held, Shut, State, Env, Hit, envOf, firstHit, takesUrn, move, step, StateOf, Used}
 use Rattle.theory_resolution.specs.Settled.{isSettled}
-use Rattle.theory_resolution.proofs.Names.{name-exact, parts-exact, longer-append, longer-first, in-longer, above-root, proper-to, proper-of, proper-above, proper-rest}
+use Rattle.theory_resolution.proofs.Names.{name-exact, parts-exact, longer-append, longer-first, in-longer, above-root, proper-to, proper-of}
+use Rattle.theory_resolution.proofs.Names.{proper-above, proper-rest}
 use Rattle.theory_resolution.proofs.Table.{find-sound, find-below, row-length}
 use Rattle.theory_resolution.proofs.Direct.{search-hit, Moved, step-view}
 use Rattle.theory_resolution.proofs.Step.{step-still, step-shut, step-takes}
@@ -55,7 +57,8 @@ search-some env row c (q ∷ ps) qs p s m f = go (env .finder (set row c q)) ref
         → (List·Memᴰ p ps → (h : Hit) × (firstHit env row c (ps ++ qs) ≡ some h) × List·Memᴰ (h .at) ps)
         → (h : Hit) × (firstHit env row c ((q ∷ ps) ++ qs) ≡ some h) × List·Memᴰ (h .at) (q ∷ ps)
     go (some k) e v ih = (record { at = q; signal = k }, rw e, List·Memᴰ·head refl)
-    go none e (inl v) ih = absurd (let z : none ≡ some s = sym e ∙ ap (λ x. env .finder (set row c x)) (sym v) ∙ f in let y : _≡_ {A = ℕ} 0 1 = cc in omega arith)
+    go none e (inl v) ih = absurd (let z : none ≡ some s = sym e ∙ ap (λ x. env .finder (set row c x)) (sym v) ∙ f in
+        let y : _≡_ {A = ℕ} 0 1 = cc in omega arith)
     go none e (inr v) ih = let k = ih v in (k .0, rw e (k .1), List·Memᴰ·tail (k .2))
 
 module _ (t : Table) (st : State) (g : StateOf t st) where
@@ -86,11 +89,13 @@ module _ (t : Table) (st : State) (g : StateOf t st) where
 
   -- what the two kinds of URNs that are asked about keep: the places of signals beside the current one, and what is no node under a held one
   pub record Quiet : Type 0 where
-    pub beside : (c : ℕ) → c < t .cats → (status c ≡ Shut → ⊥) → (p : Parts) (s : ℕ) → s < length (t .signals) → rowOf t s ≡ set row c p → step env st (urn c p) .signal ≡ st .signal
+    pub beside : (c : ℕ) → c < t .cats → (status c ≡ Shut → ⊥) → (p : Parts) (s : ℕ) → s < length (t .signals) → rowOf t s ≡ set row c p
+        → step env st (urn c p) .signal ≡ st .signal
     pub under : (c : ℕ) → c < t .cats → (w : Parts) → status c ≡ Held w → step env st (urn c (w ++ [] ∷ [])) .signal ≡ st .signal
 
   -- under a held node, a signal at a path down to that node is found by what is no node under it
-  held-finds : Quiet → (c : ℕ) → c < t .cats → (w p : Parts) (s : ℕ) → status c ≡ Held w → find t (set row c p) ≡ some s → properAncestor (here c) p ≡ true → Above p w → ⊥
+  held-finds : Quiet → (c : ℕ) → c < t .cats → (w p : Parts) (s : ℕ) → status c ≡ Held w → find t (set row c p) ≡ some s
+      → properAncestor (here c) p ≡ true → Above p w → ⊥
   held-finds q c h w p s e f a b =
       let v = proper-to (here c) p a in
       let rest : Parts = v .0 ∷ v .1 ++ (b .rest ++ [] ∷ []) in
@@ -101,10 +106,12 @@ module _ (t : Table) (st : State) (g : StateOf t st) where
       let k = search-some env row c (longer (here c) rest) (here c ∷ []) p s m f in
       let takes : takesUrn (status c) (here c) (w ++ [] ∷ []) ≡ true = ap (λ o. takesUrn o (here c) (w ++ [] ∷ [])) e ∙ proper-of w (w ++ [] ∷ []) [] [] refl in
       let same : k .0 .signal ≡ st .signal =
-      sym (ap (λ z. z .signal) (step-takes env st (urn c (w ++ [] ∷ [])) rest takes j) ∙ ap (λ z. move env st c (w ++ [] ∷ []) z .signal) (k .1)) ∙ q .under c h w e in
+      sym (ap (λ z. z .signal) (step-takes env st (urn c (w ++ [] ∷ [])) rest takes j) ∙ ap (λ z. move env st c (w ++ [] ∷ []) z .signal)
+      (k .1)) ∙ q .under c h w e in
       let got = search-hit env row c (candidates (here c) rest) (k .0) (k .1) .0 in
       let r : row ≡ set row c (k .0 .at) = ap (rowOf t) (sym same) ∙ find-sound t (set row c (k .0 .at)) (k .0 .signal) got in
-      let at-here : here c ≡ k .0 .at = ap (λ z. getD z c []) r ∙ getD-set-same row c (k .0 .at) [] (rw (row-length (getD (t .signals) (st .signal) []) 0 (t .cats)) h) in
+      let at-here : here c ≡ k .0 .at = ap (λ z. getD z c []) r
+      ∙ getD-set-same row c (k .0 .at) [] (rw (row-length (getD (t .signals) (st .signal) []) 0 (t .cats)) h) in
       let x = in-longer (here c) rest (k .0 .at) (k .2) in
       omega (arith, ap length at-here, ap length (x .is), length-append (here c) (x .head ∷ x .mid))
 
@@ -123,18 +130,24 @@ module _ (t : Table) (st : State) (g : StateOf t st) where
           cc
 
       -- found beyond it, where the path itself is taken
-      direct : (m : Moved env st u) → (status c ≡ Shut → ⊥) → takesUrn (status c) (here c) (m .hit .at) ≡ true → properAncestor (here c) (m .hit .at) ≡ true → m .hit .signal ≡ st .signal
+      direct : (m : Moved env st u) → (status c ≡ Shut → ⊥) → takesUrn (status c) (here c) (m .hit .at) ≡ true
+          → properAncestor (here c) (m .hit .at) ≡ true → m .hit .signal ≡ st .signal
       direct m n e a =
-          let low : m .hit .signal < length (t .signals) = omega (arith, find-below (t .cats) 0 (t .signals) (set row c (m .hit .at)) (m .hit .signal) (m .got)) in
+          let low : m .hit .signal < length (t .signals) = omega (
+            arith,
+            find-below (t .cats) 0 (t .signals) (set row c (m .hit .at)) (m .hit .signal) (m .got),
+          ) in
           sym (hit-first c (m .hit .at) (m .hit .signal) (m .got) e a)
           ∙ q .beside c (used .known) n (m .hit .at) (m .hit .signal) low (find-sound t (set row c (m .hit .at)) (m .hit .signal) (m .got))
 
-      moved : (o : Status) → status c ≡ o → (o ≡ Shut → ⊥) → takesUrn o (here c) (u .path) ≡ true → (m : Moved env st u) → (b : Bool) → sameParts (here c) (m .hit .at) ≡ b → m .hit .signal ≡ st .signal
+      moved : (o : Status) → status c ≡ o → (o ≡ Shut → ⊥) → takesUrn o (here c) (u .path) ≡ true → (m : Moved env st u) → (b : Bool)
+          → sameParts (here c) (m .hit .at) ≡ b → m .hit .signal ≡ st .signal
       moved o e n a m true i = stay m (sym (parts-exact .to (here c) (m .hit .at) i))
       moved Open e n a m false i =
           let k = proper-rest (here c) (m .hit .at) (m .up) i in
           direct m (λ z. n (sym e ∙ z)) (ap (λ o. takesUrn o (here c) (m .hit .at)) e ∙ k) k
-      moved (Held w) e n a m false i = split (comparable (m .hit .at) w (m .down .rest) (proper-above w (u .path) a .rest) (m .down .joined ∙ sym (proper-above w (u .path) a .joined)))
+      moved (Held w) e n a m false i =
+          split (comparable (m .hit .at) w (m .down .rest) (proper-above w (u .path) a .rest) (m .down .joined ∙ sym (proper-above w (u .path) a .joined)))
         where
           k : properAncestor (here c) (m .hit .at) ≡ true
           k = proper-rest (here c) (m .hit .at) (m .up) i
@@ -144,7 +157,8 @@ module _ (t : Table) (st : State) (g : StateOf t st) where
           split (inr b) = direct m (λ z. n (sym e ∙ z)) (ap (λ o. takesUrn o (here c) (m .hit .at)) e ∙ b) k
       moved Shut e n a m false i = absurd (n refl)
 
-      view : (o : Status) → status c ≡ o → (o ≡ Shut → ⊥) → takesUrn o (here c) (u .path) ≡ true → (step env st u ≡ st) ⊎ Moved env st u → step env st u .signal ≡ st .signal
+      view : (o : Status) → status c ≡ o → (o ≡ Shut → ⊥) → takesUrn o (here c) (u .path) ≡ true → (step env st u ≡ st) ⊎ Moved env st u
+          → step env st u .signal ≡ st .signal
       view o e n a (inl i) = ap (λ z. z .signal) i
       view o e n a (inr m) = ap (λ z. z .signal) (m .result) ∙ moved o e n a m (sameParts (here c) (m .hit .at)) refl
 

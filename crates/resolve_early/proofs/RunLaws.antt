@@ -1,33 +1,31 @@
 -- One turn of going through a value.
 use Prim.Native.Nat.{ℕ, zero, suc, _+_, _-_, _≤_, _<_}
 use mathlib.Core.Path.{_≡_, refl, sym, ap, ap₂, _∙_, subst}
-use mathlib.Core.Bool.{Bool, true, false, cond, _&&_, _||_}
+use mathlib.Core.Bool.{Bool, true, false, cond, _&&_, _||_, or-true, true≢false}
 use mathlib.Core.List.{List, [], _∷_}
 use lib.Dec.{leb}
 use lib.ListN.{length, take, drop}
 use native.Mathlib.Omega.{arith}
 use native.Mathlib.Decide.{decLt}
 use borrow.Author.Tests.{le-leb, lt-leb}
+use Rattle.base_numbers.specs.Numbers.{mostEntries}
 use Rattle.value_cursor.specs.Parts.{entryAt}
-use Rattle.value_cursor.specs.declared.cursor.Cursor.{Cursor}
 use Rattle.value_cursor.specs.declared.alert_param.Span.{Span}
 use Rattle.value_cursor.specs.declared.alert_param.Found.{Found}
 use Rattle.value_cursor.specs.declared.alert_param.Found.the-variants.{Last, More, None}
-use Rattle.value_cursor.proofs.Lands.{SpanIn, FoundLands, entry-lands}
 use Rattle.value_reader.specs.Value.{partOf}
-use Rattle.theory_resolution.proofs.Lists.{or-true}
 use Rattle.node_step.specs.StatusByte.{stepPacked}
 use Rattle.node_step.specs.declared.stored.Packed.{Packed}
 use Rattle.node_search.specs.declared.uses.Use.{Use}
 use Rattle.node_search.specs.declared.uses.Use.the-variants.{Skipped, Used}
 use Rattle.table_decode.specs.declared.Decoded.{Decoded}
 use Rattle.resolve_early.specs.FirstEntries.{Front, nothing, only, before, frontFrom, firstOf}
-use Rattle.resolve_early.specs.Run.{useIn, afterUse, afterUri, settledIn, spanIn, reachedAt, runOver, runFrom}
+use Rattle.resolve_early.specs.Run.{useIn, afterUse, afterUri, settledIn, reachedAt, runOver, runFrom}
 use Rattle.resolve_early.specs.declared.run.Reached.{Reached}
 use Rattle.resolve_early.proofs.FrontLaws.{front-last, front-more, front-none, ended-some}
-
-pub span-none : (f : Found) → f ≡ None → record { start = 0; len = 0 } ≡ spanIn f
-span-none f e = sym (ap spanIn e)
+use Rattle.resolve_run.specs.Run.{entryOf}
+use Rattle.resolve_run.proofs.RunLaws.{whole-part}
+use Rattle.resolve_run.specs.declared.entry.Entry.{Entry}
 
 module _ (rows ps : List ℕ) (inner : List Bool) (n : ℕ) (st : Packed) (u : Use) where
   pub after-skipped : u ≡ Skipped → st ≡ afterUse rows ps inner n st u
@@ -36,23 +34,12 @@ module _ (rows ps : List ℕ) (inner : List Bool) (n : ℕ) (st : Packed) (u : U
   pub after-used : {c k m : ℕ} {w : Bool} {r : Packed} → u ≡ Used c k w m → r ≡ stepPacked rows ps inner n st c k w → r ≡ afterUse rows ps inner n st u
   after-used e q = rw e q
 
--- the part of an entry's URI lies within the value
-pub span-inside : (v : List ℕ) (at : ℕ) (f : Found) → f ≡ entryAt v at → {p : Span} → p ≡ spanIn f → SpanIn v p
-span-inside v at f e q = go f (subst (FoundLands v at) (sym e) (entry-lands v at)) q
-  where
-    go : (f : Found) → FoundLands v at f → {p : Span} → p ≡ spanIn f → SpanIn v p
-    go (Last x) l q = subst (SpanIn v) (sym q) l
-    go (More x c) l q = subst (SpanIn v) (sym q) (l .0)
-    go None l q = subst (SpanIn v) (sym q) (omega arith)
-
--- the state after the URI in that part
-pub after-uri : (t : List ℕ) (d : Decoded) (v : List ℕ) (st : Packed) (f : Found) {p : Span} {u : Use} {r : Packed} → p ≡ spanIn f
+-- the state after the URI in a part of the value, by what it is to the table
+pub after-uri : (t : List ℕ) (d : Decoded) (v : List ℕ) (st : Packed) (p : Span) {u : Use} {r : Packed}
     → u ≡ useIn t d (take (p .start + p .len - p .start) (drop (p .start) v)) → r ≡ afterUse (d .rows) (d .parent) (d .inner) (d .signals) st u
-    → r ≡ afterUri t d st (partOf v (spanIn f))
+    → r ≡ afterUri t d st (partOf v p)
 unfolding afterUri
-after-uri t d v st f {p} q e r =
-    let n : p .start + p .len - p .start ≡ p .len = omega arith in
-    r ∙ ap (afterUse (d .rows) (d .parent) (d .inner) (d .signals) st) (e ∙ ap (useIn t d) (ap (λ k. take k (drop (p .start) v)) n ∙ ap (partOf v) q))
+after-uri t d v st p e r = r ∙ ap (afterUse (d .rows) (d .parent) (d .inner) (d .signals) st) (e ∙ ap (useIn t d) (whole-part v p))
 
 leb-suc : (a b : ℕ) → leb (suc a) (suc b) ≡ leb a b
 leb-suc a b = go (decLt b a)
@@ -65,7 +52,8 @@ leb-suc a b = go (decLt b a)
 pub run-start : (t : List ℕ) (d : Decoded) (v : List ℕ) (n at : ℕ) {a b : Packed} → b ≡ a → runFrom t d v a n at ≡ runFrom t d v b n at
 run-start t d v n at e = ap (λ s. runFrom t d v s n at) (sym e)
 
-module _ (t : List ℕ) (d : Decoded) (v : List ℕ) (st : Packed) (n at : ℕ) (all : Reached) (inv : all ≡ runFrom t d v st n at) (ends : Bool) (is : ends ≡ settledIn d st) where
+module _ (t : List ℕ) (d : Decoded) (v : List ℕ) (st : Packed) (n at : ℕ) (all : Reached) (inv : all ≡ runFrom t d v st n at) (ends : Bool)
+    (is : ends ≡ settledIn d st) where
   abbrev over : Packed → ℕ → Front → Reached
   over s k f = runOver t d v s k (f .parts) (f .ended)
 
@@ -76,7 +64,7 @@ module _ (t : List ℕ) (d : Decoded) (v : List ℕ) (st : Packed) (n at : ℕ) 
 
   pub run-settled : ends ≡ true → reachedAt true st n ≡ all
   unfolding runFrom
-  run-settled e = sym (inv ∙ at-once e (firstOf (64 - n) (frontFrom v at) .parts) (firstOf (64 - n) (frontFrom v at) .ended))
+  run-settled e = sym (inv ∙ at-once e (firstOf (mostEntries - n) (frontFrom v at) .parts) (firstOf (mostEntries - n) (frontFrom v at) .ended))
 
   module _ (open-still : ends ≡ false) where
     no-more : runOver t d v st n [] false ≡ reachedAt false st n
@@ -87,29 +75,32 @@ module _ (t : List ℕ) (d : Decoded) (v : List ℕ) (st : Packed) (n at : ℕ) 
     unfolding runOver
     one-more p l b = ap (λ z. cond z (reachedAt true st n) (runOver t d v (afterUri t d st (partOf v p)) (n + 1) l b)) (sym is ∙ open-still)
 
-    pub run-full : 64 ≤ n → reachedAt false st n ≡ all
+    pub run-full : mostEntries ≤ n → reachedAt false st n ≡ all
     unfolding runFrom
     run-full h =
-        let z : 64 - n ≡ 0 = omega arith in
-        sym (inv ∙ ap (λ m. over st n (firstOf m (frontFrom v at))) z ∙ ap (runOver t d v st n []) (none (frontFrom v at .ended) refl (frontFrom v at .parts) refl) ∙ no-more)
+        let z : mostEntries - n ≡ 0 = omega arith in
+        sym (inv ∙ ap (λ m. over st n (firstOf m (frontFrom v at))) z
+        ∙ ap (runOver t d v st n []) (none (frontFrom v at .ended) refl (frontFrom v at .parts) refl) ∙ no-more)
       where
         none : (b : Bool) → frontFrom v at .ended ≡ b → (l : List Span) → frontFrom v at .parts ≡ l → b && leb (length l) 0 ≡ false
         none false e l q = refl
         none true e [] q = absurd (ended-some v at e q)
         none true e (p ∷ l) q = lt-leb (length (p ∷ l)) 0 (omega arith)
 
-    module _ (room : n < 64) where
+    module _ (room : n < mostEntries) where
       -- one entry less may be read
-      first-more : (p : Span) (f : Front) → firstOf (64 - n) (before p f) ≡ before p (firstOf (64 - (n + 1)) f)
+      first-more : (p : Span) (f : Front) → firstOf (mostEntries - n) (before p f) ≡ before p (firstOf (mostEntries - (n + 1)) f)
       first-more p f =
-          let z : 64 - n ≡ suc (64 - (n + 1)) = omega arith in
+          let z : mostEntries - n ≡ suc (mostEntries - (n + 1)) = omega arith in
           ap (λ m. firstOf m (before p f)) z
-          ∙ ap (λ b. record { parts = p ∷ take (64 - (n + 1)) (f .parts); ended = f .ended && b }) (leb-suc (length (f .parts)) (64 - (n + 1)))
+          ∙ ap (λ b. record { parts = p ∷ take (mostEntries - (n + 1)) (f .parts); ended = f .ended && b })
+          (leb-suc (length (f .parts)) (mostEntries - (n + 1)))
 
-      first-only : (p : Span) → firstOf (64 - n) (only p) ≡ only p
+      first-only : (p : Span) → firstOf (mostEntries - n) (only p) ≡ only p
       first-only p =
-          let z : 64 - n ≡ suc (64 - (n + 1)) = omega arith in
-          ap (λ m. firstOf m (only p)) z ∙ ap₂ (λ l b. record { parts = p ∷ l; ended = b }) (nil (64 - (n + 1))) (le-leb 1 (suc (64 - (n + 1))) (omega arith))
+          let z : mostEntries - n ≡ suc (mostEntries - (n + 1)) = omega arith in
+          ap (λ m. firstOf m (only p)) z ∙ ap₂ (λ l b. record { parts = p ∷ l; ended = b }) (nil (mostEntries - (n + 1)))
+          (le-leb 1 (suc (mostEntries - (n + 1))) (omega arith))
         where
           nil : (m : ℕ) → take {A = Span} m [] ≡ []
           nil zero = refl
@@ -119,21 +110,48 @@ module _ (t : List ℕ) (d : Decoded) (v : List ℕ) (st : Packed) (n at : ℕ) 
       first-nothing zero = refl
       first-nothing (suc m) = refl
 
-      module _ (f : Found) (here : f ≡ entryAt v at) where
-        pub run-more : (p : Span) (c : Cursor) {next : Packed} → f ≡ More p c → next ≡ afterUri t d st (partOf v (spanIn f)) → all ≡ runFrom t d v next (n + 1) (c .at)
+      module _ {e : Entry} (stands : e ≡ entryOf (entryAt v at)) where
+        pub run-more : {next : Packed} → e .fits ≡ true → e .last ≡ false → next ≡ afterUri t d st (partOf v (e .span))
+            → all ≡ runFrom t d v next (n + 1) (e .next)
         unfolding runFrom
-        run-more p c {next} e q =
-            inv ∙ ap (λ x. over st n (firstOf (64 - n) x)) (front-more v at f here p c e .0) ∙ ap (over st n) (first-more p (frontFrom v (c .at)))
-            ∙ one-more p (firstOf (64 - (n + 1)) (frontFrom v (c .at)) .parts) (firstOf (64 - (n + 1)) (frontFrom v (c .at)) .ended)
-            ∙ ap (λ s. over s (n + 1) (firstOf (64 - (n + 1)) (frontFrom v (c .at)))) (sym (q ∙ ap (λ x. afterUri t d st (partOf v (spanIn x))) e))
+        run-more {next} =
+            subst (λ (e : Entry). e .fits ≡ true → e .last ≡ false → next ≡ afterUri t d st (partOf v (e .span))
+            → all ≡ runFrom t d v next (n + 1) (e .next)) (sym stands)
+            (go (entryAt v at) refl)
+          where
+            go : (f : Found) → f ≡ entryAt v at → entryOf f .fits ≡ true → entryOf f .last ≡ false → next ≡ afterUri t d st (partOf v (entryOf f .span))
+                → all ≡ runFrom t d v next (n + 1) (entryOf f .next)
+            go (More p c) here a b q =
+                inv ∙ ap (λ x. over st n (firstOf (mostEntries - n) x)) (front-more v at (More p c) here p c refl .0)
+                ∙ ap (over st n) (first-more p (frontFrom v (c .at)))
+                ∙ one-more p (firstOf (mostEntries - (n + 1)) (frontFrom v (c .at)) .parts) (firstOf (mostEntries - (n + 1)) (frontFrom v (c .at)) .ended)
+                ∙ ap (λ s. over s (n + 1) (firstOf (mostEntries - (n + 1)) (frontFrom v (c .at)))) (sym q)
+            go (Last p) here a b q = absurd (true≢false b)
+            go None here a b q = absurd (true≢false (sym a))
 
-        pub run-last : (p : Span) {next : Packed} → f ≡ Last p → next ≡ afterUri t d st (partOf v (spanIn f)) → reachedAt true next (n + 1) ≡ all
+        pub run-last : {next : Packed} → e .fits ≡ true → e .last ≡ true → next ≡ afterUri t d st (partOf v (e .span)) → reachedAt true next (n + 1) ≡ all
         unfolding runFrom runOver
-        run-last p {next} e q =
-            sym (inv ∙ ap (λ x. over st n (firstOf (64 - n) x)) (front-last v at f here p e) ∙ ap (over st n) (first-only p) ∙ one-more p [] true
-            ∙ ap (λ s. reachedAt true s (n + 1)) (sym (q ∙ ap (λ x. afterUri t d st (partOf v (spanIn x))) e)))
+        run-last {next} =
+            subst (λ (e : Entry). e .fits ≡ true → e .last ≡ true → next ≡ afterUri t d st (partOf v (e .span))
+            → reachedAt true next (n + 1) ≡ all) (sym stands)
+            (go (entryAt v at) refl)
+          where
+            go : (f : Found) → f ≡ entryAt v at → entryOf f .fits ≡ true → entryOf f .last ≡ true
+                → next ≡ afterUri t d st (partOf v (entryOf f .span)) → reachedAt true next (n + 1) ≡ all
+            go (More p c) here a b q = absurd (true≢false (sym b))
+            go (Last p) here a b q =
+                sym (inv ∙ ap (λ x. over st n (firstOf (mostEntries - n) x)) (front-last v at (Last p) here p refl)
+                ∙ ap (over st n) (first-only p) ∙ one-more p [] true
+                ∙ ap (λ s. reachedAt true s (n + 1)) (sym q))
+            go None here a b q = absurd (true≢false (sym a))
 
-        pub run-none : f ≡ None → reachedAt false st n ≡ all
+        pub run-none : e .fits ≡ false → reachedAt false st n ≡ all
         unfolding runFrom
-        run-none e =
-            sym (inv ∙ ap (λ x. over st n (firstOf (64 - n) x)) (front-none v at f here e) ∙ ap (over st n) (first-nothing (64 - n)) ∙ no-more)
+        run-none = subst (λ (e : Entry). e .fits ≡ false → reachedAt false st n ≡ all) (sym stands) (go (entryAt v at) refl)
+          where
+            go : (f : Found) → f ≡ entryAt v at → entryOf f .fits ≡ false → reachedAt false st n ≡ all
+            go (More p c) here a = absurd (true≢false a)
+            go (Last p) here a = absurd (true≢false a)
+            go None here a =
+                sym (inv ∙ ap (λ x. over st n (firstOf (mostEntries - n) x)) (front-none v at None here refl)
+                ∙ ap (over st n) (first-nothing (mostEntries - n)) ∙ no-more)

@@ -1,7 +1,7 @@
 -- Going through a value on node numbers comes to what the theory says of its entries.
 use Prim.Native.Nat.{ℕ, suc, _+_}
 use mathlib.Core.Path.{_≡_, refl, sym, ap, ap₂, _∙_}
-use mathlib.Core.Bool.{Bool, true, false, cond, _||_}
+use mathlib.Core.Bool.{Bool, true, false, cond, _||_, or-true}
 use mathlib.Core.Option.{Option, none, some}
 use mathlib.Core.List.{List, [], _∷_, map, foldl}
 use lib.ListN.{take}
@@ -14,7 +14,6 @@ use Rattle.theory_resolution.specs.Table.{Urn, Table}
 use Rattle.theory_resolution.specs.Nodes.{nodes, number, deepest}
 use Rattle.theory_resolution.specs.Direct.{State, start, step, envOf, stepUri, StateOf}
 use Rattle.theory_resolution.specs.Settled.{isSettled, neededFrom, needed}
-use Rattle.theory_resolution.proofs.Lists.{or-true}
 use Rattle.theory_resolution.proofs.TableStep.{state-valid, state-start, state-step}
 use Rattle.theory_resolution.proofs.Claim.{run-used}
 use Rattle.node_step.specs.Step.{coded, stepNumbers}
@@ -61,7 +60,8 @@ module _ (T : Table) where
       go : (b : Bool) → isSettled T s ≡ b
           → over (next s u) (n + 1) l ended ≡ reachedAt (ended || isSettled T (come (next s u) l)) (come (next s u) l) (n + 1 + k)
           → cond b (reachedAt true s n) (over (next s u) (n + 1) l ended)
-          ≡ reachedAt (ended || isSettled T (foldl next s (take (cond b 0 (suc k)) (u ∷ l)))) (foldl next s (take (cond b 0 (suc k)) (u ∷ l))) (n + cond b 0 (suc k))
+          ≡ reachedAt (ended || isSettled T (foldl next s (take (cond b 0 (suc k)) (u ∷ l))))
+          (foldl next s (take (cond b 0 (suc k)) (u ∷ l))) (n + cond b 0 (suc k))
       go true e ih =
           let z : n ≡ n + 0 = omega arith in
           ap₂ (λ b m. reachedAt b s m) (sym (ap (λ b. ended || b) e ∙ or-true ended)) z
@@ -81,17 +81,20 @@ module _ (t : List ℕ) (d : Decoded) (h : Holds t (tableOf t) d) where
   unfolding afterUri stepPacked
   uri-right s g uri =
       ap (afterUse (d .rows) (d .parent) (d .inner) (d .signals) (shown s))
-      (uses-right t T (d .«name_at») (d .«name_len») (d .categories) (categoryNames t) (d .category) (d .at) (d .len) (d .nodes) (h .names) (h .nodes) (d .shared) (h .shared) (d .inner) (h .inner) uri)
+      (uses-right t T (d .«name_at») (d .«name_len») (d .categories) (categoryNames t) (d .category) (d .at) (d .len) (d .nodes) (h .names)
+      (h .nodes) (d .shared) (h .shared) (d .inner) (h .inner) uri)
       ∙ go (usedUrn (categoryNames t) uri) refl
     where
-      go : (o : Option Urn) → usedUrn (categoryNames t) uri ≡ o → afterUse (d .rows) (d .parent) (d .inner) (d .signals) (shown s) (useOf T o) ≡ shown (next T s o)
+      go : (o : Option Urn) → usedUrn (categoryNames t) uri ≡ o → afterUse (d .rows) (d .parent) (d .inner) (d .signals) (shown s)
+          (useOf T o) ≡ shown (next T s o)
       go none e = refl
       go (some u) e =
           let c = u .cat in
           let p = deepest (nodes T) (u .cat) (u .path) in
           ap (λ (z : code.State). packedOf (stepNumbers (d .rows) (d .parent) (d .inner) (d .signals) z c (number (nodes T) c p) (sameParts p (u .path))))
           (of-packed T (h .numbers .few-cats) (h .numbers .few-nodes) s g)
-          ∙ ap packedOf (step-direct (d .rows) (d .parent) (d .inner) (d .signals) T (h .well-formed) (h .numbers) (h .inner) s (state-valid T s g) u (used-of t uri u e .known))
+          ∙ ap packedOf (step-direct (d .rows) (d .parent) (d .inner) (d .signals) T (h .well-formed) (h .numbers) (h .inner) s
+          (state-valid T s g) u (used-of t uri u e .known))
 
   uri-state : (s : State) → StateOf T s → (o : Option Urn) → StateOf T (next T s o)
   uri-state s g none = g

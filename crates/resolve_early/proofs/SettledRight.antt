@@ -10,7 +10,11 @@ use lib.Seq.{getD-set-same}
 use native.Mathlib.Omega.{arith}
 use native.Mathlib.Nat.{zero-add}
 use borrow.Author.Tests.{eqb-true, eq-eqb, ne-eqb, le-leb, lt-leb}
-use Rattle.theory_resolution.specs.Lists.{allBelow}
+use Rattle.base_numbers.specs.Numbers.{mostSignals}
+use Rattle.base_lists.proofs.Numbers.{min-le}
+use Rattle.base_lists.proofs.Below.{all-to, all-of}
+use Rattle.base_lists.proofs.Bools.{same-test}
+use Rattle.base_lists.specs.Lists.{allBelow}
 use Rattle.theory_resolution.specs.Names.{Parts, properAncestor}
 use Rattle.theory_resolution.specs.Table.{urn, Table, Row, rowOf, WellFormed}
 use Rattle.theory_resolution.specs.Nodes.{nodes, number, isNode, RootOrNode, isInner}
@@ -18,7 +22,6 @@ use Rattle.theory_resolution.specs.Direct.{State, envOf, step, statusFits, Stat
 use Rattle.theory_resolution.specs.Direct as direct
 use Rattle.theory_resolution.specs.Symbols.{stepsAsPath}
 use Rattle.theory_resolution.specs.Settled.{isSettled}
-use Rattle.theory_resolution.proofs.Lists.{same-test, all-to, all-of}
 use Rattle.theory_resolution.proofs.Table.{row-length}
 use Rattle.theory_resolution.proofs.Nodes.{row-nodes}
 use Rattle.theory_resolution.proofs.Numbers.{number-node}
@@ -38,9 +41,9 @@ use Rattle.node_step.proofs.StepLaws.{row-in}
 use Rattle.node_step.proofs.Both.{step-symbol, coded-at, of-packed}
 use Rattle.resolve_early.specs.SettledBy.{keepsAt, beside, besideKeeps, signalKeeps, heldKeeps, categoryKeeps, settledBy}
 use Rattle.resolve_early.proofs.Moves.{Quiet, quiet-settled, settled-keeps}
-use Rattle.base_text.proofs.Lesser.{min-le}
 
-module _ (rows ps : List ℕ) (inner : List Bool) (n : ℕ) (t : Table) (wf : WellFormed t) (nu : Numbers rows ps n t) (ii : InnerIn inner t) (st : State) (g : StateOf t st) where
+module _ (rows ps : List ℕ) (inner : List Bool) (n : ℕ) (t : Table) (wf : WellFormed t) (nu : Numbers rows ps n t) (ii : InnerIn inner t)
+    (st : State) (g : StateOf t st) where
   -- the state as the code has it
   abbrev now : Packed
   now = packedOf (coded t st)
@@ -96,7 +99,8 @@ module _ (rows ps : List ℕ) (inner : List Bool) (n : ℕ) (t : Table) (wf : We
       ∙ numbers-at (nodes t) 0 (rowOf t s) c (wide s c h) ∙ ap (λ z. no z (getD (rowOf t s) c [])) (zero-add c)
 
   -- a signal that differs in category c only is seen to be beside
-  is-beside : (s c : ℕ) (p : Parts) → s < length (t .signals) → c < t .cats → rowOf t s ≡ set row c p → beside (rowAt rows (st .signal)) (getD rows s 0) c ≡ true
+  is-beside : (s c : ℕ) (p : Parts) → s < length (t .signals) → c < t .cats → rowOf t s ≡ set row c p
+      → beside (rowAt rows (st .signal)) (getD rows s 0) c ≡ true
   unfolding beside
   is-beside s c p l h e =
       let nums = numbersFrom (nodes t) 0 row in
@@ -104,7 +108,8 @@ module _ (rows ps : List ℕ) (inner : List Bool) (n : ℕ) (t : Table) (wf : We
       eq-eqb (put (rowAt rows (st .signal)) c (digit (getD rows s 0) c)) (getD rows s 0)
       (ap₂ (λ x y. put x c y) row-now at
       ∙ pack-set nums c (no c p) (numbers-bytes (nodes t) (nu .few-nodes) 0 row) (omega (arith, numbers-length (nodes t) 0 row, wide (st .signal) c h))
-      ∙ ap pack (ap (λ z. set nums c (no z p)) (sym (zero-add c)) ∙ sym (numbers-set (nodes t) 0 row c p) ∙ ap (numbersFrom (nodes t) 0) (sym e)) ∙ sym (row-is s l))
+      ∙ ap pack (ap (λ z. set nums c (no z p)) (sym (zero-add c)) ∙ sym (numbers-set (nodes t) 0 row c p)
+      ∙ ap (numbersFrom (nodes t) 0) (sym e)) ∙ sym (row-is s l))
 
   -- the status byte
   byte-is : (c : ℕ) → c < t .cats → digit (now .statuses) c ≡ byteOf (codedStatus (nodes t) c (status c))
@@ -136,10 +141,10 @@ module _ (rows ps : List ℕ) (inner : List Bool) (n : ℕ) (t : Table) (wf : We
 
   -- what the tests ask of a category
   abbrev rest : ℕ → Bool
-  rest c = heldKeeps rows ps inner n now c (digit (now .statuses) c) && allBelow (min n 32) (signalKeeps rows ps inner n now c)
+  rest c = heldKeeps rows ps inner n now c (digit (now .statuses) c) && allBelow (min n mostSignals) (signalKeeps rows ps inner n now c)
 
-  few-signals : min n 32 ≡ length (t .signals)
-  few-signals = sym (min-le n 32 (nu .few-signals)) ∙ sym (nu .all-signals)
+  few-signals : min n mostSignals ≡ length (t .signals)
+  few-signals = sym (min-le n mostSignals (nu .few-signals)) ∙ sym (nu .all-signals)
 
   rest-to : (c : ℕ) → c < t .cats → (status c ≡ direct.Shut → ⊥) → categoryKeeps rows ps inner n now c ≡ true → rest c ≡ true
   unfolding categoryKeeps
@@ -157,10 +162,12 @@ module _ (rows ps : List ℕ) (inner : List Bool) (n : ℕ) (t : Table) (wf : We
     unfolding signalKeeps besideKeeps heldKeeps
     tests-quiet e = record { beside = by-signal; under = by-held }
       where
-        by-signal : (c : ℕ) → c < t .cats → (status c ≡ direct.Shut → ⊥) → (p : Parts) (s : ℕ) → s < length (t .signals) → rowOf t s ≡ set row c p → step (envOf t) st (urn c p) .signal ≡ st .signal
+        by-signal : (c : ℕ) → c < t .cats → (status c ≡ direct.Shut → ⊥) → (p : Parts) (s : ℕ) → s < length (t .signals)
+            → rowOf t s ≡ set row c p → step (envOf t) st (urn c p) .signal ≡ st .signal
         by-signal c h open-still p s l r =
-            let a = and-eq-true-iff (heldKeeps rows ps inner n now c (digit (now .statuses) c)) (allBelow (min n 32) (signalKeeps rows ps inner n now c)) .0 (rest-to c h open-still (category-to e c h)) .1 in
-            let b = all-to (min n 32) (signalKeeps rows ps inner n now c) a s (omega (arith, few-signals)) in
+            let a = and-eq-true-iff (heldKeeps rows ps inner n now c (digit (now .statuses) c))
+            (allBelow (min n mostSignals) (signalKeeps rows ps inner n now c)) .0 (rest-to c h open-still (category-to e c h)) .1 in
+            let b = all-to (min n mostSignals) (signalKeeps rows ps inner n now c) a s (omega (arith, few-signals)) in
             let place : getD (rowOf t s) c [] ≡ p = ap (λ z. getD z c []) r ∙ getD-set-same row c p [] (wide (st .signal) c h) in
             let keeps = sym (ap (λ z. cond z (keepsAt rows ps inner n now c (digit (getD rows s 0) c) true) true) (is-beside s c p l h r)) ∙ b in
             ap (λ z. step (envOf t) st (urn c z) .signal) (sym place)
@@ -170,9 +177,11 @@ module _ (rows ps : List ℕ) (inner : List Bool) (n : ℕ) (t : Table) (wf : We
         by-held c h w i =
             let b = held-byte c h w i in
             let not-shut : status c ≡ direct.Shut → ⊥ = λ z. let y = shut-byte c h z in omega (arith, b) in
-            let a = and-eq-true-iff (heldKeeps rows ps inner n now c (digit (now .statuses) c)) (allBelow (min n 32) (signalKeeps rows ps inner n now c)) .0 (rest-to c h not-shut (category-to e c h)) .0 in
+            let a = and-eq-true-iff (heldKeeps rows ps inner n now c (digit (now .statuses) c))
+            (allBelow (min n mostSignals) (signalKeeps rows ps inner n now c)) .0 (rest-to c h not-shut (category-to e c h)) .0 in
             let at : digit (now .statuses) c - 1 ≡ no c w = omega (arith, b) in
-            let keeps = sym (ap (λ z. cond z true (keepsAt rows ps inner n now c (digit (now .statuses) c - 1) false)) (lt-leb (digit (now .statuses) c) 1 (omega (arith, b)))) ∙ a in
+            let keeps = sym (ap (λ z. cond z true (keepsAt rows ps inner n now c (digit (now .statuses) c - 1) false))
+            (lt-leb (digit (now .statuses) c) 1 (omega (arith, b)))) ∙ a in
             keeps-to c h w (inr (held-node c h w i)) true at keeps
 
     -- where the state is settled, all of them keep the signal
@@ -180,22 +189,26 @@ module _ (rows ps : List ℕ) (inner : List Bool) (n : ℕ) (t : Table) (wf : We
     unfolding settledBy categoryKeeps signalKeeps besideKeeps heldKeeps
     settled-tests e = all-of (min k 8) (categoryKeeps rows ps inner n now) (λ c h. by c (omega (arith, few-cats)) (status c) refl)
       where
-        places : (c : ℕ) → c < t .cats → allBelow (min n 32) (signalKeeps rows ps inner n now c) ≡ true
-        places c h = all-of (min n 32) (signalKeeps rows ps inner n now c) (λ s l. each s (omega (arith, few-signals)) (beside (rowAt rows (st .signal)) (getD rows s 0) c))
+        places : (c : ℕ) → c < t .cats → allBelow (min n mostSignals) (signalKeeps rows ps inner n now c) ≡ true
+        places c h = all-of (min n mostSignals) (signalKeeps rows ps inner n now c)
+            (λ s l. each s (omega (arith, few-signals)) (beside (rowAt rows (st .signal)) (getD rows s 0) c))
           where
             each : (s : ℕ) → s < length (t .signals) → (b : Bool) → cond b (keepsAt rows ps inner n now c (digit (getD rows s 0) c) true) true ≡ true
             each s l false = refl
             each s l true =
                 keeps-of c h (getD (rowOf t s) c []) (row-nodes t s l c) false (digit-is s c l h) (settled-keeps t st g wf e c h (getD (rowOf t s) c []))
 
-        held : (c : ℕ) → c < t .cats → (o : direct.Status) → status c ≡ o → cond (leb (digit (now .statuses) c) 1) true (keepsAt rows ps inner n now c (digit (now .statuses) c - 1) false) ≡ true
-        held c h direct.Open i = ap (λ z. cond z true (keepsAt rows ps inner n now c (digit (now .statuses) c - 1) false)) (le-leb (digit (now .statuses) c) 1 (omega (arith, open-byte c h i)))
+        held : (c : ℕ) → c < t .cats → (o : direct.Status) → status c ≡ o
+            → cond (leb (digit (now .statuses) c) 1) true (keepsAt rows ps inner n now c (digit (now .statuses) c - 1) false) ≡ true
+        held c h direct.Open i = ap (λ z. cond z true (keepsAt rows ps inner n now c (digit (now .statuses) c - 1) false))
+            (le-leb (digit (now .statuses) c) 1 (omega (arith, open-byte c h i)))
         held c h (direct.Held w) i =
             let b = held-byte c h w i in
             let at : digit (now .statuses) c - 1 ≡ no c w = omega (arith, b) in
             ap (λ z. cond z true (keepsAt rows ps inner n now c (digit (now .statuses) c - 1) false)) (lt-leb (digit (now .statuses) c) 1 (omega (arith, b)))
             ∙ keeps-of c h w (inr (held-node c h w i)) true at (settled-keeps t st g wf e c h (w ++ [] ∷ []))
-        held c h direct.Shut i = ap (λ z. cond z true (keepsAt rows ps inner n now c (digit (now .statuses) c - 1) false)) (le-leb (digit (now .statuses) c) 1 (omega (arith, shut-byte c h i)))
+        held c h direct.Shut i = ap (λ z. cond z true (keepsAt rows ps inner n now c (digit (now .statuses) c - 1) false))
+            (le-leb (digit (now .statuses) c) 1 (omega (arith, shut-byte c h i)))
 
         pick : (b x : Bool) → x ≡ true → cond b true x ≡ true
         pick true x i = refl

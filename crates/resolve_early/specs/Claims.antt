@@ -3,6 +3,7 @@ use Prim.Native.Nat.{ℕ, _≤_, _<_}
 use mathlib.Core.Path.{_≡_}
 use mathlib.Core.List.{List, _++_}
 use lib.ListN.{length, take}
+use Rattle.base_numbers.specs.Numbers.{mostEntries, mostValueBytes}
 use Rattle.value_reader.specs.Value.{refusalOf, urisOf}
 use Rattle.value_reader.specs.Grammar.{White, Value}
 use Rattle.theory_resolution.specs.Direct.{State, direct, usedOf}
@@ -23,9 +24,9 @@ pub data ReadEnough (t v : List ℕ) (us : List (List ℕ)) : Type 0 where
 
 -- they are the entries that the question needs
 pub record Needed (t v : List ℕ) (us : List (List ℕ)) : Type 0 where
-  pub short : length v ≤ 4096
+  pub short : length v ≤ mostValueBytes
   pub formed : tableRefusal t ≡ 0
-  pub few : length us ≤ 64
+  pub few : length us ≤ mostEntries
   -- after fewer of them some symbols lead to another signal
   pub fewest : (k : ℕ) → k < length us → Settled (tableOf t) (stateAfter t (take k us)) → ⊥
   pub read : ReadEnough t v us
@@ -42,7 +43,7 @@ pub record EarlyClaims (t v : List ℕ) : Type 0 where
   pub same-signal : refusalOf v ≡ 0 → tableRefusal t ≡ 0 → (earlyOf t v .refusal ≡ 0) × (earlyOf t v .signal ≡ stateAfter t (urisOf v) .signal)
   -- of a value that goes on after the entries needed, what follows them does not matter
   pub behind : (us : List (List ℕ)) (b r after : List ℕ) → v ≡ b ++ r → Begins White b us → Settled (tableOf t) (stateAfter t us) → Needed t v us
-      → length (b ++ after) ≤ 4096 → earlyOf t (b ++ after) ≡ earlyOf t v
+      → length (b ++ after) ≤ mostValueBytes → earlyOf t (b ++ after) ≡ earlyOf t v
 
 -- what is proved
 abbrev pub EarlyClaim : Type 0

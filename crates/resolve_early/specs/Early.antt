@@ -5,6 +5,7 @@ use mathlib.Core.Option.{Option}
 use mathlib.Core.List.{List}
 use lib.Dec.{eqb, leb}
 use lib.ListN.{length}
+use Rattle.base_numbers.specs.Numbers.{mostEntries, mostValueBytes}
 use Rattle.theory_resolution.specs.Table.{Urn, Table}
 use Rattle.theory_resolution.specs.Direct.{State}
 use Rattle.theory_resolution.specs.Settled.{isSettled, needed, afterFirst}
@@ -31,11 +32,11 @@ answerFor T l ended k = cond (enough T l ended) (record { refusal = 0; signal = 
 
 -- the entries that are read before any fault and before a 65th
 abbrev pub readOf : List ℕ → Front
-readOf v = firstOf 64 (frontFrom v 0)
+readOf v = firstOf mostEntries (frontFrom v 0)
 
 -- if neither the value is too long (1) nor the table refused (4 to 12): what the entries read are enough for
 unfoldable pub earlyOf : List ℕ → List ℕ → Early
 earlyOf t v =
-    cond (leb (length v) 4096 && eqb (tableRefusal t) 0)
+    cond (leb (length v) mostValueBytes && eqb (tableRefusal t) 0)
     (answerFor (tableOf t) (takenAs t (urisIn v (readOf v))) (readOf v .ended) (numberOf t v))
     (refused (numberOf t v))

@@ -2,9 +2,8 @@
 use Prim.Native.Nat.{ℕ, _+_, _-_}
 use mathlib.Core.Bool.{Bool, true, cond, _||_}
 use mathlib.Core.List.{List, [], _∷_}
+use Rattle.base_numbers.specs.Numbers.{mostEntries}
 use Rattle.value_cursor.specs.declared.alert_param.Span.{Span}
-use Rattle.value_cursor.specs.declared.alert_param.Found.{Found}
-use Rattle.value_cursor.specs.declared.alert_param.Found.the-variants.{Last, More, None}
 use Rattle.value_reader.specs.Value.{partOf}
 use Rattle.node_step.specs.StatusByte.{stepPacked}
 use Rattle.node_step.specs.declared.stored.Packed.{Packed}
@@ -29,12 +28,6 @@ afterUri t d st uri = afterUse (d .rows) (d .parent) (d .inner) (d .signals) st 
 abbrev pub settledIn : Decoded → Packed → Bool
 settledIn d st = settledBy (d .rows) (d .parent) (d .inner) (d .signals) (d .categories) st
 
--- the URI of an entry; the empty part at the value's front where there is none
-abbrev pub spanIn : Found → Span
-spanIn (Last p) = p
-spanIn (More p c) = p
-spanIn None = record { start = 0; len = 0 }
-
 -- the signal after n entries, which are enough or not
 abbrev pub reachedAt : Bool → Packed → ℕ → Reached
 reachedAt enough st n = record { enough = enough; signal = st .signal; entries = n }
@@ -46,4 +39,4 @@ runOver t d v st n (p ∷ ps) ended = cond (settledIn d st) (reachedAt true st n
 
 -- from a place in the value, before a 65th entry
 unfoldable pub runFrom : List ℕ → Decoded → List ℕ → Packed → ℕ → ℕ → Reached
-runFrom t d v st n at = runOver t d v st n (firstOf (64 - n) (frontFrom v at) .parts) (firstOf (64 - n) (frontFrom v at) .ended)
+runFrom t d v st n at = runOver t d v st n (firstOf (mostEntries - n) (frontFrom v at) .parts) (firstOf (mostEntries - n) (frontFrom v at) .ended)

@@ -4,7 +4,8 @@ use mathlib.Core.Bool.{Bool, true, false, cond, _&&_}
 use mathlib.Core.List.{List}
 use lib.Dec.{eqb, leb}
 use lib.ListN.{getD}
-use Rattle.theory_resolution.specs.Lists.{allBelow}
+use Rattle.base_numbers.specs.Numbers.{mostCategories, mostSignals}
+use Rattle.base_lists.specs.Lists.{allBelow}
 use Rattle.node_step.specs.Step.{digit, put, rowAt}
 use Rattle.node_step.specs.StatusByte.{stepPacked}
 use Rattle.node_step.specs.declared.stored.Packed.{Packed}
@@ -33,8 +34,8 @@ heldKeeps rows ps inner n st c b = cond (leb b 1) true (keepsAt rows ps inner n 
 unfoldable pub categoryKeeps : List ℕ → List ℕ → List Bool → ℕ → Packed → ℕ → Bool
 categoryKeeps rows ps inner n st c =
     cond (eqb (digit (st .statuses) c) 1) true
-    (heldKeeps rows ps inner n st c (digit (st .statuses) c) && allBelow (min n 32) (signalKeeps rows ps inner n st c))
+    (heldKeeps rows ps inner n st c (digit (st .statuses) c) && allBelow (min n mostSignals) (signalKeeps rows ps inner n st c))
 
 -- no URN of the k categories does
 unfoldable pub settledBy : List ℕ → List ℕ → List Bool → ℕ → ℕ → Packed → Bool
-settledBy rows ps inner n k st = allBelow (min k 8) (categoryKeeps rows ps inner n st)
+settledBy rows ps inner n k st = allBelow (min k mostCategories) (categoryKeeps rows ps inner n st)

@@ -1,4 +1,4 @@
-// Ring before the end: the signal of an Alert-Info value, as soon as no further URN could change it.
+// The signal of an Alert-Info value, answered at the first entry after which none that follows can change it.
 //
 // In: a table and a value, each any bytes. Out: a refusal number, or the signal and how many entries were needed for it.
 //
@@ -7,11 +7,11 @@
 mod run;
 mod settled;
 
+use base_numbers::MOST_VALUE_BYTES;
+use base_numbers::VALUE_TOO_LONG;
+use resolve_run::answer::first_number;
 use table_decode::Decoded;
 ghost use mathlib.Core.Path.{_≡_};
-ghost use mathlib.Core.Bool.{cond};
-ghost use lib.Dec.{eqb};
-ghost use Rattle.value_reader.specs.Value.{refusalOf};
 ghost use Rattle.table_decode.specs.Decoded.{Means};
 ghost use Rattle.resolve_early.specs.Early.{refused as refusedWith, earlyOf};
 
@@ -34,26 +34,15 @@ fn refused(k: u8) -> Early
     }
 }
 
-// The value's number if it is refused, else this one.
-fn value_first(v: &[u8], k: u8) -> Early
-    ensures { λ r. ⌜ r ≡ refusedWith (cond (eqb (refusalOf (now (v .entry))) 0) k (refusalOf (now (v .entry)))) ⌝ }
-{
-    let n = value_reader::refusal(v);
-    if n == 0 {
-        return refused(k);
-    }
-    refused(n)
-}
-
 // The value v with the table t, decoded as d.
 fn by(t: &[u8], d: Decoded, v: &[u8]) -> Early
     ensures { λ r. ⌜ (Means (now (t .entry)) d → r ≡ earlyOf (now (t .entry)) (now (v .entry))) ⌝ }
 {
-    if 4096 < v.len() {
-        return refused(1);
+    if MOST_VALUE_BYTES < v.len() {
+        return refused(VALUE_TOO_LONG);
     }
     if d.refusal != 0 {
-        return value_first(v, d.refusal);
+        return refused(first_number(v, d.refusal));
     }
     let r = run::run(t, d, v);
     if r.enough {
@@ -63,16 +52,12 @@ fn by(t: &[u8], d: Decoded, v: &[u8]) -> Early
             entries: r.entries,
         };
     }
-    value_first(v, 0)
+    refused(first_number(v, 0))
 }
 
 // The value v with the table t.
 pub fn resolve(t: &[u8], v: &[u8]) -> Early
     ensures { λ r. ⌜ r ≡ earlyOf (now (t .entry)) (now (v .entry)) ⌝ }
 {
-    if 4096 < v.len() {
-        return refused(1);
-    }
-    let d = table_decode::decode(t);
-    by(t, d, v)
+    by(t, table_decode::decode(t), v)
 }

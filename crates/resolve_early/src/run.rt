@@ -1,17 +1,20 @@
 // Going through a value from entry to entry, until the state is settled.
 use crate::settled::settled;
+use base_numbers::MOST_ENTRIES;
+use base_numbers::MOST_NODES;
+use base_numbers::MOST_SIGNALS;
 use node_search::uses::Use;
 use node_search::uses::uses;
 use node_step::stored::Packed;
 use node_step::stored::same;
 use node_step::stored::step_packed;
+use resolve_run::entry::entry_at;
 use table_decode::Decoded;
-use value_cursor::Cursor;
-use value_cursor::Found;
-use value_cursor::Span;
 ghost use mathlib.Core.Path.{_≡_};
 ghost use Prim.Native.Nat.{_≤_};
-ghost use Rattle.resolve_early.specs.Run.{afterUse, spanIn, reachedAt, runFrom};
+ghost use lib.ListN.{length};
+ghost use Rattle.base_numbers.specs.Numbers.{mostEntries, mostValueBytes};
+ghost use Rattle.resolve_early.specs.Run.{afterUse, reachedAt, runFrom};
 
 // The signal after so many entries, and whether they are enough.
 pub struct Reached {
@@ -22,24 +25,13 @@ pub struct Reached {
 
 // The state after so many entries, which is enough or not.
 fn ended(enough: bool, st: Packed, n: usize) -> Reached
-    requires { ⌜ n ≤ 64 ⌝ }
+    requires { ⌜ n ≤ mostEntries ⌝ }
     ensures { λ r. ⌜ r ≡ reachedAt enough st n ⌝ }
 {
     Reached {
         enough,
         signal: st.signal,
         entries: n as u8,
-    }
-}
-
-// Where the URI of an entry lies.
-fn span_in(found: Found) -> Span
-    ensures { λ r. ⌜ r ≡ spanIn found ⌝ }
-{
-    match found {
-        Found::More(span, _) => span,
-        Found::Last(span) => span,
-        Found::None => Span { start: 0, len: 0 },
     }
 }
 
@@ -55,9 +47,9 @@ fn begin() -> Packed
 
 // One URI more, by what it is to the table.
 fn taken<'a>(
-    rows: &'a [u64; 32],
-    parents: &'a [u8; 64],
-    inner: &'a [bool; 64],
+    rows: &'a [u64; MOST_SIGNALS],
+    parents: &'a [u8; MOST_NODES],
+    inner: &'a [bool; MOST_NODES],
     signals: usize,
     st: Packed,
     u: Use,
@@ -80,6 +72,7 @@ fn taken<'a>(
 
 // From entry to entry through the value. Whether the state is settled is asked again only where it is another one.
 pub(crate) fn run(t: &[u8], d: Decoded, v: &[u8]) -> Reached
+    requires { ⌜ length (now v) ≤ mostValueBytes ⌝ }
     ensures { λ r. ⌜ r ≡ runFrom (now (t .entry)) d (now (v .entry)) (record { signal = 0; statuses = 0 }) 0 0 ⌝ }
 {
     let mut at = 0;
@@ -90,14 +83,15 @@ pub(crate) fn run(t: &[u8], d: Decoded, v: &[u8]) -> Reached
         if ends {
             return ended(true, st, n);
         }
-        if 64 <= n {
+        if MOST_ENTRIES <= n {
             return ended(false, st, n);
         }
-        let c = Cursor { at };
-        let found = c.entry(v);
-        let span = span_in(found);
-        let start = span.start;
-        let end = start + span.len;
+        let e = entry_at(v, at);
+        if !e.fits {
+            return ended(false, st, n);
+        }
+        let start = e.span.start;
+        let end = start + e.span.len;
         let u = uses(
             t,
             &d.name_at,
@@ -112,17 +106,14 @@ pub(crate) fn run(t: &[u8], d: Decoded, v: &[u8]) -> Reached
             &v[start..end],
         );
         let next = taken(&d.rows, &d.parent, &d.inner, d.signals, st, u);
-        match found {
-            Found::More(_, after) => {
-                if !same(st, next) {
-                    ends = settled(&d.rows, &d.parent, &d.inner, d.signals, d.categories, next);
-                }
-                st = next;
-                n += 1;
-                at = after.at;
-            }
-            Found::Last(_) => return ended(true, next, n + 1),
-            Found::None => return ended(false, st, n),
+        if e.last {
+            return ended(true, next, n + 1);
         }
+        if !same(st, next) {
+            ends = settled(&d.rows, &d.parent, &d.inner, d.signals, d.categories, next);
+        }
+        st = next;
+        n += 1;
+        at = e.next;
     }
 }

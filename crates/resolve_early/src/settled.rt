@@ -1,19 +1,23 @@
 // Whether a state is settled: no URN leads from it to another signal. Only a signal that differs from the current one in one
 // category can be reached by a URN, and a step tells whether it is.
-use base_text::compare::at_most;
+use base_bytes::numbers::at_most;
+use base_numbers::MOST_CATEGORIES;
+use base_numbers::MOST_NODES;
+use base_numbers::MOST_SIGNALS;
 use node_step::stored::Packed;
 use node_step::stored::step_packed;
 ghost use mathlib.Core.Path.{_≡_};
 ghost use Prim.Native.Nat.{_<_, min};
-ghost use Rattle.theory_resolution.specs.Lists.{allBelow};
+ghost use Rattle.base_numbers.specs.Numbers.{mostCategories, mostSignals};
+ghost use Rattle.base_lists.specs.Lists.{allBelow};
 ghost use Rattle.node_step.specs.Step.{digit, rowAt};
 ghost use Rattle.resolve_early.specs.SettledBy.{keepsAt, beside, besideKeeps, signalKeeps, heldKeeps, categoryKeeps, settledBy};
 
 // The step in category c, at the node or root d, keeps the signal.
 fn keeps<'a>(
-    rows: &'a [u64; 32],
-    parents: &'a [u8; 64],
-    inner: &'a [bool; 64],
+    rows: &'a [u64; MOST_SIGNALS],
+    parents: &'a [u8; MOST_NODES],
+    inner: &'a [bool; MOST_NODES],
     signals: usize,
     st: Packed,
     c: usize,
@@ -28,7 +32,7 @@ fn keeps<'a>(
 
 // The byte of category c.
 fn digit_of(row: u64, c: usize) -> u8
-    requires { ⌜ c < 8 ⌝ }
+    requires { ⌜ c < mostCategories ⌝ }
     ensures { λ r. ⌜ r ≡ digit row c ⌝ }
 {
     let k = 8 * c;
@@ -37,7 +41,7 @@ fn digit_of(row: u64, c: usize) -> u8
 
 // Two signals, by their places, differ in no category but c.
 fn is_beside(row: u64, other: u64, c: usize) -> bool
-    requires { ⌜ c < 8 ⌝ }
+    requires { ⌜ c < mostCategories ⌝ }
     ensures { λ r. ⌜ r ≡ beside row other c ⌝ }
 {
     let k = 8 * c;
@@ -49,11 +53,11 @@ fn is_beside(row: u64, other: u64, c: usize) -> bool
 }
 
 // The places of a signal.
-fn row_of(rows: &[u64; 32], s: u8) -> u64
+fn row_of(rows: &[u64; MOST_SIGNALS], s: u8) -> u64
     ensures { λ r. ⌜ r ≡ rowAt (now (rows .entry)) s ⌝ }
 {
     let i = s as usize;
-    if i < 32 {
+    if i < MOST_SIGNALS {
         return rows[i];
     }
     0
@@ -61,16 +65,16 @@ fn row_of(rows: &[u64; 32], s: u8) -> u64
 
 // A signal differs in other categories too, or its place in category c keeps the current signal.
 fn beside_keeps<'a>(
-    rows: &'a [u64; 32],
-    parents: &'a [u8; 64],
-    inner: &'a [bool; 64],
+    rows: &'a [u64; MOST_SIGNALS],
+    parents: &'a [u8; MOST_NODES],
+    inner: &'a [bool; MOST_NODES],
     signals: usize,
     st: Packed,
     c: usize,
     row: u64,
     other: u64,
 ) -> bool
-    requires { ⌜ c < 8 ⌝ }
+    requires { ⌜ c < mostCategories ⌝ }
     ensures { λ r. ⌜ r ≡ besideKeeps (now (rows .entry)) (now (parents .entry)) (now (inner .entry)) signals st c row other ⌝ }
 {
     if !is_beside(row, other, c) {
@@ -82,18 +86,18 @@ fn beside_keeps<'a>(
 
 // No signal's place in category c leads to another signal.
 fn signals_keep<'a>(
-    rows: &'a [u64; 32],
-    parents: &'a [u8; 64],
-    inner: &'a [bool; 64],
+    rows: &'a [u64; MOST_SIGNALS],
+    parents: &'a [u8; MOST_NODES],
+    inner: &'a [bool; MOST_NODES],
     signals: usize,
     st: Packed,
     c: usize,
 ) -> bool
-    requires { ⌜ c < 8 ⌝ }
-    ensures { λ r. ⌜ r ≡ allBelow (min signals 32) (signalKeeps (now (rows .entry)) (now (parents .entry)) (now (inner .entry)) signals st c) ⌝ }
+    requires { ⌜ c < mostCategories ⌝ }
+    ensures { λ r. ⌜ r ≡ allBelow (min signals mostSignals) (signalKeeps (now (rows .entry)) (now (parents .entry)) (now (inner .entry)) signals st c) ⌝ }
 {
     let row = row_of(rows, st.signal);
-    let n = at_most(signals, 32);
+    let n = at_most(signals, MOST_SIGNALS);
     let mut s = 0;
     while s < n {
         if !beside_keeps(rows, parents, inner, signals, st, c, row, rows[s]) {
@@ -106,9 +110,9 @@ fn signals_keep<'a>(
 
 // What is no node under the node at which category c is held does not lead to another signal.
 fn held_keeps<'a>(
-    rows: &'a [u64; 32],
-    parents: &'a [u8; 64],
-    inner: &'a [bool; 64],
+    rows: &'a [u64; MOST_SIGNALS],
+    parents: &'a [u8; MOST_NODES],
+    inner: &'a [bool; MOST_NODES],
     signals: usize,
     st: Packed,
     c: usize,
@@ -125,14 +129,14 @@ fn held_keeps<'a>(
 
 // No URN of category c leads to another signal.
 fn category_keeps<'a>(
-    rows: &'a [u64; 32],
-    parents: &'a [u8; 64],
-    inner: &'a [bool; 64],
+    rows: &'a [u64; MOST_SIGNALS],
+    parents: &'a [u8; MOST_NODES],
+    inner: &'a [bool; MOST_NODES],
     signals: usize,
     st: Packed,
     c: usize,
 ) -> bool
-    requires { ⌜ c < 8 ⌝ }
+    requires { ⌜ c < mostCategories ⌝ }
     ensures { λ r. ⌜ r ≡ categoryKeeps (now (rows .entry)) (now (parents .entry)) (now (inner .entry)) signals st c ⌝ }
 {
     let b = digit_of(st.statuses, c);
@@ -147,16 +151,16 @@ fn category_keeps<'a>(
 
 // The state is settled.
 pub(crate) fn settled<'a>(
-    rows: &'a [u64; 32],
-    parents: &'a [u8; 64],
-    inner: &'a [bool; 64],
+    rows: &'a [u64; MOST_SIGNALS],
+    parents: &'a [u8; MOST_NODES],
+    inner: &'a [bool; MOST_NODES],
     signals: usize,
     categories: usize,
     st: Packed,
 ) -> bool
     ensures { λ r. ⌜ r ≡ settledBy (now (rows .entry)) (now (parents .entry)) (now (inner .entry)) signals categories st ⌝ }
 {
-    let k = at_most(categories, 8);
+    let k = at_most(categories, MOST_CATEGORIES);
     let mut c = 0;
     while c < k {
         if !category_keeps(rows, parents, inner, signals, st, c) {

@@ -5,8 +5,8 @@ use mathlib.Core.Bool.{cond}
 use mathlib.Core.List.{List}
 use lib.Dec.{eqb}
 use borrow.Author.Tests.{eq-eqb, ne-eqb, eqb-true, eqb-false}
+use Rattle.base_lists.proofs.Bools.{byTest}
 use Rattle.value_reader.specs.Value.{refusalOf, urisOf}
-use Rattle.base_text.proofs.Fields.{byTest}
 use Rattle.table_decode.specs.declared.Decoded.{Decoded}
 use Rattle.table_decode.specs.Decoded.{Means}
 use Rattle.resolve_run.specs.declared.Resolution.{Resolution}
@@ -25,14 +25,15 @@ abbrev pub plainly : PlainResolution → Resolution
 plainly r = record { refusal = r .refusal; signal = r .signal; used = r .used; skipped = r .skipped }
 
 module _ (t : List ℕ) (d : Decoded) (v : List ℕ) where
-  pub tried-by : {r : PlainResolution} {x : Current} {e : Ended} → x ≡ Direct startNow 0 → e ≡ endedFrom t d (unwalked t) x v
+  pub tried-by : {r : PlainResolution} {x : Current} {e : Ended} → x ≡ Direct startNow 0 → e ≡ endedFrom t d unwalked x v
       → r ≡ triedAs (e .answer) (e .last .tries) → r ≡ triedBy t d v
   unfolding triedBy
-  tried-by f g h = h ∙ ap (λ (e : Ended). triedAs (e .answer) (e .last .tries)) (g ∙ ap (λ (x : Current). endedFrom t d (unwalked t) x v) f)
+  tried-by f g h = h ∙ ap (λ (e : Ended). triedAs (e .answer) (e .last .tries)) (g ∙ ap (λ (x : Current). endedFrom t d unwalked x v) f)
 
   pub plain-by : {r : PlainResolution} → d .refusal ≡ 0 → r ≡ triedBy t d v → plainly r ≡ plainBy t d v
   unfolding triedBy plainBy
-  plain-by z e = ap plainly e ∙ sym (ap (λ b. cond b (endedBy t d v .answer) (refused (cond (eqb (refusalOf v) 0) (d .refusal) (refusalOf v)))) (eq-eqb (d .refusal) 0 z))
+  plain-by z e = ap plainly e ∙ sym
+      (ap (λ b. cond b (endedBy t d v .answer) (refused (cond (eqb (refusalOf v) 0) (d .refusal) (refusalOf v)))) (eq-eqb (d .refusal) 0 z))
 
   pub refused-by : (d .refusal ≡ 0 → ⊥) → refused (cond (eqb (refusalOf v) 0) (d .refusal) (refusalOf v)) ≡ plainBy t d v
   unfolding plainBy
@@ -42,7 +43,7 @@ module _ (t : List ℕ) (d : Decoded) (v : List ℕ) where
   module _ (m : Means t d) where
     pub tried-means : d .refusal ≡ 0 → triedBy t d v ≡ plainWith t v
     unfolding triedBy
-    tried-means e = let z = sym (m .refusal) ∙ e in tried-right t v (unwalked t) (endedBy t d v) z (plain-ends t d (m .holds z) (unwalked t) v refl refl)
+    tried-means e = let z = sym (m .refusal) ∙ e in tried-right t v unwalked (endedBy t d v) z (plain-ends t d (m .holds z) unwalked v refl refl)
 
     pub plain-means : plainBy t d v ≡ plainOf t v
     unfolding plainWith plainOf

@@ -1,26 +1,24 @@
 -- The plain resolver's answer, by how direct resolution ended.
-use Prim.Native.Nat.{ℕ, _<_}
+use Prim.Native.Nat.{ℕ}
 use mathlib.Core.Path.{_≡_, refl, sym, ap, ap₂, _∙_}
 use mathlib.Core.List.{List}
-use lib.ListN.{length}
 use lib.Dec.{eqb}
 use mathlib.Core.Bool.{cond}
 use borrow.Author.Tests.{ne-eqb, eqb-false}
-use native.Mathlib.Omega.{arith}
+use Rattle.base_lists.proofs.Numbers.{pos-of-ne}
+use Rattle.base_lists.proofs.Bools.{byTest}
 use Rattle.value_reader.specs.Value.{refusalOf, urisOf}
-use Rattle.value_reader.proofs.ValueLaws.{refusal-long}
-use Rattle.base_text.proofs.Fields.{byTest}
 use Rattle.theory_resolution.specs.Direct.{usedOf}
-use Rattle.theory_resolution.specs.Direct as direct
 use Rattle.node_step.specs.Step.{coded}
 use Rattle.table_decode.specs.Tables.{tableRefusal, tableOf}
 use Rattle.resolve_run.specs.declared.Resolution.{Resolution}
 use Rattle.resolve_run.specs.declared.run.Current.{Current}
 use Rattle.resolve_run.specs.declared.answer.Ended.{Ended}
 use Rattle.resolve_run.specs.Run.{Direct, Machine, signalNow}
-use Rattle.resolve_run.proofs.AnswerLaws.{End, value-refused, none-refused, refused-first, pos-of-ne}
-use Rattle.resolve_run.proofs.AnswerLaws as ends
+use Rattle.resolve_run.proofs.AnswerLaws.{End, value-refused, none-refused, refused-first}
 use Rattle.resolve_library.specs.Resolve.{takenAs, directSignal, refused, answered, plainOf, triesIn, triedAs, plainWith}
+use Rattle.theory_resolution.specs.Direct as direct
+use Rattle.resolve_run.proofs.AnswerLaws as ends
 
 -- a refused answer has no tries
 tried-refused : (k n i : ℕ) → (k ≡ 0 → ⊥) → triedAs (refused k) n ≡ triedAs (refused k) i
@@ -29,14 +27,8 @@ tried-refused k n i h = rw (ne-eqb k 0 h)
 some-number : (v k : ℕ) → (k ≡ 0 → ⊥) → cond (eqb v 0) k v ≡ 0 → ⊥
 some-number v k n = byTest (eqb v 0) (λ q. λ z. n (ap (λ b. cond b k v) (sym q) ∙ z)) (λ q. λ z. eqb-false v 0 q (ap (λ b. cond b k v) (sym q) ∙ z))
 
--- a value of over 4,096 bytes, and a refused table
+-- a refused table
 module _ (t v : List ℕ) where
-  pub tried-long : 4096 < length v → triedAs (refused 1) 0 ≡ plainWith t v
-  unfolding plainWith plainOf
-  tried-long h =
-      tried-refused 1 0 (triesIn t (urisOf v)) (λ z. omega arith)
-      ∙ ap (λ (r : Resolution). triedAs r (triesIn t (urisOf v))) (value-refused t v (answered t (urisOf v) (directSignal t (urisOf v))) (refusal-long v h) (omega arith))
-
   pub tried-table : {k : ℕ} → k ≡ tableRefusal t → (k ≡ 0 → ⊥) → triedAs (refused (cond (eqb (refusalOf v) 0) k (refusalOf v))) 0 ≡ plainWith t v
   unfolding plainWith plainOf
   tried-table {k} e n =

@@ -5,7 +5,6 @@ use mathlib.Core.Bool.{true, false, cond}
 use mathlib.Core.List.{List, [], _∷_, foldl}
 use lib.ListN.{length}
 use borrow.Author.Tests.{eq-eqb, ne-eqb}
-use native.Mathlib.Omega.{arith}
 use Rattle.value_reader.specs.Value.{refusalOf, urisOf}
 use Rattle.theory_resolution.specs.Table.{Urn}
 use Rattle.theory_resolution.specs.Direct.{envOf, step, usedOf, StateOf}
@@ -34,12 +33,14 @@ use Rattle.resolve_run.proofs.AnswerLaws as ends
 use Rattle.resolve_run.proofs.DirectLaws.{direct-ends}
 
 -- a run stays among the table's states
-pub state-run : (t : List ℕ) → tableRefusal t ≡ 0 → (us : List Urn) (st : direct.State) → StateOf (tableOf t) st → StateOf (tableOf t) (foldl (step (envOf (tableOf t))) st us)
+pub state-run : (t : List ℕ) → tableRefusal t ≡ 0 → (us : List Urn) (st : direct.State) → StateOf (tableOf t) st
+    → StateOf (tableOf t) (foldl (step (envOf (tableOf t))) st us)
 state-run t ok [] st g = g
 state-run t ok (u ∷ us) st g = state-run t ok us (step (envOf (tableOf t)) st u) (state-step (tableOf t) (accepted t ok .well) st u g)
 
 -- the state that a fitting record carries is one of the table
-pub state-carried : (t : List ℕ) → tableRefusal t ≡ 0 → (r : Carried) → length (r .status) ≡ 8 → Fits (tableOf t) r → StateOf (tableOf t) (stateIn (tableOf t) r)
+pub state-carried : (t : List ℕ) → tableRefusal t ≡ 0 → (r : Carried) → length (r .status) ≡ 8 → Fits (tableOf t) r
+    → StateOf (tableOf t) (stateIn (tableOf t) r)
 state-carried t ok r wide fit = carried-state (tableOf t) (accepted t ok .few-categories) r wide fit (accepted t ok .rows)
 
 -- by how the run ended
@@ -49,7 +50,10 @@ module _ (t : List ℕ) (ok : tableRefusal t ≡ 0) (v : List ℕ) (r : Carried)
   end = stateAfter t (stateIn (tableOf t) r) (urisOf v)
 
   module _ {m : Machine} {n : ℕ} (x : Ended) where
-    pub read-refused : End t v m (Direct (coded (tableOf t) end) n) x → (x .answer .refusal ≡ 0 → ⊥) → record { answer = x .answer; carried = counted r } ≡ readFrom t r v
+    pub read-refused : End t v m (Direct (coded (tableOf t) end) n) x → (x .answer .refusal ≡ 0 → ⊥) → record {
+      answer = x .answer;
+      carried = counted r;
+    } ≡ readFrom t r v
     read-refused (ends.not-taken n e) h =
         ap (λ (y : Resolution). record { answer = y; carried = counted r }) e
         ∙ sym (ap (λ b. cond b (goesOn t r v) (onlyCounted (refusalOf v) r)) (ne-eqb (refusalOf v) 0 n))
@@ -61,7 +65,8 @@ module _ (t : List ℕ) (ok : tableRefusal t ≡ 0) (v : List ℕ) (r : Carried)
     read-taken (ends.not-taken n e) h c ec = absurd (n (sym (ap (λ (y : Resolution). y .refusal) e) ∙ h))
     read-taken (ends.taken z y e) h c ec =
         let q : x .last .state ≡ coded (tableOf t) end = ap (λ (w : Current). w .state) y in
-        let k = ec ∙ ap (λ (w : State). carriedWith w (r .values + 1)) q ∙ carried-coded (tableOf t) (accepted t ok .few-categories) (accepted t ok .few-nodes) end (r .values + 1) in
+        let k = ec ∙ ap (λ (w : State). carriedWith w (r .values + 1)) q ∙ carried-coded (tableOf t) (accepted t ok .few-categories)
+        (accepted t ok .few-nodes) end (r .values + 1) in
         (λ i. record { answer = e i; carried = k i })
         ∙ sym (ap (λ b. cond b (goesOn t r v) (onlyCounted (refusalOf v) r)) (eq-eqb (refusalOf v) 0 z))
 
@@ -69,7 +74,8 @@ module _ (t : List ℕ) (ok : tableRefusal t ≡ 0) (v : List ℕ) (r : Carried)
 module _ (t : List ℕ) (d : Decoded) (means : Means t d) (ok : tableRefusal t ≡ 0) (r : Carried) (wide : length (r .status) ≡ 8) (fit : Fits (tableOf t) r)
     (m : Machine) (v : List ℕ) where
   pub fed-ends : {s : State} → s ≡ stateWith r → {x : Current} → x ≡ Direct s 0 → {e : Ended} → e ≡ endedFrom t d m x v
-      → End t v m (Direct (coded (tableOf t) (stateAfter t (stateIn (tableOf t) r) (urisOf v))) (triesOver (tableOf t) (stateIn (tableOf t) r) (usedOf (takenAs t (urisOf v))))) e
+      → End t v m (Direct (coded (tableOf t) (stateAfter t (stateIn (tableOf t) r) (urisOf v)))
+      (triesOver (tableOf t) (stateIn (tableOf t) r) (usedOf (takenAs t (urisOf v))))) e
   fed-ends e f q =
       let c = state-coded (tableOf t) (accepted t ok .few-categories) r wide fit in
       direct-ends t d (means .holds ok) m v (stateIn (tableOf t) r) (state-carried t ok r wide fit) (f ∙ ap (λ (s : State). Direct s 0) (e ∙ c)) q
@@ -99,4 +105,5 @@ pub fits-table : (t : List ℕ) (d : Decoded) → Holds t (tableOf t) d → (r :
     → fitsBy (d .rows) (d .parent) (d .inner) (d .category) (d .nodes) (d .signals) (d .categories) r ≡ carriedFits (tableOf t) r
 fits-table t d h r wide =
     ap (λ (k : ℕ). fitsBy (d .rows) (d .parent) (d .inner) (d .category) (d .nodes) (d .signals) k r) (h .categories)
-    ∙ record-right t (d .category) (d .at) (d .len) (d .nodes) (tableOf t) (h .nodes) (h .well-formed) (d .rows) (d .parent) (d .signals) (h .numbers) (d .inner) (h .inner) r wide
+    ∙ record-right t (d .category) (d .at) (d .len) (d .nodes) (tableOf t) (h .nodes) (h .well-formed) (d .rows) (d .parent) (d .signals)
+    (h .numbers) (d .inner) (h .inner) r wide

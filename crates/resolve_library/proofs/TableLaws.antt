@@ -1,10 +1,9 @@
 -- Lists of URIs as a stored table takes them.
 use mathlib.Core.Path.{_≡_}
 use Prim.Native.Nat.{ℕ}
-use mathlib.Core.List.{List, _++_}
+use mathlib.Core.List.{List, _++_, map-append}
 use Rattle.node_search.specs.Uses.{usedUrn}
 use Rattle.table_decode.specs.Tables.{categoryNames}
-use Rattle.resolve_run.proofs.TakenLaws.{map-append}
 use Rattle.resolve_library.specs.Resolve.{takenAs}
 
 -- a list of URIs cut in two

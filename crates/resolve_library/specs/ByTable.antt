@@ -13,7 +13,7 @@ use Rattle.resolve_library.specs.declared.PlainResolution.{PlainResoluti
 
 -- how direct resolution ends
 abbrev pub endedBy : List ℕ → Decoded → List ℕ → Ended
-endedBy t d v = endedFrom t d (unwalked t) (Direct startNow 0) v
+endedBy t d v = endedFrom t d unwalked (Direct startNow 0) v
 
 -- its answer, with the tries
 unfoldable pub triedBy : List ℕ → Decoded → List ℕ → PlainResolution

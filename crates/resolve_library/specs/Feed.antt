@@ -3,6 +3,7 @@ use Prim.Native.Nat.{ℕ, _+_}
 use mathlib.Core.Bool.{cond}
 use mathlib.Core.List.{List, foldl}
 use lib.Dec.{eqb}
+use Rattle.base_numbers.specs.Numbers.{badRecord, mostValues, tooManyValues}
 use Rattle.value_reader.specs.Value.{refusalOf, urisOf}
 use Rattle.theory_resolution.specs.Direct.{State, envOf, step, usedOf}
 use Rattle.resolve_record.specs.Record.{stateIn, carriedAs, carriedFits, counted}
@@ -39,5 +40,5 @@ readFrom t r v = cond (eqb (refusalOf v) 0) (goesOn t r v) (onlyCounted (refusal
 unfoldable pub feedOf : List ℕ → Carried → List ℕ → Fed
 feedOf t r v =
     cond (eqb (tableRefusal t) 0)
-    (cond (carriedFits (tableOf t) r) (cond (eqb (r .values) 16) (unchanged 19 r) (readFrom t r v)) (unchanged 28 r))
+    (cond (carriedFits (tableOf t) r) (cond (eqb (r .values) mostValues) (unchanged tooManyValues r) (readFrom t r v)) (unchanged badRecord r))
     (unchanged (tableRefusal t) r)

@@ -6,10 +6,10 @@ use lib.Dec.{eqb}
 use Rattle.value_reader.specs.Value.{urisOf}
 use Rattle.theory_resolution.specs.Direct.{start, direct, usedOf}
 use Rattle.theory_resolution.specs.Tries.{triesOver}
-use Rattle.machine_image.specs.Refusals.{formOf}
 use Rattle.machine_image.specs.Walk.{walkSignal}
 use Rattle.table_decode.specs.Tables.{tableOf}
 use Rattle.resolve_run.specs.declared.Resolution.{Resolution}
+use Rattle.resolve_small.specs.Resolve.{resolvedOver}
 pub use Rattle.resolve_run.specs.Answers.{takenAs, refused, answered, unlessRefused}
 use Rattle.resolve_library.specs.declared.PlainResolution.{PlainResolution}
 
@@ -38,6 +38,5 @@ unfoldable pub plainWith : List ℕ → List ℕ → PlainResolution
 plainWith t v = triedAs (plainOf t v) (triesIn t (urisOf v))
 
 -- the machine resolver: the image as it is stored, followed over the value's list; 15 if it is of wrong form
-unfoldable pub machineOf : List ℕ → List ℕ → List ℕ → Resolution
-machineOf t im v =
-    unlessRefused t v (cond (formOf (tableOf t) im) (answered t (urisOf v) (walkedSignal t im (urisOf v))) (refused 15))
+abbrev pub machineOf : List ℕ → List ℕ → List ℕ → Resolution
+machineOf t im v = resolvedOver (tableOf t .cats) t im v

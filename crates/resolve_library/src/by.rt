@@ -3,7 +3,6 @@
 use crate::PlainResolution;
 use resolve_run::Resolution;
 use resolve_run::answer::direct;
-use resolve_run::answer::refused;
 use resolve_run::answer::value_first;
 use resolve_run::run::at_start;
 use table_decode::Decoded;
@@ -29,13 +28,6 @@ fn with_tries(a: Resolution, tries: u16) -> PlainResolution
         skipped: a.skipped,
         tries: counted,
     }
-}
-
-// The answer to a value of over 4,096 bytes.
-pub(crate) fn too_long() -> PlainResolution
-    ensures { λ r. ⌜ r ≡ triedAs (refusedWith 1) 0 ⌝ }
-{
-    with_tries(refused(1), 0)
 }
 
 // The answer by a table that is refused with k: the value's number comes first.

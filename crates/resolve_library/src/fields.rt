@@ -9,6 +9,7 @@ use table_decode::Decoded;
 ghost use mathlib.Core.Path.{_≡_};
 ghost use Prim.Native.Nat.{_<_};
 ghost use lib.ListN.{length};
+ghost use Rattle.base_numbers.specs.Numbers.{mostCategories, mostValues};
 ghost use Rattle.table_decode.specs.Tables.{tableRefusal, tableOf};
 ghost use Rattle.table_decode.specs.Decoded.{Means};
 ghost use Rattle.resolve_record.specs.Record.{counted as countedOf};
@@ -25,7 +26,7 @@ pub(crate) fn unchanged(k: u8, carried: Carried) -> Fed
 
 // A value that is refused for its own sake is counted.
 fn counted(answer: Resolution, carried: Carried) -> Fed
-    requires { ⌜ carried .values < 16 ⌝ }
+    requires { ⌜ carried .values < mostValues ⌝ }
     ensures { λ r. ⌜ r ≡ record { answer = answer; carried = countedOf carried } ⌝ }
 {
     let values = carried.values + 1;
@@ -43,7 +44,7 @@ fn counted(answer: Resolution, carried: Carried) -> Fed
 
 // One value more, from a record that fits the table and has room for it.
 pub(crate) fn read_from(t: &[u8], d: Decoded, carried: Carried, v: &[u8]) -> Fed
-    requires { ⌜ Means (now t) d × (tableRefusal (now t) ≡ 0) × Fits (tableOf (now t)) carried × (length (carried .status) ≡ 8) × (carried .values < 16) ⌝ }
+    requires { ⌜ Means (now t) d × (tableRefusal (now t) ≡ 0) × Fits (tableOf (now t)) carried × (length (carried .status) ≡ mostCategories) × (carried .values < mostValues) ⌝ }
     ensures { λ r. ⌜ r ≡ readFrom (now (t .entry)) carried (now (v .entry)) ⌝ }
 {
     let start = resolve_record::state(carried);

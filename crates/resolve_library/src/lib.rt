@@ -10,12 +10,11 @@ pub mod by;
 mod c;
 mod fields;
 
+use base_numbers::BAD_RECORD;
+use base_numbers::MOST_VALUES;
+use base_numbers::TOO_MANY_VALUES;
 use resolve_record::Carried;
 use resolve_run::Resolution;
-use resolve_run::answer::refused;
-use resolve_run::answer::resolved;
-use resolve_run::answer::value_first;
-use resolve_run::run::at_number;
 ghost use mathlib.Core.Path.{_≡_};
 ghost use Rattle.resolve_library.specs.Resolve.{plainWith, machineOf};
 ghost use Rattle.resolve_library.specs.Feed.{feedOf};
@@ -40,9 +39,6 @@ pub struct Fed {
 pub fn plain(t: &[u8], v: &[u8]) -> PlainResolution
     ensures { λ r. ⌜ r ≡ plainWith (now (t .entry)) (now (v .entry)) ⌝ }
 {
-    if 4096 < v.len() {
-        return by::too_long();
-    }
     let d = table_decode::decode(t);
     if d.refusal != 0 {
         return by::untried(v, d.refusal);
@@ -54,35 +50,7 @@ pub fn plain(t: &[u8], v: &[u8]) -> PlainResolution
 pub fn machine(t: &[u8], image: &[u8], v: &[u8]) -> Resolution
     ensures { λ r. ⌜ r ≡ machineOf (now (t .entry)) (now (image .entry)) (now (v .entry)) ⌝ }
 {
-    if 4096 < v.len() {
-        return refused(1);
-    }
-    let d = table_decode::decode(t);
-    if d.refusal != 0 {
-        return value_first(v, d.refusal);
-    }
-    let cats = d.categories;
-    let nodes = d.nodes;
-    let signals = d.signals;
-    let s = machine_symbols::list(&d.category, &d.parent, nodes, cats);
-    let count = s.count;
-    if !machine_check::form::formed(
-        &d.rows,
-        &d.parent,
-        &d.inner,
-        &d.category,
-        nodes,
-        &s.bytes,
-        count,
-        signals,
-        cats,
-        image,
-    ) {
-        return value_first(v, 15);
-    }
-    let index = machine_symbols::index(&s.bytes, count);
-    let e = resolved(t, d, &index, &s.bytes, count, cats, image, at_number(0), v);
-    e.answer
+    resolve_small::by_image(t, image, v)
 }
 
 // One value of a message that has several: direct resolution goes on from what is carried.
@@ -103,10 +71,10 @@ pub fn feed(t: &[u8], carried: Carried, v: &[u8]) -> Fed
         d.categories,
         carried,
     ) {
-        return fields::unchanged(28, carried);
+        return fields::unchanged(BAD_RECORD, carried);
     }
-    if carried.values == 16 {
-        return fields::unchanged(19, carried);
+    if carried.values == MOST_VALUES {
+        return fields::unchanged(TOO_MANY_VALUES, carried);
     }
     fields::read_from(t, d, carried, v)
 }

@@ -6,13 +6,14 @@ use mathlib.Core.List.{List, []}
 use lib.ListN.{getD}
 use native.Mathlib.Omega.{arith}
 use native.Mathlib.Numerals.{add-one}
-use Rattle.theory_resolution.specs.Lists.{allBelow}
+use Rattle.base_lists.specs.Cuts.{stretch}
+use Rattle.base_lists.proofs.Numbers.{min-le}
+use Rattle.base_lists.proofs.Below.{all-stop, all-same}
+use Rattle.base_lists.specs.Lists.{allBelow}
 use Rattle.theory_resolution.specs.Names.{Name, sameName}
-use Rattle.theory_resolution.proofs.Lists.{same-test, all-to, all-of, all-stop}
-use Rattle.node_search.specs.Arrays.{stretch, NamesIn}
+use Rattle.node_search.specs.Arrays.{NamesIn}
 use Rattle.resolve_pair.specs.Pair.{otherName, noneOf, apart}
 use Rattle.resolve_pair.specs.Alone.{otherAt, noneAt, apartBy}
-use Rattle.base_text.proofs.Lesser.{min-le}
 
 -- a test that the first k of n have passed
 pub record Passed (f : ℕ → Bool) (n k : ℕ) : Type 0 where
@@ -69,22 +70,17 @@ apart-stop ring rat rlen lamp lat llen rings lamps i {m} {n} em en h e j q =
     apart-is ring rat rlen lamp lat llen rings lamps em en
     (passed-not (noneAt ring rat rlen lamp lat llen n) m i h (none-is ring rat rlen lamp lat llen n i e j ∙ q))
 
--- tests that agree up to n
-all-alike : (n : ℕ) (f g : ℕ → Bool) → ((k : ℕ) → k < n → f k ≡ g k) → allBelow n f ≡ allBelow n g
-all-alike n f g h =
-    same-test (allBelow n f) (allBelow n g) (λ e. all-of n g (λ k l. sym (h k l) ∙ all-to n f e k l)) (λ e. all-of n f (λ k l. h k l ∙ all-to n g e k l))
-
 module _ (ring rat rlen lamp lat llen : List ℕ) (m n : ℕ) (a b : List Name) (ra : NamesIn ring rat rlen m a) (lb : NamesIn lamp lat llen n b) where
   one-right : (i : ℕ) → i < m → noneAt ring rat rlen lamp lat llen n i ≡ noneOf a b i
   unfolding noneAt otherAt
   one-right i h =
       ap (λ x. allBelow n (otherAt x lamp lat llen)) (ra .name-at i h)
-      ∙ all-alike n (otherAt (getD a i []) lamp lat llen) (otherName (getD a i []) b) (λ j l. ap (λ y. not (sameName (getD a i []) y)) (lb .name-at j l))
+      ∙ all-same n (otherAt (getD a i []) lamp lat llen) (otherName (getD a i []) b) (λ j l. ap (λ y. not (sameName (getD a i []) y)) (lb .name-at j l))
       ∙ ap (λ k. allBelow k (otherName (getD a i []) b)) (sym (lb .all-names))
 
   pub apart-right : apartBy ring rat rlen m lamp lat llen n ≡ apart a b
   unfolding apartBy
   apart-right =
       ap₂ (λ x y. allBelow x (noneAt ring rat rlen lamp lat llen y)) (sym (min-le m 8 (ra .few-names))) (sym (min-le n 8 (lb .few-names)))
-      ∙ all-alike m (noneAt ring rat rlen lamp lat llen n) (noneOf a b) one-right
+      ∙ all-same m (noneAt ring rat rlen lamp lat llen n) (noneOf a b) one-right
       ∙ ap (λ k. allBelow k (noneOf a b)) (sym (ra .all-names))

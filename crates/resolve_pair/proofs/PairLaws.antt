@@ -1,17 +1,18 @@
 -- The answer by its tests, and the claims of a value.
-use Prim.Native.Nat.{ℕ, zero, suc, _<_}
+use Prim.Native.Nat.{ℕ, _<_}
 use mathlib.Core.Path.{_≡_, refl, sym, ap, ap₂, _∙_}
-use mathlib.Core.Bool.{Bool, true, false, cond, not, _&&_, and-true, true≢false}
+use mathlib.Core.Bool.{Bool, true, false, cond, not, true≢false}
 use mathlib.Core.List.{List, []}
 use lib.Dec.{eqb}
 use lib.ListN.{length, getD}
 use borrow.Author.Tests.{eq-eqb, ne-eqb}
 use native.Mathlib.Omega.{arith}
+use Rattle.base_lists.proofs.Lists.{mem-at, member-of, index-member}
+use Rattle.base_lists.proofs.Below.{all-stop, all-failed}
+use Rattle.base_lists.specs.Lists.{memberBy, indexBy}
+use Rattle.base_lists.proofs.Bools.{byTest}
 use Rattle.value_reader.specs.Value.{refusalOf}
-use Rattle.base_text.proofs.Fields.{byTest}
-use Rattle.theory_resolution.specs.Lists.{allBelow, memberBy, indexBy}
 use Rattle.theory_resolution.specs.Names.{Name, sameName}
-use Rattle.theory_resolution.proofs.Lists.{all-stop, mem-at, member-of, index-member}
 use Rattle.theory_resolution.proofs.Names.{name-exact}
 use Rattle.table_decode.specs.Tables.{tableRefusal, categoryNames}
 use Rattle.resolve_pair.specs.declared.Pair.{Pair}
@@ -34,13 +35,20 @@ module _ (ring lamp v : List ℕ) where
 
   module _ (z : refusalOf v ≡ 0) where
     pub of-ring : {n : ℕ} → n ≡ tableRefusal ring → (n ≡ 0 → ⊥) → refused n ≡ pairOf ring lamp v
-    of-ring {n} e h = ap refused e ∙ some-number (tableRefusal ring) (simp (eq-eqb (refusalOf v) 0 z, ne-eqb (tableRefusal ring) 0 (λ i. h (e ∙ i)))) (λ i. h (e ∙ i))
+    of-ring {n} e h = ap refused e ∙ some-number (tableRefusal ring) (simp (
+      eq-eqb (refusalOf v) 0 z,
+      ne-eqb (tableRefusal ring) 0 (λ i. h (e ∙ i)),
+    )) (λ i. h (e ∙ i))
 
     module _ (zr : tableRefusal ring ≡ 0) where
       pub of-lamp : {n : ℕ} → n ≡ tableRefusal lamp → (n ≡ 0 → ⊥) → refused n ≡ pairOf ring lamp v
       of-lamp {n} e h =
           ap refused e
-          ∙ some-number (tableRefusal lamp) (simp (eq-eqb (refusalOf v) 0 z, eq-eqb (tableRefusal ring) 0 zr, ne-eqb (tableRefusal lamp) 0 (λ i. h (e ∙ i)))) (λ i. h (e ∙ i))
+          ∙ some-number (tableRefusal lamp) (simp (
+            eq-eqb (refusalOf v) 0 z,
+            eq-eqb (tableRefusal ring) 0 zr,
+            ne-eqb (tableRefusal lamp) 0 (λ i. h (e ∙ i)),
+          )) (λ i. h (e ∙ i))
 
       module _ (zl : tableRefusal lamp ≡ 0) where
         last : (b : Bool) → apart (categoryNames ring) (categoryNames lamp) ≡ b → pairRefusal ring lamp v ≡ cond b 0 24
@@ -52,18 +60,6 @@ module _ (ring lamp v : List ℕ) where
         pub with-both : apart (categoryNames ring) (categoryNames lamp) ≡ true → {r l : ℕ} → r ≡ signalIn ring v → l ≡ signalIn lamp v
             → record { refusal = 0; ring = r; lamp = l } ≡ pairOf ring lamp v
         with-both e f g = ap₂ (λ (x y : ℕ). record { refusal = 0; ring = x; lamp = y }) f g ∙ by-number 0 (last true e)
-
--- a test that does not hold of all fails somewhere
-all-fails : (n : ℕ) (f : ℕ → Bool) → allBelow n f ≡ false → (k : ℕ) × (k < n) × (f k ≡ false)
-unfolding allBelow
-all-fails zero f e = absurd (true≢false e)
-all-fails (suc n) f e = go (f n) refl (all-fails n f)
-  where
-    go : (b : Bool) → f n ≡ b → (allBelow n f ≡ false → (k : ℕ) × (k < n) × (f k ≡ false)) → (k : ℕ) × (k < suc n) × (f k ≡ false)
-    go false h ih = (n, omega arith, h)
-    go true h ih =
-        let w = ih (sym (and-true (allBelow n f)) ∙ ap (λ b. allBelow n f && b) (sym h) ∙ e) in
-        (w .0, omega (arith, w .1), w .2)
 
 not-same : (x y : Name) → not (sameName x y) ≡ false → x ≡ y
 not-same x y = go (sameName x y) refl
@@ -79,8 +75,8 @@ listed l k h = member-of sameName name-exact (getD l k []) l (mem-at l k [] h)
 module _ (a b : List Name) where
   pub in-both : apart a b ≡ false → (x : Name) × (memberBy sameName x a ≡ true) × (memberBy sameName x b ≡ true)
   in-both e =
-      let i = all-fails (length a) (noneOf a b) e in
-      let j = all-fails (length b) (otherName (getD a (i .0) []) b) (i .2) in
+      let i = all-failed (length a) (noneOf a b) e in
+      let j = all-failed (length b) (otherName (getD a (i .0) []) b) (i .2) in
       let s = not-same (getD a (i .0) []) (getD b (j .0) []) (j .2) in
       (getD a (i .0) [], listed a (i .0) (i .1), ap (λ x. memberBy sameName x b) s ∙ listed b (j .0) (j .1))
 

@@ -1,12 +1,14 @@
 -- Each table alone gives what the table of all pairs gives.
-use Prim.Native.Nat.{ℕ, suc, _+_, _<_}
+use Prim.Native.Nat.{ℕ, _+_, _<_}
 use mathlib.Core.Path.{_≡_, refl, sym, ap, ap₂, _∙_}
 use mathlib.Core.Bool.{Bool, true, false, cond, _||_, _&&_, and-eq-true-iff}
 use mathlib.Core.Option.{none, some}
 use mathlib.Core.List.{List, [], _∷_, _++_, map}
 use lib.ListN.{length, drop}
 use native.Mathlib.Omega.{arith}
-use Rattle.theory_resolution.specs.Lists.{memberBy, indexBy}
+use Rattle.table_decode.proofs.Judging.{names-count}
+use Rattle.base_lists.proofs.Lists.{member-join, index-append}
+use Rattle.base_lists.specs.Lists.{memberBy, indexBy}
 use Rattle.theory_resolution.specs.Names.{Name, Parts, sameName}
 use Rattle.theory_resolution.specs.Table.{Urn, urn, Table}
 use Rattle.theory_resolution.specs.Direct.{direct, usedOf}
@@ -20,28 +22,8 @@ use Rattle.theory_pairs.proofs.Law.{pair-law}
 use Rattle.table_decode.specs.Tables.{tableRefusal, tableOf, categoryNames}
 use Rattle.table_decode.proofs.Accepting.{accepted}
 use Rattle.resolve_run.specs.Answers.{takenAs}
-use Rattle.resolve_run.proofs.TakenLaws.{names-count, used-of}
+use Rattle.resolve_run.proofs.TakenLaws.{used-of}
 use Rattle.resolve_pair.specs.Claims.{Shared, alone, together, Together, TogetherClaim}
-
--- names of two lists, one after the other
-module _ {A : Type 0} (f : A → A → Bool) (x : A) where
-  member-append : (a b : List A) → memberBy f x (a ++ b) ≡ memberBy f x a || memberBy f x b
-  member-append [] b = refl
-  member-append (y ∷ a) b = go (f x y) (member-append a b)
-    where
-      go : (t : Bool) → memberBy f x (a ++ b) ≡ memberBy f x a || memberBy f x b → t || memberBy f x (a ++ b) ≡ (t || memberBy f x a) || memberBy f x b
-      go true ih = refl
-      go false ih = ih
-
-  index-append : (a b : List A) → indexBy f x (a ++ b) ≡ cond (memberBy f x a) (indexBy f x a) (length a + indexBy f x b)
-  index-append [] b = omega arith
-  index-append (y ∷ a) b = go (f x y) (memberBy f x a) (index-append a b)
-    where
-      go : (t m : Bool) → indexBy f x (a ++ b) ≡ cond m (indexBy f x a) (length a + indexBy f x b)
-          → cond t 0 (suc (indexBy f x (a ++ b))) ≡ cond (t || m) (cond t 0 (suc (indexBy f x a))) (length (y ∷ a) + indexBy f x b)
-      go true m ih = refl
-      go false true ih = ap suc ih
-      go false false ih = omega (arith, ih)
 
 -- a URI's category and path
 abbrev name : List ℕ → Name
@@ -54,12 +36,13 @@ path uri = fields 58 (pathOf (lowered (drop 10 uri)))
 used-both : (a b : List Name) (uri : List ℕ) → usedUrn (a ++ b) uri ≡ pairUri (length a) (usedUrn a uri) (usedUrn b uri)
 unfolding usedUrn
 used-both a b uri =
-    ap₂ (λ m i. cond (alertUrn uri && m) (some (urn i (path uri))) none) (member-append sameName (name uri) a b) (index-append sameName (name uri) a b)
+    ap₂ (λ m i. cond (alertUrn uri && m) (some (urn i (path uri))) none) (member-join sameName (name uri) a b) (index-append sameName (name uri) a b)
     ∙ go (alertUrn uri) (memberBy sameName (name uri) a) (memberBy sameName (name uri) b)
   where
     go : (u s t : Bool)
         → cond (u && (s || t)) (some (urn (cond s (indexBy sameName (name uri) a) (length a + indexBy sameName (name uri) b)) (path uri))) none
-        ≡ pairUri (length a) (cond (u && s) (some (urn (indexBy sameName (name uri) a) (path uri))) none) (cond (u && t) (some (urn (indexBy sameName (name uri) b) (path uri))) none)
+        ≡ pairUri (length a) (cond (u && s) (some (urn (indexBy sameName (name uri) a) (path uri))) none)
+        (cond (u && t) (some (urn (indexBy sameName (name uri) b) (path uri))) none)
     go true true t = refl
     go true false true = refl
     go true false false = refl
@@ -86,7 +69,8 @@ module _ (ring lamp : List ℕ) (zr : tableRefusal ring ≡ 0) (zl : tableRefusa
   law = pair-law R L (accepted ring zr .known) (accepted ring zr .well) (accepted lamp zl .well)
 
   views : (uris : List (List ℕ))
-      → map (usedUrn (categoryNames ring ++ categoryNames lamp)) uris ≡ map (pairBy (R .cats) (usedUrn (categoryNames ring)) (usedUrn (categoryNames lamp))) uris
+      → map (usedUrn (categoryNames ring ++ categoryNames lamp)) uris
+      ≡ map (pairBy (R .cats) (usedUrn (categoryNames ring)) (usedUrn (categoryNames lamp))) uris
   views [] = refl
   views (uri ∷ uris) =
       ap₂ _∷_

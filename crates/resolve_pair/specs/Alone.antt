@@ -2,9 +2,10 @@
 use Prim.Native.Nat.{ℕ, min}
 use mathlib.Core.Bool.{Bool, not}
 use mathlib.Core.List.{List}
-use Rattle.theory_resolution.specs.Lists.{allBelow}
+use Rattle.base_numbers.specs.Numbers.{mostCategories}
+use Rattle.base_lists.specs.Cuts.{stretch}
+use Rattle.base_lists.specs.Lists.{allBelow}
 use Rattle.theory_resolution.specs.Names.{Name, sameName}
-use Rattle.node_search.specs.Arrays.{stretch}
 
 -- the name x is not that of category j
 unfoldable pub otherAt : Name → List ℕ → List ℕ → List ℕ → ℕ → Bool
@@ -16,4 +17,4 @@ noneAt ring rat rlen lamp lat llen n i = allBelow n (otherAt (stretch ring rat r
 
 -- no category of the one table is one of the other's, of at most 8 each
 unfoldable pub apartBy : List ℕ → List ℕ → List ℕ → ℕ → List ℕ → List ℕ → List ℕ → ℕ → Bool
-apartBy ring rat rlen m lamp lat llen n = allBelow (min m 8) (noneAt ring rat rlen lamp lat llen (min n 8))
+apartBy ring rat rlen m lamp lat llen n = allBelow (min m mostCategories) (noneAt ring rat rlen lamp lat llen (min n mostCategories))

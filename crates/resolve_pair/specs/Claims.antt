@@ -5,8 +5,8 @@ use mathlib.Core.Logic.{_↔_}
 use mathlib.Core.Bool.{true}
 use mathlib.Core.List.{List, _++_, map}
 use lib.ListN.{length}
+use Rattle.base_lists.specs.Lists.{memberBy}
 use Rattle.value_reader.specs.Value.{refusalOf}
-use Rattle.theory_resolution.specs.Lists.{memberBy}
 use Rattle.theory_resolution.specs.Names.{Name, sameName}
 use Rattle.theory_resolution.specs.Direct.{direct, usedOf}
 use Rattle.node_search.specs.Uses.{usedUrn}

@@ -4,8 +4,9 @@ use mathlib.Core.Bool.{Bool, cond, not}
 use mathlib.Core.List.{List, []}
 use lib.Dec.{eqb}
 use lib.ListN.{length, getD}
+use Rattle.base_numbers.specs.Numbers.{sharedCategory}
+use Rattle.base_lists.specs.Lists.{allBelow}
 use Rattle.value_reader.specs.Value.{refusalOf, urisOf}
-use Rattle.theory_resolution.specs.Lists.{allBelow}
 use Rattle.theory_resolution.specs.Names.{Name, sameName}
 use Rattle.theory_resolution.specs.Direct.{direct, usedOf}
 use Rattle.table_decode.specs.Tables.{tableRefusal, tableOf, categoryNames}
@@ -28,7 +29,7 @@ abbrev pub pairRefusal : List ℕ → List ℕ → List ℕ → ℕ
 pairRefusal ring lamp v =
     cond (eqb (refusalOf v) 0)
     (cond (eqb (tableRefusal ring) 0)
-    (cond (eqb (tableRefusal lamp) 0) (cond (apart (categoryNames ring) (categoryNames lamp)) 0 24) (tableRefusal lamp))
+    (cond (eqb (tableRefusal lamp) 0) (cond (apart (categoryNames ring) (categoryNames lamp)) 0 sharedCategory) (tableRefusal lamp))
     (tableRefusal ring))
     (refusalOf v)
 

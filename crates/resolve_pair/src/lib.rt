@@ -1,10 +1,11 @@
-// Ring and lamp chosen apart: one value's signal in each of two tables that have no category in common.
+// One value resolved by two tables without a common category: a signal of each, for ring and lamp.
 //
 // In: a ring table, a lamp table and a value, each any bytes. Out: a refusal number, or the two signals.
 //
 //   names.rt  whether the tables have a category in common
 mod names;
 
+use base_numbers::SHARED_CATEGORY;
 use resolve_run::answer::direct;
 use resolve_run::run::at_start;
 use table_decode::Decoded;
@@ -68,7 +69,7 @@ pub fn resolve(ring: &[u8], lamp: &[u8], v: &[u8]) -> Pair
         &l.name_len,
         l.categories,
     ) {
-        return refused(24);
+        return refused(SHARED_CATEGORY);
     }
     let a = alone(ring, r, v);
     let b = alone(lamp, l, v);

@@ -1,6 +1,6 @@
 -- The test of a record: test by test as the code goes, by the arrays of a table, and in words.
-use Prim.Native.Nat.{ℕ, zero, suc, _+_, _≤_, _<_}
-use mathlib.Core.Path.{_≡_, refl, sym, ap, ap₂, _∙_}
+use Prim.Native.Nat.{ℕ, _≤_, _<_}
+use mathlib.Core.Path.{_≡_, refl, sym, ap, _∙_}
 use mathlib.Core.Logic.{inl}
 use mathlib.Core.Bool.{Bool, true, false, cond, _&&_, and-eq-true-iff}
 use mathlib.Core.List.{List}
@@ -8,13 +8,12 @@ use lib.Dec.{eqb, leb, ltb}
 use lib.ListN.{length, getD, List·getD-eq-default}
 use borrow.Author.Tests.{eq-eqb, eqb-true, leb-true, le-leb, lt-leb, lt-ltb, le-ltb, ltb-true, ltb-false}
 use native.Mathlib.Decide.{decLt}
-use native.Mathlib.Numerals.{add-one}
 use native.Mathlib.Omega.{arith}
-use Rattle.base_text.proofs.Fields.{byTest}
-use Rattle.theory_resolution.specs.Lists.{allBelow}
+use Rattle.base_lists.proofs.Below.{all-to, all-of, all-same}
+use Rattle.base_lists.specs.Lists.{allBelow}
+use Rattle.base_lists.proofs.Bools.{byTest}
 use Rattle.theory_resolution.specs.Table.{Table, WellFormed, place}
 use Rattle.theory_resolution.specs.Nodes.{nodes}
-use Rattle.theory_resolution.proofs.Lists.{all-to, all-of, all-stop}
 use Rattle.node_search.specs.Arrays.{NodesIn, InnerIn}
 use Rattle.node_step.specs.Rows.{Numbers}
 use Rattle.node_step.specs.StatusByte as node
@@ -35,22 +34,6 @@ module _ (rows ps : List ℕ) (inner : List Bool) (category : List ℕ) (n cats 
   unfolding statusBy
   status-lacking h = simp (le-ltb c cats h)
 
--- the loop over them
-module _ (f : ℕ → Bool) (c : ℕ) where
-  pub all-next : {b : Bool} → allBelow c f ≡ true → b ≡ f c → b ≡ true → allBelow (c + 1) f ≡ true
-  unfolding allBelow
-  all-next h e t = rw (add-one c) (and-eq-true-iff (allBelow c f) (f c) .1 (h, sym e ∙ t))
-
-  pub all-fails : {b : Bool} (n : ℕ) → c < n → b ≡ f c → b ≡ false → false ≡ allBelow n f
-  all-fails n h e t = sym (all-stop n f c h (sym e ∙ t))
-
-  pub all-done : (n : ℕ) → c ≤ n → n ≤ c → allBelow c f ≡ true → true ≡ allBelow n f
-  all-done n h k e = let z : c ≡ n = omega arith in sym (ap (λ m. allBelow m f) (sym z) ∙ e)
-
-pub all-none : (f : ℕ → Bool) → allBelow 0 f ≡ true
-unfolding allBelow
-all-none f = refl
-
 -- a record, test by test
 module _ (rows ps : List ℕ) (inner : List Bool) (category : List ℕ) (n signals cats : ℕ) (r : Carried) where
   pub fits-signal : signals ≤ r .signal → false ≡ fitsBy rows ps inner category n signals cats r
@@ -62,17 +45,14 @@ module _ (rows ps : List ℕ) (inner : List Bool) (category : List ℕ) (n signa
     unfolding fitsBy
     fits-values k = simp (lt-ltb (r .signal) signals h, lt-leb (r .values) 16 k)
 
-    pub fits-rest : {b : Bool} → r .values ≤ 16 → b ≡ allBelow 8 (statusAt rows ps inner category n cats (r .signal) (r .status)) → b ≡ fitsBy rows ps inner category n signals cats r
+    pub fits-rest : {b : Bool} → r .values ≤ 16 → b ≡ allBelow 8 (statusAt rows ps inner category n cats (r .signal) (r .status))
+        → b ≡ fitsBy rows ps inner category n signals cats r
     unfolding fitsBy
     fits-rest k e = simp (lt-ltb (r .signal) signals h, le-leb (r .values) 16 k) e
 
-all-same : (n : ℕ) (f g : ℕ → Bool) → ((k : ℕ) → k < n → f k ≡ g k) → allBelow n f ≡ allBelow n g
-unfolding allBelow
-all-same zero f g h = refl
-all-same (suc n) f g h = ap₂ _&&_ (all-same n f g (λ k i. h k (omega arith))) (h n (omega arith))
-
 -- by the arrays of a table it is the test of the table
-module _ (t ca pos len : List ℕ) (n : ℕ) (T : Table) (ni : NodesIn t ca pos len n T) (wf : WellFormed T) (rows ps : List ℕ) (signals : ℕ) (nu : Numbers rows ps signals T)
+module _ (t ca pos len : List ℕ) (n : ℕ) (T : Table) (ni : NodesIn t ca pos len n T) (wf : WellFormed T) (rows ps : List ℕ) (signals : ℕ)
+    (nu : Numbers rows ps signals T)
     (inner : List Bool) (ii : InnerIn inner T) (r : Carried) (wide : length (r .status) ≡ 8) where
   status-right : r .signal < signals → (c : ℕ) → statusAt rows ps inner ca n (T .cats) (r .signal) (r .status) c ≡ statusFits T r c
   unfolding statusBy
@@ -96,7 +76,8 @@ module _ (t ca pos len : List ℕ) (n : ℕ) (T : Table) (ni : NodesIn t ca pos 
       go true e =
           let h : r .signal < signals = omega (arith, ltb-true (r .signal) (length (T .signals)) e, nu .all-signals) in
           ap (λ z. leb (r .values) 16 && z)
-          (all-same 8 (statusAt rows ps inner ca n (T .cats) (r .signal) (r .status)) (statusFits T r) (λ c i. status-right h c) ∙ ap (λ m. allBelow m (statusFits T r)) (sym wide))
+          (all-same 8 (statusAt rows ps inner ca n (T .cats) (r .signal) (r .status)) (statusFits T r) (λ c i. status-right h c)
+          ∙ ap (λ m. allBelow m (statusFits T r)) (sym wide))
 
 -- what a record that fits has
 pub fits-to : (T : Table) (r : Carried) → carriedFits T r ≡ true → Fits T r
@@ -124,7 +105,12 @@ fits-exactly T r = (to, from)
     to : carriedFits T r ≡ true → Fitting T r
     to e =
         let f = fits-to T r e in
-        record { signal = f .signal; values = f .values; known = λ c h. known f c h (decLt c (length (r .status))); lacking = λ c h. lacking f c h (decLt c (length (r .status))) }
+        record {
+          signal = f .signal;
+          values = f .values;
+          known = λ c h. known f c h (decLt c (length (r .status)));
+          lacking = λ c h. lacking f c h (decLt c (length (r .status)));
+        }
       where
         past : (c : ℕ) → length (r .status) ≤ c → getD (r .status) c 0 ≡ 0
         past c h = List·getD-eq-default (r .status) 0 h

@@ -9,12 +9,13 @@ use borrow.Author.Tests.{eq-eqb, eqb-true}
 use native.Mathlib.Decide.{ℕ-discrete, decLt}
 use native.Mathlib.Nat.{zero-add}
 use native.Mathlib.Omega.{arith}
-use Rattle.theory_resolution.specs.Lists.{tabulate}
+use Rattle.base_numbers.specs.Numbers.{mostNodes}
+use Rattle.base_lists.proofs.Tabulated.{tabulate-length, tabulate-at, tabulate-same, tabulate-entries}
+use Rattle.base_lists.specs.Lists.{tabulate}
 use Rattle.theory_resolution.specs.Table.{Table, place, rowOf}
 use Rattle.theory_resolution.specs.Nodes.{nodes}
 use Rattle.theory_resolution.specs.Direct.{Open, State, start, StateOf}
 use Rattle.theory_resolution.specs.Direct as direct
-use Rattle.theory_resolution.proofs.Lists.{tabulate-length, tabulate-at, tabulate-same}
 use Rattle.theory_resolution.proofs.Table.{row-place}
 use Rattle.theory_resolution.proofs.TableStep.{state-of, state-signal}
 use Rattle.node_step.specs.declared.Status.the-variants as node
@@ -24,7 +25,6 @@ use Rattle.node_step.proofs.ProgressLaws.{progress-length, progress-at}
 use Rattle.node_step.proofs.Both.{coded-at}
 use Rattle.machine_image.specs.Image.{statusByte}
 use Rattle.machine_image.specs.Image as image
-use Rattle.machine_image.proofs.Joined.{tabulate-entries}
 use Rattle.machine_image.proofs.Statuses.{byte-coded, byte-fits, status-read, status-formed, status-coded}
 use Rattle.resolve_record.specs.declared.Carried.{Carried}
 use Rattle.resolve_record.specs.Record.{fresh, statusIn, byteIn, stateIn, carriedAs, statusFits, CarriedBack}
@@ -72,7 +72,8 @@ module _ (T : Table) (few : T .cats ≤ 8) where
     pub state-coded : stateWith r ≡ coded T (stateIn T r)
     state-coded =
         ap (λ l. record { signal = r .signal; categories = l })
-        (tabulate-entries (record { status = node.Open }) (coded T (stateIn T r) .categories) (progressAt (r .status)) 8 (progress-length (nodes T) (stateIn T r .status) 0 8)
+        (tabulate-entries (record { status = node.Open }) (coded T (stateIn T r) .categories) (progressAt (r .status)) 8
+        (progress-length (nodes T) (stateIn T r .status) 0 8)
         (λ c h. ap (λ s. record { status = s }) (at-category c h)
         ∙ sym (progress-at (nodes T) (stateIn T r .status) 0 8 c (record { status = node.Open }) h
         ∙ ap (λ z. record { status = codedStatus (nodes T) z (getD (stateIn T r .status) z Open) }) (zero-add c))))
@@ -118,7 +119,7 @@ module _ (T : Table) (few : T .cats ≤ 8) where
   as-wide st n = tabulate-length (byteIn T st) 8
 
   -- the code's state, carried
-  pub carried-coded : length (nodes T) ≤ 64 → (st : State) (n : ℕ) → carriedWith (coded T st) n ≡ carriedAs T st n
+  pub carried-coded : length (nodes T) ≤ mostNodes → (st : State) (n : ℕ) → carriedWith (coded T st) n ≡ carriedAs T st n
   carried-coded nodes-few st n =
       ap (λ l. record { signal = st .signal; status = l; values = n })
       (tabulate-same (byteAt (coded T st .categories)) (byteIn T st) 8

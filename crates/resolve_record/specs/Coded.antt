@@ -6,7 +6,8 @@ use mathlib.Core.Bool.{Bool, true, cond, _&&_}
 use mathlib.Core.List.{List}
 use lib.Dec.{eqb, leb, ltb}
 use lib.ListN.{length, getD}
-use Rattle.theory_resolution.specs.Lists.{tabulate, allBelow}
+use Rattle.base_numbers.specs.Numbers.{mostCategories, mostValues}
+use Rattle.base_lists.specs.Lists.{tabulate, allBelow}
 use Rattle.theory_resolution.specs.Table.{Table}
 use Rattle.node_step.specs.declared.Progress.{Progress}
 use Rattle.node_step.specs.declared.State.{State}
@@ -27,12 +28,12 @@ statusAt rows ps inner category nodes cats s l c = statusBy rows ps inner catego
 -- a record fits so many signals and categories
 unfoldable pub fitsBy : List ℕ → List ℕ → List Bool → List ℕ → ℕ → ℕ → ℕ → Carried → Bool
 fitsBy rows ps inner category nodes signals cats r =
-    ltb (r .signal) signals && (leb (r .values) 16 && allBelow 8 (statusAt rows ps inner category nodes cats (r .signal) (r .status)))
+    ltb (r .signal) signals && (leb (r .values) mostValues && allBelow mostCategories (statusAt rows ps inner category nodes cats (r .signal) (r .status)))
 
 -- what a record has that fits a table
 pub record Fits (T : Table) (r : Carried) : Type 0 where
   pub signal : r .signal < length (T .signals)
-  pub values : r .values ≤ 16
+  pub values : r .values ≤ mostValues
   pub statuses : (c : ℕ) → c < length (r .status) → statusFits T r c ≡ true
 
 -- the progress that a byte says, and the byte of a category
@@ -44,7 +45,7 @@ byteAt l c = byteOf (statusIn l c)
 
 -- the state that a record carries, and a state as it is carried after n values
 abbrev pub stateWith : Carried → State
-stateWith r = record { signal = r .signal; categories = tabulate (progressAt (r .status)) 8 }
+stateWith r = record { signal = r .signal; categories = tabulate (progressAt (r .status)) mostCategories }
 
 abbrev pub carriedWith : State → ℕ → Carried
-carriedWith st n = record { signal = st .signal; status = tabulate (byteAt (st .categories)) 8; values = n }
+carriedWith st n = record { signal = st .signal; status = tabulate (byteAt (st .categories)) mostCategories; values = n }

@@ -1,13 +1,18 @@
 // What is carried between the values of one message: a record by value, and for C its ten bytes.
 //
 // In: a record, any bytes. Out: whether a table can go on from it; the state of direct resolution in it, and back.
+use base_numbers::MOST_CATEGORIES;
+use base_numbers::MOST_NODES;
+use base_numbers::MOST_SIGNALS;
+use base_numbers::MOST_VALUES;
 use node_step::Progress;
 use node_step::State;
 use node_step::stored::byte_of;
 use node_step::stored::progress_of;
 ghost use mathlib.Core.Path.{_≡_};
 ghost use lib.ListN.{length};
-ghost use Rattle.theory_resolution.specs.Lists.{tabulate, allBelow};
+ghost use Rattle.base_numbers.specs.Numbers.{mostCategories};
+ghost use Rattle.base_lists.specs.Lists.{tabulate, allBelow};
 ghost use Rattle.resolve_record.specs.Record.{fresh as freshRecord, carriedIn, carriedBytes};
 ghost use Rattle.resolve_record.specs.Coded.{statusBy, statusAt, fitsBy, progressAt, byteAt, stateWith, carriedWith};
 
@@ -15,7 +20,7 @@ ghost use Rattle.resolve_record.specs.Coded.{statusBy, statusAt, fitsBy,
 // zero before the first.
 pub struct Carried {
     pub signal: u8,
-    pub status: [u8; 8],
+    pub status: [u8; MOST_CATEGORIES],
     pub values: u8,
 }
 
@@ -25,17 +30,17 @@ pub fn fresh() -> Carried
 {
     Carried {
         signal: 0,
-        status: [0u8; 8],
+        status: [0u8; MOST_CATEGORIES],
         values: 0,
     }
 }
 
 // Category c can have the status b at signal s; one that the table lacks is 0.
 fn status_fits<'a>(
-    rows: &'a [u64; 32],
-    parents: &'a [u8; 64],
-    inner: &'a [bool; 64],
-    category: &'a [u8; 64],
+    rows: &'a [u64; MOST_SIGNALS],
+    parents: &'a [u8; MOST_NODES],
+    inner: &'a [bool; MOST_NODES],
+    category: &'a [u8; MOST_NODES],
     nodes: usize,
     categories: usize,
     s: u8,
@@ -52,20 +57,20 @@ fn status_fits<'a>(
 
 // Each category has a status that it can have at signal s.
 fn statuses_fit<'a>(
-    rows: &'a [u64; 32],
-    parents: &'a [u8; 64],
-    inner: &'a [bool; 64],
-    category: &'a [u8; 64],
+    rows: &'a [u64; MOST_SIGNALS],
+    parents: &'a [u8; MOST_NODES],
+    inner: &'a [bool; MOST_NODES],
+    category: &'a [u8; MOST_NODES],
     nodes: usize,
     categories: usize,
     s: u8,
-    status: &[u8; 8],
+    status: &[u8; MOST_CATEGORIES],
 ) -> bool
-    requires { ⌜ length (now status) ≡ 8 ⌝ }
-    ensures { λ r. ⌜ r ≡ allBelow 8 (statusAt (now (rows .entry)) (now (parents .entry)) (now (inner .entry)) (now (category .entry)) nodes categories s (now (status .entry))) ⌝ }
+    requires { ⌜ length (now status) ≡ mostCategories ⌝ }
+    ensures { λ r. ⌜ r ≡ allBelow mostCategories (statusAt (now (rows .entry)) (now (parents .entry)) (now (inner .entry)) (now (category .entry)) nodes categories s (now (status .entry))) ⌝ }
 {
     let mut c: usize = 0;
-    while c < 8 {
+    while c < MOST_CATEGORIES {
         let b = status[c];
         if !status_fits(rows, parents, inner, category, nodes, categories, s, c, b) {
             return false;
@@ -78,17 +83,17 @@ fn statuses_fit<'a>(
 // A table with these places, parents, inner nodes and categories of nodes, and so many nodes, signals and categories, can go
 // on from this record: it names a signal, and has at most 16 values and statuses that fit.
 pub fn fits<'a>(
-    rows: &'a [u64; 32],
-    parents: &'a [u8; 64],
-    inner: &'a [bool; 64],
-    category: &'a [u8; 64],
+    rows: &'a [u64; MOST_SIGNALS],
+    parents: &'a [u8; MOST_NODES],
+    inner: &'a [bool; MOST_NODES],
+    category: &'a [u8; MOST_NODES],
     nodes: usize,
     signals: usize,
     categories: usize,
     carried: Carried,
 ) -> bool
     ensures says { λ r. ⌜ r ≡ fitsBy (now (rows .entry)) (now (parents .entry)) (now (inner .entry)) (now (category .entry)) nodes signals categories carried ⌝ }
-    ensures wide { λ _. ⌜ length (carried .status) ≡ 8 ⌝ }
+    ensures wide { λ _. ⌜ length (carried .status) ≡ mostCategories ⌝ }
 {
     let status = carried.status;
     let s = carried.signal;
@@ -96,7 +101,7 @@ pub fn fits<'a>(
     if signals <= signal {
         return false;
     }
-    if 16 < carried.values {
+    if MOST_VALUES < carried.values {
         return false;
     }
     statuses_fit(
@@ -112,14 +117,14 @@ pub fn fits<'a>(
 }
 
 // The progress of each category.
-fn progress_in(status: &[u8; 8]) -> [Progress; 8]
-    requires { ⌜ length (now status) ≡ 8 ⌝ }
-    ensures { λ r. ⌜ r ≡ tabulate (progressAt (now (status .entry))) 8 ⌝ }
+fn progress_in(status: &[u8; MOST_CATEGORIES]) -> [Progress; MOST_CATEGORIES]
+    requires { ⌜ length (now status) ≡ mostCategories ⌝ }
+    ensures { λ r. ⌜ r ≡ tabulate (progressAt (now (status .entry))) mostCategories ⌝ }
 {
     let open = progress_of(0);
-    let mut categories = [open; 8];
+    let mut categories = [open; MOST_CATEGORIES];
     let mut c: usize = 0;
-    while c < 8 {
+    while c < MOST_CATEGORIES {
         let b = status[c];
         let progress = progress_of(b);
         categories[c] = progress;
@@ -141,12 +146,12 @@ pub fn state(carried: Carried) -> State
 }
 
 // The byte of each category.
-fn bytes_of(categories: [Progress; 8]) -> [u8; 8]
-    ensures { λ r. ⌜ r ≡ tabulate (byteAt categories) 8 ⌝ }
+fn bytes_of(categories: [Progress; MOST_CATEGORIES]) -> [u8; MOST_CATEGORIES]
+    ensures { λ r. ⌜ r ≡ tabulate (byteAt categories) mostCategories ⌝ }
 {
-    let mut status = [0u8; 8];
+    let mut status = [0u8; MOST_CATEGORIES];
     let mut c: usize = 0;
-    while c < 8 {
+    while c < MOST_CATEGORIES {
         let progress = categories[c];
         let b = byte_of(progress);
         status[c] = b;

@@ -8,11 +8,13 @@ use lib.ListN.{length, length-map}
 use lib.Dec.{eqb, ltb}
 use borrow.Author.Tests.{lt-ltb, le-ltb, eq-eqb, ne-eqb, ltb-true, ltb-false, eqb-true, eqb-false}
 use native.Mathlib.Omega.{arith}
+use Rattle.base_numbers.specs.Numbers.{mostEntries, mostValueBytes}
+use Rattle.base_lists.proofs.Numbers.{pos-of-ne}
+use Rattle.base_lists.proofs.Bools.{byTest}
 use Rattle.value_cursor.specs.Reading.{Reading, unfit, spans, readingFrom, readingOf}
 use Rattle.value_cursor.proofs.ReadingLaws.{reading-start}
 use Rattle.value_reader.specs.Value.{partOf, refusalOf, urisOf}
 use Rattle.value_reader.proofs.ValueLaws.{refusal-long, refusal-unfit, refusal-many, refusal-none, accepted-uris}
-use Rattle.base_text.proofs.Fields.{byTest}
 use Rattle.theory_resolution.specs.Table.{Urn, Table}
 use Rattle.theory_resolution.specs.Direct.{usedOf, usedCount, skippedCount}
 use Rattle.table_decode.specs.Tables.{tableRefusal}
@@ -57,17 +59,14 @@ module _ (o : Outcome) (s : ℕ) where
   answer-unfit e = simp e
 
   module _ (fits : o .fits ≡ true) where
-    pub answer-many : 64 < o .point .used + o .point .skipped → refused 3 ≡ answerOf o s
+    pub answer-many : mostEntries < o .point .used + o .point .skipped → refused 3 ≡ answerOf o s
     unfolding answerOf
-    answer-many h = simp (fits, lt-ltb 64 (o .point .used + o .point .skipped) h)
+    answer-many h = simp (fits, lt-ltb mostEntries (o .point .used + o .point .skipped) h)
 
-    pub answer-given : o .point .used + o .point .skipped ≤ 64
+    pub answer-given : o .point .used + o .point .skipped ≤ mostEntries
         → record { refusal = 0; signal = s; used = o .point .used; skipped = o .point .skipped } ≡ answerOf o s
     unfolding answerOf
-    answer-given h = simp (fits, le-ltb 64 (o .point .used + o .point .skipped) h)
-
-pub pos-of-ne : {n : ℕ} → (n ≡ 0 → ⊥) → 0 < n
-pos-of-ne {n} h = omega arith
+    answer-given h = simp (fits, le-ltb mostEntries (o .point .used + o .point .skipped) h)
 
 -- a refused table's answer: the value's number comes first
 pub refused-first : (t v : List ℕ) (r : Resolution) {k : ℕ} → k ≡ tableRefusal t → (k ≡ 0 → ⊥)
@@ -88,7 +87,8 @@ pub data End (t v : List ℕ) (m : Machine) (x : Current) (e : Ended) : Type 0 w
   taken : refusalOf v ≡ 0 → e .last ≡ x → e .answer ≡ answered t (urisOf v) (signalNow (m .categories) (m .image) x) → End t v m x e
 
 module _ (t : List ℕ) (T : Table) (d : Decoded) (h : Reads t T d) (m : Machine) (v : List ℕ)
-    {S : Type 0} (valid : S → Type 0) (f : S → Urn → S) (shown : S → Current) (steps : Steps t T d h m valid f shown) (s : S) (ok : valid s) (untried : begin (shown s) ≡ record { current = shown s; used = 0; skipped = 0 }) where
+    {S : Type 0} (valid : S → Type 0) (f : S → Urn → S) (shown : S → Current) (steps : Steps t T d h m valid f shown) (s : S)
+    (ok : valid s) (untried : begin (shown s) ≡ record { current = shown s; used = 0; skipped = 0 }) where
   abbrev given : List (List ℕ) → List Urn
   given uris = usedOf (takenAs t uris)
 
@@ -99,7 +99,7 @@ module _ (t : List ℕ) (T : Table) (d : Decoded) (h : Reads t T d) (m : Machine
   first = record { current = shown s; used = 0; skipped = 0 }
 
   -- the run over a reading of the value
-  by-reading : length v ≤ 4096 → (r : Reading) → readingOf v ≡ r → Ran t v end (runOf first (over v (after t d m) first r))
+  by-reading : length v ≤ mostValueBytes → (r : Reading) → readingOf v ≡ r → Ran t v end (runOf first (over v (after t d m) first r))
   unfolding over answerOf
   by-reading short unfit e =
       let z = refusal-unfit v short unfit e refl in
@@ -129,26 +129,26 @@ module _ (t : List ℕ) (T : Table) (d : Decoded) (h : Reads t T d) (m : Machine
           let b : 0 + skipped ≡ skipped = omega arith in
           ap₂ (λ (x y : ℕ). record { current = last .current; used = x; skipped = y }) a b
 
-      many : 64 < length ps → Ran t v end (record { fits = true; point = last })
+      many : mostEntries < length ps → Ran t v end (record { fits = true; point = last })
       many k =
           let z = refusal-many v short (spans ps) e ps refl k in
           not-run (λ q. omega arith)
           (λ n. ap (λ b. cond b (refused 3) (record { refusal = 0; signal = n; used = used; skipped = skipped }))
-          (lt-ltb 64 (used + skipped) (omega (arith, all))) ∙ ap refused (sym z))
+          (lt-ltb mostEntries (used + skipped) (omega (arith, all))) ∙ ap refused (sym z))
 
-      same : urisOf v ≡ uris → length ps ≤ 64 → Ran t v end (record { fits = true; point = last })
+      same : urisOf v ≡ uris → length ps ≤ mostEntries → Ran t v end (record { fits = true; point = last })
       same u k =
           run-to (refusal-none v short (spans ps) e ps refl k) (ap (λ l. shown (foldl f s (given l))) (sym u))
           (λ n. ap (λ b. cond b (refused 3) (record { refusal = 0; signal = n; used = used; skipped = skipped }))
-          (le-ltb 64 (used + skipped) (omega (arith, all))) ∙ ap (λ l. answered t l n) (sym u))
+          (le-ltb mostEntries (used + skipped) (omega (arith, all))) ∙ ap (λ l. answered t l n) (sym u))
 
       counted : Ran t v end (record { fits = true; point = last })
       counted =
-          byTest (ltb 64 (length ps)) (λ q. many (ltb-true 64 (length ps) q))
-          (λ q. let k : length ps ≤ 64 = ltb-false 64 (length ps) q in same (accepted-uris v short (spans ps) e ps refl k) k)
+          byTest (ltb mostEntries (length ps)) (λ q. many (ltb-true mostEntries (length ps) q))
+          (λ q. let k : length ps ≤ mostEntries = ltb-false mostEntries (length ps) q in same (accepted-uris v short (spans ps) e ps refl k) k)
 
   -- the whole run
-  run-ends : length v ≤ 4096 → Ran t v end (runFrom t d m v (begin (shown s)) 0)
+  run-ends : length v ≤ mostValueBytes → Ran t v end (runFrom t d m v (begin (shown s)) 0)
   unfolding runFrom
   run-ends short =
       subst (λ (p : Point). Ran t v end (runOf p (over v (after t d m) p (readingFrom v 0)))) (sym untried)
@@ -166,12 +166,12 @@ module _ (t : List ℕ) (T : Table) (d : Decoded) (h : Reads t T d) (m : Machine
   unfolding endedFrom
   value-ends f q =
       subst (End t v m end) (sym (q ∙ ap (λ (x : Current). endedFrom t d m x v) f))
-      (byTest (ltb 4096 (length v))
-      (λ b. let z = refusal-long v (ltb-true 4096 (length v) b) in
+      (byTest (ltb mostValueBytes (length v))
+      (λ b. let z = refusal-long v (ltb-true mostValueBytes (length v) b) in
       subst (End t v m end) (sym (ap (λ b. cond b (record { answer = refused 1; last = shown s }) (endOf m (runFrom t d m v (begin (shown s)) 0))) b))
       (not-taken (λ n. omega arith) (ap refused (sym z))))
       (λ b. subst (End t v m end) (sym (ap (λ b. cond b (record { answer = refused 1; last = shown s }) (endOf m (runFrom t d m v (begin (shown s)) 0))) b))
-      (by-run (runFrom t d m v (begin (shown s)) 0) (run-ends (ltb-false 4096 (length v) b)))))
+      (by-run (runFrom t d m v (begin (shown s)) 0) (run-ends (ltb-false mostValueBytes (length v) b)))))
 
 -- the answer where the table is not refused
 pub end-answer : (t v : List ℕ) (m : Machine) (x : Current) (e : Ended) → tableRefusal t ≡ 0 → End t v m x e
@@ -181,14 +181,14 @@ end-answer t v m x e formed (taken z l a) = a ∙ none-refused t v _ z formed
 
 -- a value of over 4,096 bytes, and the answer of a run put together
 module _ (t : List ℕ) (d : Decoded) (m : Machine) (x : Current) (v : List ℕ) where
-  pub ended-long : 4096 < length v → {r : Resolution} → r ≡ refused 1 → record { answer = r; last = x } ≡ endedFrom t d m x v
+  pub ended-long : mostValueBytes < length v → {r : Resolution} → r ≡ refused 1 → record { answer = r; last = x } ≡ endedFrom t d m x v
   unfolding endedFrom
-  ended-long h e = simp (lt-ltb 4096 (length v) h) (ap (λ (r : Resolution). record { answer = r; last = x }) e)
+  ended-long h e = simp (lt-ltb mostValueBytes (length v) h) (ap (λ (r : Resolution). record { answer = r; last = x }) e)
 
-  pub ended-steps : length v ≤ 4096 → {p : Point} (o : Outcome) {s : ℕ} {r : Resolution} → p ≡ begin x → o ≡ runFrom t d m v p 0
+  pub ended-steps : length v ≤ mostValueBytes → {p : Point} (o : Outcome) {s : ℕ} {r : Resolution} → p ≡ begin x → o ≡ runFrom t d m v p 0
       → s ≡ signalNow (m .categories) (m .image) (o .point .current) → r ≡ answerOf o s → record { answer = r; last = o .point .current } ≡ endedFrom t d m x v
   unfolding endedFrom
   ended-steps h o f e g q =
-      simp (le-ltb 4096 (length v) h)
+      simp (le-ltb mostValueBytes (length v) h)
       (ap (λ (r : Resolution). record { answer = r; last = o .point .current }) (q ∙ ap (answerOf o) g)
       ∙ ap (endOf m) (e ∙ ap (λ (p : Point). runFrom t d m v p 0) f))

@@ -62,7 +62,8 @@ module _ (t : List ℕ) (d : Decoded) (h : Holds t (tableOf t) d) (m : Machine) 
       record {
         moves = λ x u g w.
             ap₂ (λ (s : State) (n : ℕ). Direct s (x .count + n))
-            (step-direct (d .rows) (d .parent) (d .inner) (d .signals) table (h .well-formed) (h .numbers) (h .inner) (x .at) (state-valid table (x .at) g) u (w .known))
+            (step-direct (d .rows) (d .parent) (d .inner) (d .signals) table (h .well-formed) (h .numbers) (h .inner) (x .at)
+            (state-valid table (x .at) g) u (w .known))
             (tries-direct (d .rows) (d .parent) (d .inner) (d .signals) table (h .well-formed) (h .numbers) (h .inner) (x .at) g u (w .known));
         stays = λ x u g w. state-step table (h .well-formed) (x .at) u g;
       }
@@ -79,7 +80,8 @@ module _ (t : List ℕ) (d : Decoded) (h : Holds t (tableOf t) d) (m : Machine) 
 
   -- from signal 0 with every category open
   pub plain-ends : (v : List ℕ) → {x : Current} → x ≡ Direct startNow 0 → {e : Ended} → e ≡ endedFrom t d m x v
-      → End t v m (Direct (coded table (direct.direct table (usedOf (takenAs t (urisOf v))))) (triesOver table (start (table .cats)) (usedOf (takenAs t (urisOf v))))) e
+      → End t v m (Direct (coded table (direct.direct table (usedOf (takenAs t (urisOf v)))))
+      (triesOver table (start (table .cats)) (usedOf (takenAs t (urisOf v))))) e
   plain-ends v f q =
       direct-ends v (start (table .cats)) (state-start table (h .well-formed))
       (f ∙ ap (λ (x : State). Direct x 0) (sym (coded-start table (table .cats)))) q

@@ -27,7 +27,8 @@ pub record Reads (t : List ℕ) (T : Table) (d : Decoded) : Type 0 where
 pub holds-reads : (t : List ℕ) (T : Table) (d : Decoded) → Holds t T d → Reads t T d
 holds-reads t T d h =
     record {
-      uses = uses-right t T (d .«name_at») (d .«name_len») (d .categories) (categoryNames t) (d .category) (d .at) (d .len) (d .nodes) (h .names) (h .nodes) (d .shared) (h .shared) (d .inner) (h .inner);
+      uses = uses-right t T (d .«name_at») (d .«name_len») (d .categories) (categoryNames t) (d .category) (d .at) (d .len) (d .nodes)
+          (h .names) (h .nodes) (d .shared) (h .shared) (d .inner) (h .inner);
       used = λ uri u e. let k = used-urn (categoryNames t) uri u e in
           record { known = omega (arith, k .0, h .names .all-names, h .categories); some-part = k .1 };
     }
@@ -36,7 +37,8 @@ module _ (t : List ℕ) (T : Table) (d : Decoded) (h : Reads t T d) (m : Machine
   -- what a run needs of one step: f on the states s of a kind that `shown` shows as the code has them
   pub record Steps {S : Type 0} (valid : S → Type 0) (f : S → Urn → S) (shown : S → Current) : Type 0 where
     pub moves : (s : S) (u : Urn) → valid s → Used T u
-        → moved (d .rows) (d .parent) (d .inner) (d .signals) (d .nodes) m (shown s) (u .cat) (number (nodes T) (u .cat) (deepest (nodes T) (u .cat) (u .path))) (sameParts (deepest (nodes T) (u .cat) (u .path)) (u .path)) ≡ shown (f s u)
+        → moved (d .rows) (d .parent) (d .inner) (d .signals) m (shown s) (u .cat)
+        (number (nodes T) (u .cat) (deepest (nodes T) (u .cat) (u .path))) (sameParts (deepest (nodes T) (u .cat) (u .path)) (u .path)) ≡ shown (f s u)
     pub stays : (s : S) (u : Urn) → valid s → Used T u → valid (f s u)
 
   module _ {S : Type 0} (valid : S → Type 0) (f : S → Urn → S) (shown : S → Current) (steps : Steps valid f shown) where
@@ -50,7 +52,7 @@ module _ (t : List ℕ) (T : Table) (d : Decoded) (h : Reads t T d) (m : Machine
     unfolding after
     run-fold [] s a b v = let p : a ≡ a + 0 = omega arith in let q : b ≡ b + 0 = omega arith in ap₂ (at s) p q
     run-fold (uri ∷ uris) s a b v =
-        ap (λ u. foldl (after t d m) (afterUse (d .rows) (d .parent) (d .inner) (d .signals) (d .nodes) m (at s a b) u) uris)
+        ap (λ u. foldl (after t d m) (afterUse (d .rows) (d .parent) (d .inner) (d .signals) m (at s a b) u) uris)
         (h .uses uri)
         ∙ go (usedUrn (categoryNames t) uri) refl (run-fold uris)
       where
@@ -58,7 +60,7 @@ module _ (t : List ℕ) (T : Table) (d : Decoded) (h : Reads t T d) (m : Machine
             → ((s : S) (a b : ℕ) → valid s
             → foldl (after t d m) (at s a b) uris
             ≡ at (foldl f s (usedOf (takenAs t uris))) (a + usedCount (takenAs t uris)) (b + skippedCount (takenAs t uris)))
-            → foldl (after t d m) (afterUse (d .rows) (d .parent) (d .inner) (d .signals) (d .nodes) m (at s a b) (useOf T o)) uris
+            → foldl (after t d m) (afterUse (d .rows) (d .parent) (d .inner) (d .signals) m (at s a b) (useOf T o)) uris
             ≡ at (foldl f s (usedOf (o ∷ takenAs t uris))) (a + usedCount (o ∷ takenAs t uris)) (b + skippedCount (o ∷ takenAs t uris))
         go none e ih =
             let q : b + 1 + skippedCount (takenAs t uris) ≡ b + suc (skippedCount (takenAs t uris)) = omega arith in

@@ -1,34 +1,25 @@
 -- Lists of URIs as a stored table takes them.
-use Prim.Native.Nat.{ℕ, zero, suc, _<_}
+use Prim.Native.Nat.{ℕ, _<_}
 use mathlib.Core.Path.{_≡_, refl, sym, ap, _∙_}
 use mathlib.Core.Logic.{_⊎_, inl, inr, _≢_}
 use mathlib.Core.Bool.{Bool, true, false, cond, _&&_, and-eq-true-iff}
 use mathlib.Core.Option.{Option, none, some}
-use mathlib.Core.List.{List, [], _∷_, _++_, map, List·Memᴰ, List·Memᴰ·cases-cons, List·Memᴰ·not-nil}
-use lib.ListN.{length, take, drop}
+use mathlib.Core.List.{List, [], _∷_, List·Memᴰ, List·Memᴰ·cases-cons, List·Memᴰ·not-nil}
+use lib.ListN.{length, drop}
 use native.Mathlib.Omega.{arith}
-use Rattle.theory_resolution.specs.Lists.{memberBy, indexBy}
+use Rattle.table_decode.proofs.Judging.{names-count}
+use Rattle.base_lists.proofs.Lists.{index-member}
+use Rattle.base_lists.specs.Lists.{memberBy, indexBy}
 use Rattle.theory_resolution.specs.Names.{Name, Parts, sameName}
 use Rattle.theory_resolution.specs.Table.{Urn}
 use Rattle.theory_resolution.specs.Direct.{usedOf, Used, AllUsed}
-use Rattle.theory_resolution.proofs.Lists.{index-member}
 use Rattle.theory_resolution.proofs.Names.{name-exact}
 use Rattle.base_text.specs.Text.{fields, lowered}
 use Rattle.urn_names.specs.Urn.{alertUrn, categoryOf, pathOf}
 use Rattle.base_text.proofs.Fields.{fields-first}
 use Rattle.node_search.specs.Uses.{usedUrn}
-use Rattle.table_sections.specs.Stored.{Read, fault, got, Stored, stored}
-use Rattle.table_decode.specs.Tables.{tableOf, tableRead, categoryNames, namesRead}
+use Rattle.table_decode.specs.Tables.{tableOf, categoryNames}
 use Rattle.resolve_run.specs.Answers.{takenAs}
-
--- each category has a name
-pub names-count : (t : List ℕ) → length (categoryNames t) ≡ tableOf t .cats
-unfolding categoryNames namesRead tableOf tableRead
-names-count t = go (stored t)
-  where
-    go : (r : Read Stored) → length (namesRead r) ≡ tableRead r .cats
-    go (fault k) = refl
-    go (got s p) = refl
 
 -- a path cut at colons has at least one part
 some-field : (s : List ℕ) → fields 58 s ≢ []
@@ -72,13 +63,3 @@ module _ (t : List ℕ) where
           by : (u ≡ x) ⊎ List·Memᴰ u (usedOf (takenAs t uris)) → Used (tableOf t) u
           by (inl i) = used-of uri u (e ∙ ap some (sym i))
           by (inr i) = rest u i
-
--- the first of a list, and a list cut in two
-pub map-take : {A B : Type 0} (f : A → B) (k : ℕ) (l : List A) → map f (take k l) ≡ take k (map f l)
-map-take f zero l = refl
-map-take f (suc k) [] = refl
-map-take f (suc k) (x ∷ l) = ap (λ r. f x ∷ r) (map-take f k l)
-
-pub map-append : {A B : Type 0} (f : A → B) (a b : List A) → map f (a ++ b) ≡ map f a ++ map f b
-map-append f [] b = refl
-map-append f (x ∷ a) b = ap (λ r. f x ∷ r) (map-append f a b)

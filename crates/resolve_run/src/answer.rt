@@ -4,11 +4,17 @@ use crate::run::Current;
 use crate::run::Outcome;
 use crate::run::begin_at;
 use crate::run::run;
+use base_numbers::MOST_ENTRIES;
+use base_numbers::MOST_VALUE_BYTES;
+use base_numbers::TOO_MANY_ENTRIES;
+use base_numbers::VALUE_MISFIT;
+use base_numbers::VALUE_TOO_LONG;
 use table_decode::Decoded;
 ghost use mathlib.Core.Path.{_≡_};
 ghost use mathlib.Core.Bool.{cond};
-ghost use Prim.Native.Nat.{_+_, _≤_};
+ghost use Prim.Native.Nat.{_+_, _≤_, suc};
 ghost use lib.Dec.{eqb};
+ghost use Rattle.base_numbers.specs.Numbers.{mostValueBytes};
 ghost use Rattle.value_reader.specs.Value.{refusalOf};
 ghost use Rattle.resolve_run.specs.Answers.{refused as refusedWith};
 ghost use Rattle.resolve_run.specs.Run.{signalNow, unwalked, answerOf, endedFrom};
@@ -32,14 +38,21 @@ pub fn refused(k: u8) -> Resolution
 }
 
 // The value's number if it is refused, else this one.
-pub fn value_first(v: &[u8], k: u8) -> Resolution
-    ensures { λ r. ⌜ r ≡ refusedWith (cond (eqb (refusalOf (now (v .entry))) 0) k (refusalOf (now (v .entry)))) ⌝ }
+pub fn first_number(v: &[u8], k: u8) -> u8
+    ensures { λ r. ⌜ r ≡ cond (eqb (refusalOf (now (v .entry))) 0) k (refusalOf (now (v .entry))) ⌝ }
 {
     let n = value_reader::refusal(v);
     if n == 0 {
-        return refused(k);
+        return k;
     }
-    refused(n)
+    n
+}
+
+// Refused with that number.
+pub fn value_first(v: &[u8], k: u8) -> Resolution
+    ensures { λ r. ⌜ r ≡ refusedWith (cond (eqb (refusalOf (now (v .entry))) 0) k (refusalOf (now (v .entry)))) ⌝ }
+{
+    refused(first_number(v, k))
 }
 
 // The signal where a resolver is.
@@ -55,16 +68,16 @@ fn signal_in(categories: usize, image: &[u8], current: Current) -> u8
 
 // The answer at the end of a value.
 fn answer(o: Outcome, signal: u8) -> Resolution
-    requires { ⌜ o .point .used + o .point .skipped ≤ 4097 ⌝ }
+    requires { ⌜ o .point .used + o .point .skipped ≤ suc mostValueBytes ⌝ }
     ensures { λ r. ⌜ r ≡ answerOf o signal ⌝ }
 {
     if !o.fits {
-        return refused(2);
+        return refused(VALUE_MISFIT);
     }
     let used = o.point.used;
     let skipped = o.point.skipped;
-    if 64 < used + skipped {
-        return refused(3);
+    if MOST_ENTRIES < used + skipped {
+        return refused(TOO_MANY_ENTRIES);
     }
     Resolution {
         refusal: 0,
@@ -89,9 +102,9 @@ pub fn resolved(
 ) -> Ended
     ensures { λ r. ⌜ r ≡ endedFrom (now (t .entry)) d (record { index = now (index .entry); symbols = now (symbols .entry); count = count; categories = categories; image = now (image .entry) }) from (now (v .entry)) ⌝ }
 {
-    if 4096 < v.len() {
+    if MOST_VALUE_BYTES < v.len() {
         return Ended {
-            answer: refused(1),
+            answer: refused(VALUE_TOO_LONG),
             last: from,
         };
     }
@@ -113,9 +126,11 @@ pub fn resolved(
     Ended { answer, last }
 }
 
-// The same by direct resolution, which needs no image.
+// The same by direct resolution, which needs no image: all that a walk goes by is empty.
 pub fn direct(t: &[u8], d: Decoded, from: Current, v: &[u8]) -> Ended
-    ensures { λ r. ⌜ r ≡ endedFrom (now (t .entry)) d (unwalked (now (t .entry))) from (now (v .entry)) ⌝ }
+    ensures { λ r. ⌜ r ≡ endedFrom (now (t .entry)) d unwalked from (now (v .entry)) ⌝ }
 {
-    resolved(t, d, t, t, 0, 0, t, from, v)
+    let z = 0;
+    let empty = &t[z..z];
+    resolved(t, d, empty, empty, 0, 0, empty, from, v)
 }

@@ -3,9 +3,11 @@
 // In: a table as it is stored and decoded, a value, where a resolver begins, and what it goes by if it walks. Out: its answer,
 // and where it is at the end.
 //
+//   entry.rt    one entry
 //   run.rt      from entry to entry
 //   answer.rt   the answer at a value's end
 pub mod answer;
+pub mod entry;
 pub mod run;
 
 // A refusal number, 0 if neither value nor table is refused; the signal; and how many entries were used and skipped.

@@ -1,17 +1,19 @@
 // Going through a value from entry to entry, with the state after those passed.
+use crate::entry::entry_at;
+use base_numbers::MOST_CATEGORIES;
+use base_numbers::MOST_NODES;
+use base_numbers::MOST_SIGNALS;
 use node_search::uses::Use;
 use node_search::uses::uses;
 use node_step::Progress;
 use node_step::State;
 use node_step::Status;
 use table_decode::Decoded;
-use value_cursor::Cursor;
-use value_cursor::Found;
-use value_cursor::Span;
 ghost use mathlib.Core.Path.{_≡_};
-ghost use Prim.Native.Nat.{_+_, _*_, _≤_};
+ghost use Prim.Native.Nat.{_+_, _*_, _≤_, suc};
 ghost use lib.ListN.{length};
-ghost use Rattle.resolve_run.specs.Run.{startNow, Direct, Walk, walkedTo, begin, moved, afterUse, Met, runFrom};
+ghost use Rattle.base_numbers.specs.Numbers.{mostValueBytes};
+ghost use Rattle.resolve_run.specs.Run.{startNow, Direct, Walk, walkedTo, begin, moved, afterUse, runFrom};
 
 // Where a resolver is: a state of direct resolution, with the candidates tried so far, or, if it walks, a state's number in an
 // image.
@@ -44,7 +46,7 @@ fn start() -> State
     };
     State {
         signal: 0,
-        categories: [open; 8],
+        categories: [open; MOST_CATEGORIES],
     }
 }
 
@@ -118,11 +120,10 @@ fn ended(fits: bool, point: Point) -> Outcome
 
 // A used URN takes direct resolution one step on, or the walk to the target that the state's row holds for its symbol.
 fn moved_by<'a>(
-    rows: &'a [u64; 32],
-    parent: &'a [u8; 64],
-    inner: &'a [bool; 64],
+    rows: &'a [u64; MOST_SIGNALS],
+    parent: &'a [u8; MOST_NODES],
+    inner: &'a [bool; MOST_NODES],
     signals: usize,
-    nodes: usize,
     index: &[u8],
     symbols: &[u8],
     count: usize,
@@ -135,12 +136,12 @@ fn moved_by<'a>(
 ) -> Current
     requires { ⌜ current .tries ≤ 40960 ⌝ }
     ensures { λ r. ⌜
-        r ≡ moved (now (rows .entry)) (now (parent .entry)) (now (inner .entry)) signals nodes
+        r ≡ moved (now (rows .entry)) (now (parent .entry)) (now (inner .entry)) signals
         (record { index = now (index .entry); symbols = now (symbols .entry); count = count; categories = categories; image = now (image .entry) }) current c k w
         ⌝ }
 {
     if current.walks {
-        let n = machine_symbols::number(index, symbols, count, parent, nodes, c, k, w);
+        let n = machine_symbols::number(index, symbols, count, inner, c, k, w);
         let number = machine_check::image::target(image, categories, current.number, n);
         return walked_to(current, number);
     }
@@ -153,11 +154,10 @@ fn moved_by<'a>(
 
 // One URI more, by what it is to the table.
 fn taken<'a>(
-    rows: &'a [u64; 32],
-    parent: &'a [u8; 64],
-    inner: &'a [bool; 64],
+    rows: &'a [u64; MOST_SIGNALS],
+    parent: &'a [u8; MOST_NODES],
+    inner: &'a [bool; MOST_NODES],
     signals: usize,
-    nodes: usize,
     index: &[u8],
     symbols: &[u8],
     count: usize,
@@ -166,9 +166,9 @@ fn taken<'a>(
     p: Point,
     u: Use,
 ) -> Point
-    requires { ⌜ (p .used + p .skipped ≤ 4096) × (p .current .tries ≤ 10 * p .used) ⌝ }
+    requires { ⌜ (p .used + p .skipped ≤ mostValueBytes) × (p .current .tries ≤ 10 * p .used) ⌝ }
     ensures { λ r. ⌜
-        r ≡ afterUse (now (rows .entry)) (now (parent .entry)) (now (inner .entry)) signals nodes
+        r ≡ afterUse (now (rows .entry)) (now (parent .entry)) (now (inner .entry)) signals
         (record { index = now (index .entry); symbols = now (symbols .entry); count = count; categories = categories; image = now (image .entry) }) p u
         ⌝ }
 {
@@ -190,7 +190,6 @@ fn taken<'a>(
                 parent,
                 inner,
                 signals,
-                nodes,
                 index,
                 symbols,
                 count,
@@ -210,42 +209,6 @@ fn taken<'a>(
     }
 }
 
-// An entry: where its URI lies, and where the next one begins unless it is the last; or the value does not fit.
-pub struct Entry {
-    pub fits: bool,
-    pub last: bool,
-    pub span: Span,
-    pub next: usize,
-}
-
-// The entry at a place of the value.
-fn entry_at(v: &[u8], at: usize) -> Entry
-    ensures { λ r. ⌜ Met (now (v .entry)) at r ⌝ }
-{
-    let c = Cursor { at };
-    let found = c.entry(v);
-    match found {
-        Found::More(span, next) => Entry {
-            fits: true,
-            last: false,
-            span,
-            next: next.at,
-        },
-        Found::Last(span) => Entry {
-            fits: true,
-            last: true,
-            span,
-            next: 0,
-        },
-        Found::None => Entry {
-            fits: false,
-            last: true,
-            span: Span { start: 0, len: 0 },
-            next: 0,
-        },
-    }
-}
-
 // From entry to entry through the value.
 pub(crate) fn run(
     t: &[u8],
@@ -258,9 +221,9 @@ pub(crate) fn run(
     from: Point,
     v: &[u8],
 ) -> Outcome
-    requires { ⌜ (length (now v) ≤ 4096) × (from .used + from .skipped ≡ 0) × (from .current .tries ≡ 0) ⌝ }
+    requires { ⌜ (length (now v) ≤ mostValueBytes) × (from .used + from .skipped ≡ 0) × (from .current .tries ≡ 0) ⌝ }
     ensures ends { λ r. ⌜ r ≡ runFrom (now (t .entry)) d (record { index = now (index .entry); symbols = now (symbols .entry); count = count; categories = categories; image = now (image .entry) }) (now (v .entry)) from 0 ⌝ }
-    ensures few { λ r. ⌜ r .point .used + r .point .skipped ≤ 4097 ⌝ }
+    ensures few { λ r. ⌜ r .point .used + r .point .skipped ≤ suc mostValueBytes ⌝ }
 {
     let mut at = 0;
     let mut p = from;
@@ -289,7 +252,6 @@ pub(crate) fn run(
             &d.parent,
             &d.inner,
             d.signals,
-            d.nodes,
             index,
             symbols,
             count,

@@ -13,7 +13,7 @@ use Rattle.resolve_run.specs.Answers.{numberOf, refused, answered}
 use Rattle.resolve_run.specs.declared.Resolution.{Resolution}
 use Rattle.resolve_run.proofs.AnswerLaws.{unless-number}
 use Rattle.small_image.specs.Small.{smallForm}
-use Rattle.resolve_small.specs.Resolve.{walkedSmall, resolvedSmall}
+use Rattle.resolve_small.specs.Resolve.{resolvedOver, walkedSmall, resolvedSmall}
 use Rattle.resolve_small.specs.Claims.{RightSmall, AnswersClaim}
 use Rattle.resolve_small.proofs.FormLaws.{small-to, small-of}
 
@@ -25,7 +25,7 @@ module _ (t small v : List ℕ) where
   within = cond (smallForm (tableOf t) small) walked (refused 15)
 
   by-number : resolvedSmall t small v ≡ cond (eqb (numberOf t v) 0) within (refused (numberOf t v))
-  unfolding resolvedSmall
+  unfolding resolvedOver
   by-number = unless-number t v within
 
   first : (numberOf t v ≡ 0 → ⊥) → resolvedSmall t small v ≡ refused (numberOf t v)

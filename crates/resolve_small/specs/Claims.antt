@@ -4,6 +4,7 @@ use mathlib.Core.Path.{_≡_}
 use mathlib.Core.Logic.{_↔_}
 use mathlib.Core.List.{List}
 use lib.ListN.{length, getD, take, drop}
+use Rattle.base_numbers.specs.Numbers.{mostStates}
 use Rattle.value_reader.specs.Value.{urisOf}
 use Rattle.theory_resolution.specs.Table.{Table}
 use Rattle.machine_image.specs.Image.{storedSymbols, symbolCount, stateCount}
@@ -17,7 +18,7 @@ pub record RightSmall (T : Table) (small : List ℕ) : Type 0 where
   pub length-right : length small ≡ 3 + 3 * symbolCount small + stateCount small * (symbolCount small + 1)
   pub symbols-right : take (3 * symbolCount small) (drop 1 small) ≡ storedSymbols T
   pub some-class : 1 ≤ stateCount small
-  pub few-classes : stateCount small ≤ 256
+  pub few-classes : stateCount small ≤ mostStates
   -- every class begins with a signal of the table, and its row of classes comes next
   pub signal-listed : (c : ℕ) → c < stateCount small → getD small (3 + 3 * symbolCount small + c * (symbolCount small + 1)) 0 < length (T .signals)
   pub leads : (c k : ℕ) → c < stateCount small → k < symbolCount small

@@ -6,23 +6,25 @@ use mathlib.Core.List.{List, [], _∷_, _++_, head-eq-of-cons-eq}
 use native.Mathlib.Omega.{arith}
 use lib.Dec.{eqb}
 use lib.ListN.{length, getD, drop}
-use Rattle.theory_resolution.specs.Lists.{memberBy}
+use Rattle.base_lists.proofs.Tests.{all-both}
+use Rattle.base_lists.proofs.Bools.{byTest}
+use Rattle.base_lists.specs.Tests.{all}
+use Rattle.base_lists.proofs.Lists.{member-of, mem-at}
+use Rattle.base_lists.specs.Lists.{memberBy}
 use Rattle.theory_resolution.specs.Names.{Name, Parts, sameName}
 use Rattle.theory_resolution.specs.Table.{Urn}
 use Rattle.theory_resolution.specs.Nodes.{nodes, nodeAt}
-use Rattle.theory_resolution.proofs.Lists.{member-of, mem-at}
 use Rattle.theory_resolution.proofs.Names.{name-exact}
-use Rattle.base_text.specs.Text.{all, fields, textOf}
+use Rattle.base_text.specs.Text.{fields, textOf}
 use Rattle.urn_names.specs.Names.{nameOk}
 use Rattle.base_ascii.specs.Ascii.{bytes}
-use Rattle.base_text.proofs.Fields.{byTest}
 use Rattle.table_decode.specs.Tables.{tableRefusal, tableOf, categoryNames}
 use Rattle.sample_seed.specs.Numbers.{nextOf, choiceOf}
 use Rattle.sample_names.specs.FirstFree.{nameTaken, foreign, strange}
 use Rattle.sample_names.proofs.NameLaws.{z-ok, foreign-first, foreign-number, strange-number}
 use Rattle.sample_library.specs.Sample.{uriOf, nameOf, nodeUri, foreignUri, drawOf, drawMore, drawsOf}
 use Rattle.sample_library.specs.Claims.{choicesIn, after}
-use Rattle.sample_library.proofs.TextLaws.{all-append, fields-text}
+use Rattle.sample_library.proofs.TextLaws.{fields-text}
 use Rattle.sample_library.proofs.TableTexts.{node-at-text}
 use Rattle.sample_library.proofs.ValueLaws.{few-nodes, few-names, chosen-node, a-ok, one-ok}
 
@@ -84,7 +86,7 @@ module _ (t : List ℕ) (formed : tableRefusal t ≡ 0) where
       let g : uriOf (nameOf names u) (u .path ++ strange ns u ∷ []) ≡ uriOf (foreign names) (bytes "a" ∷ []) = simp b at e in
       not-listed names (u .cat) (n .known)
       (uri-name (nameOf names u) (foreign names) (u .path ++ strange ns u ∷ []) (bytes "a" ∷ [])
-      (both-ok _ _ (n .name-ok) (all-append nameOk (u .path) (strange ns u ∷ []) (n .path-ok) (one-ok (strange ns u) (strange-ok u)))) foreign-ok g))
+      (both-ok _ _ (n .name-ok) (all-both nameOk (u .path) (strange ns u ∷ []) (n .path-ok) (one-ok (strange ns u) (strange-ok u)))) foreign-ok g))
       (λ b.
       let g : uriOf (nameOf names u) (u .path) ≡ uriOf (foreign names) (bytes "a" ∷ []) = simp b at e in
       not-listed names (u .cat) (n .known)

@@ -11,9 +11,11 @@ use Rattle.sample_names.specs.FirstFree.{oneMore, digitsOf, zName, firstFree, n
 use Rattle.sample_library.specs.Sample.{uriOf, foreignUri, drawOf, drawMore, drawsOf, drawnOf, bare, afterCommas, valueOf, sampleOf}
 
 pub foreign-value : sampleOf least 1 .value ≡ bytes "<urn:alert:z0:a>"
-unfolding nodes textOf afterColons andThen byteIn counted stored storedFrom text times tableOf tableRead categoryNames namesRead choiceOf oneMore digitsOf zName firstFree nameTaken foreign uriOf foreignUri drawOf drawMore drawsOf drawnOf bare afterCommas valueOf
+unfolding nodes textOf afterColons andThen byteIn counted stored storedFrom text times tableOf tableRead categoryNames namesRead choiceOf
+    oneMore digitsOf zName firstFree nameTaken foreign uriOf foreignUri drawOf drawMore drawsOf drawnOf bare afterCommas valueOf
 foreign-value = refl
 
 pub foreign-seed : sampleOf least 1 .seed ≡ 1586005467
-unfolding nodes textOf afterColons andThen byteIn counted stored storedFrom text times tableOf tableRead categoryNames namesRead choiceOf oneMore digitsOf zName firstFree nameTaken foreign uriOf foreignUri drawOf drawMore drawsOf drawnOf bare afterCommas valueOf
+unfolding nodes textOf afterColons andThen byteIn counted stored storedFrom text times tableOf tableRead categoryNames namesRead choiceOf
+    oneMore digitsOf zName firstFree nameTaken foreign uriOf foreignUri drawOf drawMore drawsOf drawnOf bare afterCommas valueOf
 foreign-seed = refl

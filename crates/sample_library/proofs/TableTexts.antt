@@ -1,27 +1,30 @@
 -- The names and nodes of a well-formed table, as texts: of good form, and short.
 use Prim.Native.Nat.{ℕ, zero, suc, _+_, _-_, _≤_, _<_}
-use mathlib.Core.Path.{_≡_, refl, sym, ap, _∙_, subst}
+use mathlib.Core.Path.{_≡_, sym, ap, _∙_, subst}
 use mathlib.Core.Logic.{_⊎_, inl, inr, _≢_}
 use mathlib.Core.Bool.{Bool, true, false, cond, and-eq-true-iff}
 use mathlib.Core.List.{List, [], _∷_, _++_, List·Memᴰ, List·Memᴰ·cases-cons, List·Memᴰ·not-nil}
 use native.Mathlib.Omega.{arith}
 use lib.ListN.{length, getD, take, drop, length-append, length-take}
 use lib.Dec.{leb, ltb}
-use Rattle.theory_resolution.specs.Lists.{memberBy}
+use Rattle.base_lists.proofs.Tests.{all-mem, all-split}
+use Rattle.base_lists.specs.Cuts.{upTo, past}
+use Rattle.base_lists.specs.Tests.{all}
+use Rattle.base_lists.proofs.Lists.{index-member, mem-at}
+use Rattle.base_lists.specs.Lists.{memberBy}
 use Rattle.theory_resolution.specs.Names.{Name, Parts, sameName}
 use Rattle.theory_resolution.specs.Table.{Urn, urn}
 use Rattle.theory_resolution.specs.Nodes.{nodes, nodeAt}
-use Rattle.theory_resolution.proofs.Lists.{index-member, mem-at}
 use Rattle.theory_resolution.proofs.Names.{name-exact}
 use Rattle.theory_resolution.proofs.Nodes.{nodes-all}
-use Rattle.base_text.specs.Text.{all, upTo, past, fields, afterColons, textOf}
+use Rattle.base_text.specs.Text.{fields, afterColons, textOf}
 use Rattle.urn_names.specs.Names.{nameOk}
 use Rattle.urn_names.specs.Urn.{urnOk, categoryOf}
 use Rattle.base_text.proofs.Fields.{text-fields}
 use Rattle.table_sections.specs.Stored.{Read, fault, got, andThen, byteIn, text, times, counted, signal, signals, storedFrom, Stored, stored}
 use Rattle.table_decode.specs.Tables.{isListed, toUrn, tableIn, tableRefusal, tableRead, tableOf, namesRead, categoryNames}
 use Rattle.table_sections.proofs.Readings.{after-got, byte-read}
-use Rattle.table_decode.proofs.Accepting.{Passed, judged-zero, refusal-zero, all-mem, from-stored, formed-urn, three, fields-parts}
+use Rattle.table_decode.proofs.Accepting.{Passed, judged-zero, refusal-zero, from-stored, formed-urn, three, fields-parts}
 use Rattle.sample_library.specs.Sample.{nameOf}
 use Rattle.sample_library.proofs.TextLaws.{colons-append}
 
@@ -49,7 +52,8 @@ times-all {A} P rd h (suc n) at xs q e x m =
     let a = after-got (rd at) (λ x p. andThen (times rd n p) (λ ys q. got (x ∷ ys) q)) xs q e in
     let b = after-got (times rd n (a .1)) (λ ys q. got (a .0 ∷ ys) q) xs q (a .3) in
     let z = got-list (a .0 ∷ b .0) xs (b .1) q (b .3) in
-    go (a .0) (b .0) (h at (a .0) (a .1) (a .2)) (λ k. times-all P rd h n (a .1) (b .0) (b .1) (b .2) x k) (List·Memᴰ·cases-cons (subst (λ (l : List A). List·Memᴰ x l) (sym z) m))
+    go (a .0) (b .0) (h at (a .0) (a .1) (a .2)) (λ k. times-all P rd h n (a .1) (b .0) (b .1) (b .2) x k)
+    (List·Memᴰ·cases-cons (subst (λ (l : List A). List·Memᴰ x l) (sym z) m))
   where
     go : (y : A) (ys : List A) → P y → (List·Memᴰ x ys → P x) → (x ≡ y) ⊎ List·Memᴰ x ys → P x
     go y ys p ih (inl i) = subst P (sym i) p
@@ -62,7 +66,8 @@ counted-all P lo hi rd t h at xs q e =
     let a = after-got (byteIn lo hi t at) (λ n p. times rd n p) xs q e in
     times-all P rd h (a .0) (a .1) xs q (a .3)
 
-ended : (ns : List Name) (ss : List (List (List ℕ))) (b : Bool) (p q : ℕ) (s : Stored) → cond b (fault 5) (got (record { names = ns; signals = ss }) p) ≡ got s q → record { names = ns; signals = ss } ≡ s
+ended : (ns : List Name) (ss : List (List (List ℕ))) (b : Bool) (p q : ℕ) (s : Stored)
+    → cond b (fault 5) (got (record { names = ns; signals = ss }) p) ≡ got s q → record { names = ns; signals = ss } ≡ s
 ended ns ss true p q s e = let z : _≡_ {A = ℕ} 0 1 = cc in absurd (omega arith)
 ended ns ss false p q s e = cc
 
@@ -74,7 +79,8 @@ stored-short : (t : List ℕ) (s : Stored) (q : ℕ) → stored t ≡ got s q �
 unfolding stored storedFrom
 stored-short t s q e sig m =
     let a = after-got (counted 1 8 (text 55 t) t 0) (λ ns at. storedFrom t ns at) s q e in
-    let b = after-got (counted 1 32 (signal t) t (a .1)) (λ ss p. cond (ltb p (length t)) (fault 5) (got (record { names = a .0; signals = ss }) p)) s q (a .3) in
+    let b = after-got (counted 1 32 (signal t) t (a .1))
+    (λ ss p. cond (ltb p (length t)) (fault 5) (got (record { names = a .0; signals = ss }) p)) s q (a .3) in
     let z = ended (a .0) (b .0) (ltb (b .1) (length t)) (b .1) q s (b .3) in
     counted-all Short 1 32 (signal t) t
     (λ at x q f. counted-all (λ v. length v ≤ 255) 0 8 (text 255 t) t (λ at′ y q′ g. text-short 255 t at′ y q′ g) at x q f)
@@ -88,13 +94,6 @@ pub record NodeText (names : List Name) (u : Urn) : Type 0 where
   pub some-part : u .path ≢ []
   pub short : length (textOf (nameOf names u ∷ u .path)) ≤ 255
 
-all-front : {A : Type 0} (p : A → Bool) (l k : List A) → all p (l ++ k) ≡ true → all p l ≡ true
-unfolding all
-all-front p [] k e = refl
-all-front p (x ∷ l) k e =
-    let b = and-eq-true-iff (p x) (all p (l ++ k)) .0 e in
-    and-eq-true-iff (p x) (all p l) .1 (b .0, all-front p l k (b .1))
-
 -- a stored URN is its category and its path
 urn-text : (v : List ℕ) → urnOk v ≡ true → textOf (upTo 58 v ∷ fields 58 (past 58 v)) ≡ v
 urn-text v e = ap textOf (sym (fields-parts v e .0)) ∙ text-fields v
@@ -102,7 +101,13 @@ urn-text v e = ap textOf (sym (fields-parts v e .0)) ∙ text-fields v
 shorter : (x : Name) (p r : Parts) → length (textOf (x ∷ p)) ≤ length (textOf (x ∷ (p ++ r)))
 unfolding textOf
 shorter x p r =
-    omega (arith, length-append x (afterColons p), length-append x (afterColons (p ++ r)), ap length (colons-append p r), length-append (afterColons p) (afterColons r))
+    omega (
+      arith,
+      length-append x (afterColons p),
+      length-append x (afterColons (p ++ r)),
+      ap length (colons-append p r),
+      length-append (afterColons p) (afterColons r),
+    )
 
 module _ (t : List ℕ) (s : Stored) (q : ℕ) (r : stored t ≡ got s q) (g : Passed s) (u : Urn) (m : List·Memᴰ u (nodes (tableIn s))) where
   node-text-in : NodeText (s .names) u
@@ -116,7 +121,8 @@ module _ (t : List ℕ) (s : Stored) (q : ℕ) (r : stored t ≡ got s q) (g : P
       let ok = formed-urn t s q r g (a .0) (a .1) v (a .3) in
       let f = fields-parts v ok in
       let both = and-eq-true-iff (nameOk (upTo 58 v)) (all nameOk (fields 58 (past 58 v))) .0 (subst (λ (l : List Name). all nameOk l ≡ true) (f .0) (f .2)) in
-      let h : memberBy sameName (categoryOf v) (s .names) ≡ true = all-mem (isListed (s .names)) (a .0) v (all-mem (all (isListed (s .names))) (s .signals) (a .0) (three t s q r g .2) (a .1)) (a .3) in
+      let h : memberBy sameName (categoryOf v) (s .names) ≡ true =
+      all-mem (isListed (s .names)) (a .0) v (all-mem (all (isListed (s .names))) (s .signals) (a .0) (three t s q r g .2) (a .1)) (a .3) in
       let w = index-member sameName name-exact [] (categoryOf v) (s .names) h in
       let cat : u .cat ≡ toUrn (s .names) v .cat = sym (n .cat) ∙ c in
       let name : nameOf (s .names) u ≡ upTo 58 v = ap (λ (k : ℕ). getD (s .names) k []) cat ∙ w .1 in
@@ -124,7 +130,7 @@ module _ (t : List ℕ) (s : Stored) (q : ℕ) (r : stored t ≡ got s q) (g : P
       record {
         known = omega (arith, w .0, cat);
         name-ok = ap nameOk name ∙ both .0;
-        path-ok = all-front nameOk (u .path) (n .above .rest) (ap (all nameOk) path ∙ both .1);
+        path-ok = all-split nameOk (u .path) (n .above .rest) (ap (all nameOk) path ∙ both .1) .0;
         some-part = n .some-part;
         short = omega (
           arith,

@@ -1,21 +1,27 @@
 -- Names with colons between, and the bytes of names.
-use Prim.Native.Nat.{ℕ, _+_, _-_, _≤_}
+use Prim.Native.Nat.{ℕ, _-_, _≤_}
 use mathlib.Core.Path.{_≡_, refl, sym, ap, ap₂, _∙_}
-use mathlib.Core.Bool.{Bool, true, false, not, _&&_, _||_, false≢true, and-eq-true-iff}
+use mathlib.Core.Bool.{Bool, true, false, not, _&&_, _||_, and-eq-true-iff}
 use mathlib.Core.List.{List, [], _∷_, _++_, append-assoc, append-nil}
 use native.Mathlib.Omega.{arith}
 use lib.Dec.{eqb, leb}
 use lib.ListN.{length, getD, drop}
-use borrow.Author.Tests.{eqb-true, ne-eqb, leb-true, le-leb}
+use borrow.Author.Tests.{eqb-true, ne-eqb, le-leb}
+use Rattle.base_lists.proofs.Tests.{all-both, all-imp}
+use Rattle.base_lists.proofs.Numbers.{within-is}
+use Rattle.base_lists.proofs.Bools.{byTest, or-left, or-right, or-cases}
+use Rattle.base_lists.specs.Cuts.{upTo, past}
+use Rattle.base_lists.specs.Tests.{all}
+use Rattle.base_lists.specs.Numbers.{within}
 use Rattle.theory_resolution.specs.Names.{Name, Parts}
-use Rattle.base_ascii.specs.Ascii.{within, bytes}
-use Rattle.base_text.specs.Text.{all, upTo, past, fields, onFirst, afterColons, textOf}
+use Rattle.base_ascii.specs.Ascii.{bytes}
+use Rattle.base_text.specs.Text.{fields, onFirst, afterColons, textOf}
 use Rattle.urn_names.specs.Names.{labelByte, labelOk, nameOk}
 use Rattle.urn_names.specs.Urn.{begins, restOk, alertUrn}
-use Rattle.base_text.proofs.Fields.{byTest, fields-first, fields-join, text-fields}
+use Rattle.base_text.proofs.Fields.{fields-first, fields-join, text-fields}
 use Rattle.value_cursor.specs.Bytes.{isUri}
-use Rattle.value_cursor.specs.Bytes as bytes-of
 use Rattle.sample_library.specs.Sample.{uriOf}
+use Rattle.value_cursor.specs.Bytes as bytes-of
 
 pub colons-append : (p q : Parts) → afterColons (p ++ q) ≡ afterColons p ++ afterColons q
 unfolding afterColons
@@ -44,32 +50,6 @@ colons-fields s =
 -- the bytes of a name: a letter, a digit, a hyphen or @ (64)
 unfoldable pub nameByte : ℕ → Bool
 nameByte b = labelByte b || eqb b 64
-
-or-left : (a b : Bool) → a ≡ true → a || b ≡ true
-or-left true b e = refl
-or-left false b e = absurd (false≢true e)
-
-or-right : (a b : Bool) → b ≡ true → a || b ≡ true
-or-right true b e = refl
-or-right false b e = e
-
-or-cases : {P : Type 0} (a b : Bool) → a || b ≡ true → (a ≡ true → P) → (b ≡ true → P) → P
-or-cases true b e f g = f refl
-or-cases false b e f g = g e
-
-pub all-imp : {A : Type 0} (p q : A → Bool) → ((x : A) → p x ≡ true → q x ≡ true) → (l : List A) → all p l ≡ true → all q l ≡ true
-unfolding all
-all-imp p q h [] e = refl
-all-imp p q h (x ∷ l) e =
-    let b = and-eq-true-iff (p x) (all p l) .0 e in
-    and-eq-true-iff (q x) (all q l) .1 (h x (b .0), all-imp p q h l (b .1))
-
-pub all-append : {A : Type 0} (p : A → Bool) (l k : List A) → all p l ≡ true → all p k ≡ true → all p (l ++ k) ≡ true
-unfolding all
-all-append p [] k e f = f
-all-append p (x ∷ l) k e f =
-    let b = and-eq-true-iff (p x) (all p l) .0 e in
-    and-eq-true-iff (p x) (all p (l ++ k)) .1 (b .0, all-append p l k (b .1) f)
 
 label-bytes : (s : List ℕ) → labelOk s ≡ true → all nameByte s ≡ true
 unfolding labelOk nameByte
@@ -101,10 +81,8 @@ pub name-bytes : (s : List ℕ) → nameOk s ≡ true → all nameByte s ≡ tru
 unfolding nameOk
 name-bytes s e =
     or-cases (labelOk s) (labelOk (upTo 64 s) && labelOk (past 64 s)) e (label-bytes s)
-    (λ h. let b = and-eq-true-iff (labelOk (upTo 64 s)) (labelOk (past 64 s)) .0 h in upTo-past s (label-bytes (upTo 64 s) (b .0)) (label-bytes (past 64 s) (b .1)))
-
-in-range : (lo hi b : ℕ) → within lo hi b ≡ true → (lo ≤ b) × (b ≤ hi)
-in-range lo hi b e = let k = and-eq-true-iff (leb lo b) (leb b hi) .0 e in (leb-true lo b (k .0), leb-true b hi (k .1))
+    (λ h. let b = and-eq-true-iff (labelOk (upTo 64 s)) (labelOk (past 64 s)) .0 h in
+    upTo-past s (label-bytes (upTo 64 s) (b .0)) (label-bytes (past 64 s) (b .1)))
 
 -- where a name's byte lies
 abbrev Ranges : Type 0 → ℕ → Type 0
@@ -114,9 +92,9 @@ byte-cases : {P : Type 0} (b : ℕ) → nameByte b ≡ true → Ranges P b
 unfolding nameByte labelByte
 byte-cases {P} b e low up num hyphen at =
     or-cases _ (eqb b 64) e
-    (λ h. or-cases _ _ h (λ k. let r = in-range 97 122 b k in low (r .0) (r .1))
-    (λ k. or-cases _ _ k (λ m. let r = in-range 65 90 b m in up (r .0) (r .1))
-    (λ m. or-cases _ _ m (λ n. let r = in-range 48 57 b n in num (r .0) (r .1)) (λ n. hyphen (eqb-true b 45 n)))))
+    (λ h. or-cases _ _ h (λ k. let r = within-is 97 122 b k in low (r .0) (r .1))
+    (λ k. or-cases _ _ k (λ m. let r = within-is 65 90 b m in up (r .0) (r .1))
+    (λ m. or-cases _ _ m (λ n. let r = within-is 48 57 b n in num (r .0) (r .1)) (λ n. hyphen (eqb-true b 45 n)))))
     (λ h. at (eqb-true b 64 h))
 
 -- no name has a colon in it
@@ -142,13 +120,9 @@ fields-text x (y ∷ ys) e =
     let b = and-eq-true-iff (nameOk x) (all nameOk (y ∷ ys)) .0 e in
     fields-join 58 x (textOf (y ∷ ys)) ∙ ap₂ (λ p q. p ++ q) (name-alone x (b .0)) (fields-text y ys (b .1))
 
--- a name's byte may stand in a URI
-no-other : (b x : ℕ) → (b ≡ x → ⊥) → eqb b x ≡ false
-no-other b x h = ne-eqb b x h
-
 uri-byte : (b : ℕ) → 33 ≤ b → b ≤ 126 → (b ≡ 60 → ⊥) → (b ≡ 62 → ⊥) → (b ≡ 34 → ⊥) → isUri b ≡ true
 unfolding isUri
-uri-byte b lo hi l g q = simp (le-leb 33 b lo, le-leb b 126 hi, no-other b 60 l, no-other b 62 g, no-other b 34 q)
+uri-byte b lo hi l g q = simp (le-leb 33 b lo, le-leb b 126 hi, ne-eqb b 60 l, ne-eqb b 62 g, ne-eqb b 34 q)
 
 pub name-uri : (b : ℕ) → nameByte b ≡ true → isUri b ≡ true
 name-uri b e =
@@ -168,7 +142,10 @@ unfolding all afterColons
 colons-uri [] e = refl
 colons-uri (x ∷ xs) e =
     let b = and-eq-true-iff (nameOk x) (all nameOk xs) .0 e in
-    and-eq-true-iff (isUri 58) _ .1 (colon-uri, all-append isUri x (afterColons xs) (all-imp nameByte isUri name-uri x (name-bytes x (b .0))) (colons-uri xs (b .1)))
+    and-eq-true-iff (isUri 58) _ .1 (
+      colon-uri,
+      all-both isUri x (afterColons xs) (all-imp nameByte isUri name-uri x (name-bytes x (b .0))) (colons-uri xs (b .1)),
+    )
 
 scheme-uri : all isUri (bytes "urn:alert:") ≡ true
 unfolding all isUri
@@ -180,8 +157,8 @@ module _ (x : Name) (y : Name) (ys : List Name) (ok : all nameOk (x ∷ y ∷ ys
   unfolding uriOf textOf all
   uri-bytes =
       let b = and-eq-true-iff (nameOk x) (all nameOk (y ∷ ys)) .0 ok in
-      all-append isUri (bytes "urn:alert:") (textOf (x ∷ y ∷ ys)) scheme-uri
-      (all-append isUri x (afterColons (y ∷ ys)) (all-imp nameByte isUri name-uri x (name-bytes x (b .0))) (colons-uri (y ∷ ys) (b .1)))
+      all-both isUri (bytes "urn:alert:") (textOf (x ∷ y ∷ ys)) scheme-uri
+      (all-both isUri x (afterColons (y ∷ ys)) (all-imp nameByte isUri name-uri x (name-bytes x (b .0))) (colons-uri (y ∷ ys) (b .1)))
 
   begins-it : (r : List ℕ) → begins (bytes "urn:alert:") (bytes "urn:alert:" ++ r) ≡ true
   unfolding begins
@@ -192,7 +169,8 @@ module _ (x : Name) (y : Name) (ys : List Name) (ok : all nameOk (x ∷ y ∷ ys
 
   rest-ok : restOk (textOf (x ∷ y ∷ ys)) ≡ true
   unfolding restOk
-  rest-ok = rw (fields-text x (y ∷ ys) ok) (and-eq-true-iff (leb 2 (length (x ∷ y ∷ ys))) (all nameOk (x ∷ y ∷ ys)) .1 (le-leb 2 (length (x ∷ y ∷ ys)) (omega arith), ok))
+  rest-ok = rw (fields-text x (y ∷ ys) ok) (and-eq-true-iff (leb 2 (length (x ∷ y ∷ ys))) (all nameOk (x ∷ y ∷ ys)) .1
+      (le-leb 2 (length (x ∷ y ∷ ys)) (omega arith), ok))
 
   pub uri-alert : alertUrn (uriOf x (y ∷ ys)) ≡ true
   unfolding alertUrn uriOf

@@ -2,31 +2,34 @@
 use Prim.Native.Nat.{ℕ, zero, suc, _+_, _*_, _/_, _≤_, _<_}
 use mathlib.Core.Path.{_≡_, refl, sym, ap, subst}
 use mathlib.Core.Logic.{_⊎_, inl, inr, _≢_}
-use mathlib.Core.Bool.{Bool, true, and-eq-true-iff, false≢true}
+use mathlib.Core.Bool.{true, and-eq-true-iff, false≢true}
 use mathlib.Core.List.{List, [], _∷_, _++_, List·Memᴰ, List·Memᴰ·not-nil, List·Memᴰ·append-cases, List·Memᴰ·eq-of-singleton, List·Memᴰ·head, List·Memᴰ·tail}
 use native.Mathlib.Omega.{arith}
 use native.Mathlib.Nat.{mod-lt}
-use lib.Dec.{T, eqb}
+use lib.Dec.{eqb}
 use lib.ListN.{length, length-append}
+use Rattle.base_numbers.specs.Numbers.{mostNodes}
+use Rattle.table_decode.proofs.Judging.{names-count}
+use Rattle.base_lists.proofs.Tests.{all-both}
+use Rattle.base_lists.proofs.Bools.{byTest, is-true}
+use Rattle.base_lists.specs.Tests.{all}
 use Rattle.value_cursor.specs.Bytes.{isUri}
 use Rattle.value_reader.specs.Grammar.{Any, none, more, Some, some, White, nothing, done, Entry, entry, Value, last, comma}
 use Rattle.theory_resolution.specs.Names.{Name, Parts}
 use Rattle.theory_resolution.specs.Table.{Urn}
 use Rattle.theory_resolution.specs.Nodes.{prefixes, nodes, isNode, nodeAt}
 use Rattle.theory_resolution.proofs.Nodes.{prefix-node}
-use Rattle.base_text.specs.Text.{all, afterColons, textOf}
+use Rattle.base_text.specs.Text.{afterColons, textOf}
 use Rattle.urn_names.specs.Names.{labelByte, labelOk, nameOk}
 use Rattle.base_ascii.specs.Ascii.{bytes}
 use Rattle.urn_names.specs.Urn.{alertUrn}
-use Rattle.base_text.proofs.Fields.{byTest}
-use Rattle.table_sections.specs.Stored.{Read, fault, got, Stored, stored}
-use Rattle.table_decode.specs.Tables.{tableRefusal, tableOf, tableRead, categoryNames, namesRead}
+use Rattle.table_decode.specs.Tables.{tableRefusal, tableOf, categoryNames}
 use Rattle.table_decode.proofs.Accepting.{accepted}
 use Rattle.sample_seed.specs.Numbers.{nextOf, choiceOf}
 use Rattle.sample_names.specs.FirstFree.{zName, firstFree, nameTaken, partTaken, foreign, strange}
 use Rattle.sample_library.specs.Sample.{uriOf, nameOf, nodeUri, foreignUri, drawOf, drawMore, drawsOf, bare, afterCommas, valueOf}
 use Rattle.sample_names.proofs.NameLaws.{z-ok, z-length, foreign-number, strange-number}
-use Rattle.sample_library.proofs.TextLaws.{all-append, text-more, uri-bytes, uri-alert}
+use Rattle.sample_library.proofs.TextLaws.{text-more, uri-bytes, uri-alert}
 use Rattle.sample_library.proofs.TableTexts.{node-at-text}
 
 -- a URI that may stand in an entry
@@ -36,19 +39,15 @@ pub record Good (uri : List ℕ) : Type 0 where
   pub alert : alertUrn uri ≡ true
   pub short : length uri ≤ 269
 
--- the grammar's reading of bare entries
-true-T : (b : Bool) → b ≡ true → T b
-true-T b e = subst (λ (x : Bool). T x) (sym e) tt
-
 any-uri : (l : List ℕ) → all isUri l ≡ true → Any isUri l
 unfolding all
 any-uri [] e = none
-any-uri (x ∷ l) e = let b = and-eq-true-iff (isUri x) (all isUri l) .0 e in more (true-T (isUri x) (b .0)) (any-uri l (b .1))
+any-uri (x ∷ l) e = let b = and-eq-true-iff (isUri x) (all isUri l) .0 e in more (is-true (isUri x) (b .0)) (any-uri l (b .1))
 
 some-uri : (l : List ℕ) → 0 < length l → all isUri l ≡ true → Some isUri l
 unfolding all
 some-uri [] h e = absurd (omega arith)
-some-uri (x ∷ l) h e = let b = and-eq-true-iff (isUri x) (all isUri l) .0 e in some (true-T (isUri x) (b .0)) (any-uri l (b .1))
+some-uri (x ∷ l) h e = let b = and-eq-true-iff (isUri x) (all isUri l) .0 e in some (is-true (isUri x) (b .0)) (any-uri l (b .1))
 
 bare-entry : (u : List ℕ) → Good u → Entry White (bare u) u
 unfolding bare
@@ -115,15 +114,6 @@ pub one-ok : (x : Name) → nameOk x ≡ true → all nameOk (x ∷ []) ≡ true
 unfolding all
 one-ok x e = and-eq-true-iff (nameOk x) true .1 (e, refl)
 
--- each category has a name
-names-count : (t : List ℕ) → length (categoryNames t) ≡ tableOf t .cats
-unfolding categoryNames namesRead tableOf tableRead
-names-count t = go (stored t)
-  where
-    go : (r : Read Stored) → length (namesRead r) ≡ tableRead r .cats
-    go (fault k) = refl
-    go (got s p) = refl
-
 module _ (t : List ℕ) (formed : tableRefusal t ≡ 0) where
   abbrev names : List Name
   names = categoryNames t
@@ -131,10 +121,10 @@ module _ (t : List ℕ) (formed : tableRefusal t ≡ 0) where
   abbrev ns : List Urn
   ns = nodes (tableOf t)
 
-  pub few-nodes : length ns ≤ 64
+  pub few-nodes : length ns ≤ mostNodes
   few-nodes = accepted t formed .few-nodes
 
-  pub few-names : length names ≤ 64
+  pub few-names : length names ≤ mostNodes
   few-names = omega (arith, names-count t, accepted t formed .few-categories)
 
   -- there is a node to choose
@@ -151,7 +141,8 @@ module _ (t : List ℕ) (formed : tableRefusal t ≡ 0) where
       go : (p : Parts) → (sig : List Urn) × List·Memᴰ sig (tableOf t .signals) × (u : Urn) × List·Memᴰ u sig × (u .cat ≡ 0) × (u .path ≡ p) → 0 < length ns
       go [] w = absurd (accepted t formed .some-part (w .0) (w .1) (w .2) (w .3) (w .5))
       go (x ∷ r) w =
-          has ns (w .2 .cat) ([] ++ x ∷ []) (prefix-node (tableOf t) (w .0) (w .2) ([] ++ x ∷ []) (w .1) (w .3) (subst (λ (q : Parts). List·Memᴰ ([] ++ x ∷ []) (prefixes q)) (sym (w .5)) (List·Memᴰ·head refl)))
+          has ns (w .2 .cat) ([] ++ x ∷ []) (prefix-node (tableOf t) (w .0) (w .2) ([] ++ x ∷ []) (w .1) (w .3)
+          (subst (λ (q : Parts). List·Memᴰ ([] ++ x ∷ []) (prefixes q)) (sym (w .5)) (List·Memᴰ·head refl)))
 
   pub chosen-node : (x : ℕ) → choiceOf x (length ns) < length ns
   unfolding choiceOf
@@ -170,7 +161,7 @@ module _ (t : List ℕ) (formed : tableRefusal t ≡ 0) where
       let z = zName (firstFree (partTaken ns u) (length ns) 0) in
       byTest (eqb kind 1)
       (λ e. simp e (good-uri (nameOf names u) (u .path ++ z ∷ []) (some-last (u .path) z) (n .name-ok)
-      (all-append nameOk (u .path) (z ∷ []) (n .path-ok) (one-ok z (z-ok _ i)))
+      (all-both nameOk (u .path) (z ∷ []) (n .path-ok) (one-ok z (z-ok _ i)))
       (omega (arith, ap length (text-more (nameOf names u) (u .path) z), length-append (textOf (nameOf names u ∷ u .path)) (58 ∷ z), n .short, z-length _ i))))
       (λ e. simp e (good-uri (nameOf names u) (u .path) (n .some-part) (n .name-ok) (n .path-ok) (omega (arith, n .short))))
 
@@ -192,7 +183,8 @@ module _ (t : List ℕ) (formed : tableRefusal t ≡ 0) where
   good-draws x zero v m = absurd (List·Memᴰ·not-nil m)
   good-draws x (suc n) v m = go (List·Memᴰ·append-cases (drawsOf names ns x n .uris) m) (good-draws x n v)
     where
-      go : List·Memᴰ v (drawsOf names ns x n .uris) ⊎ List·Memᴰ v (drawOf names ns (drawsOf names ns x n .seed) .uri ∷ []) → (List·Memᴰ v (drawsOf names ns x n .uris) → Good v) → Good v
+      go : List·Memᴰ v (drawsOf names ns x n .uris) ⊎ List·Memᴰ v (drawOf names ns (drawsOf names ns x n .seed) .uri ∷ [])
+          → (List·Memᴰ v (drawsOf names ns x n .uris) → Good v) → Good v
       go (inl k) ih = ih k
       go (inr k) ih = subst Good (sym (List·Memᴰ·eq-of-singleton k)) (good-draw (drawsOf names ns x n .seed))
 

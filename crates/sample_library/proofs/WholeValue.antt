@@ -8,6 +8,8 @@ use lib.Dec.{eqb}
 use lib.ListN.{length, set, drop, length-append}
 use lib.Seq.{sets, sets-eq}
 use borrow.Author.Tests.{eq-eqb, ne-eqb, lt-ltb, le-ltb}
+use Rattle.base_numbers.specs.Numbers.{sampleRoom}
+use Rattle.base_lists.specs.Lists.{over}
 use Rattle.theory_resolution.specs.Nodes.{nodes}
 use Rattle.table_decode.specs.Tables.{tableRefusal, tableOf, categoryNames}
 use Rattle.table_decode.specs.Decoded.{Means}
@@ -15,7 +17,8 @@ use Rattle.table_decode.specs.declared.Decoded.{Decoded}
 use Rattle.sample_library.specs.declared.Made.{Made}
 use Rattle.sample_library.specs.declared.entry.Wrote.{Wrote}
 use Rattle.sample_seed.specs.Numbers.{nextOf, choiceOf}
-use Rattle.sample_library.specs.Sample.{Draw, drawOf, Drawn, drawMore, drawsOf, drawnOf, bare, afterCommas, valueOf, sampleOf, refusedWith, madeOf, over, bufferOf}
+use Rattle.sample_library.specs.Sample.{Draw, drawOf, Drawn, drawMore, drawsOf, drawnOf, bare, afterCommas, valueOf, sampleOf, refusedWith}
+use Rattle.sample_library.specs.Sample.{madeOf, bufferOf}
 use Rattle.sample_library.specs.Written.{Ready}
 use Rattle.sample_library.proofs.ValueLaws.{few-choice, good-draws, draws-length, value-length}
 use Rattle.sample_library.proofs.WriteLaws.{then-put}
@@ -56,7 +59,8 @@ module _ (t : List ℕ) (formed : tableRefusal t ≡ 0) (y : ℕ) where
   unfolding drawsOf drawMore
   seed-one = refl
 
-  more-uris : (n : ℕ) → drawsOf (categoryNames t) (nodes (tableOf t)) y (suc n) .uris ≡ drawsOf (categoryNames t) (nodes (tableOf t)) y n .uris ++ drawAt t (seedUpTo t y n) .uri ∷ []
+  more-uris : (n : ℕ) → drawsOf (categoryNames t) (nodes (tableOf t)) y (suc n) .uris ≡ drawsOf (categoryNames t) (nodes (tableOf t)) y
+      n .uris ++ drawAt t (seedUpTo t y n) .uri ∷ []
   unfolding drawsOf drawMore
   more-uris n = refl
 
@@ -67,7 +71,10 @@ module _ (t : List ℕ) (formed : tableRefusal t ≡ 0) (y : ℕ) where
   value-more : (k : ℕ) → valueUpTo t y (suc (suc k)) ≡ valueUpTo t y (suc k) ++ 44 ∷ bare (drawAt t (seedUpTo t y (suc k)) .uri)
   value-more k =
       ap valueOf (more-uris (suc k))
-      ∙ value-last (drawsOf (categoryNames t) (nodes (tableOf t)) y (suc k) .uris) (drawAt t (seedUpTo t y (suc k)) .uri) (omega (arith, draws-length t formed y (suc k)))
+      ∙ value-last (drawsOf (categoryNames t) (nodes (tableOf t)) y (suc k) .uris) (drawAt t (seedUpTo t y (suc k)) .uri) (omega (
+        arith,
+        draws-length t formed y (suc k),
+      ))
 
   -- what `entry` answers for a seed x at a place
   abbrev Answered : ℕ → List ℕ → ℕ → List ℕ → Wrote → Type 0
@@ -76,8 +83,10 @@ module _ (t : List ℕ) (formed : tableRefusal t ≡ 0) (y : ℕ) where
   -- the first entry
   pub after-first : (b : List ℕ) {c : List ℕ} {r : Wrote} → Answered y b 0 c r → After t y 1 r × (c ≡ sets b 0 (valueUpTo t y 1))
   after-first b {c} {r} h =
-      let z : 0 + length (bare (drawAt t y .uri)) ≡ length (bare (drawAt t y .uri)) = omega arith in
-      ((ap (λ (w : Wrote). w .len) (h .0) ∙ z ∙ ap length (sym value-one), ap (λ (w : Wrote). w .seed) (h .0) ∙ sym seed-one), h .1 ∙ ap (sets b 0) (sym value-one))
+      let z : 0 + length (bare (drawAt t y .uri)) ≡ length (bare (drawAt t y .uri)) = omega arith in (
+        (ap (λ (w : Wrote). w .len) (h .0) ∙ z ∙ ap length (sym value-one), ap (λ (w : Wrote). w .seed) (h .0) ∙ sym seed-one),
+        h .1 ∙ ap (sets b 0) (sym value-one),
+      )
 
   -- one more
   pub after-more : {w r : Wrote} (k : ℕ) {b c : List ℕ} → After t y (suc k) w → Answered (w .seed) (set b (w .len) 44) (w .len + 1) c r
@@ -87,7 +96,8 @@ module _ (t : List ℕ) (formed : tableRefusal t ≡ 0) (y : ℕ) where
       let u : bare (drawAt t (w .seed) .uri) ≡ bare (drawAt t (seedUpTo t y (suc k)) .uri) = ap (λ (x : ℕ). bare (drawAt t x .uri)) s in
       let j : k + 1 ≡ suc k = omega arith in
       let v : valueUpTo t y (suc (k + 1)) ≡ valueUpTo t y (suc k) ++ (44 ∷ []) ++ bare (drawAt t (w .seed) .uri) =
-      ap (λ (n : ℕ). valueUpTo t y (suc n)) j ∙ value-more k ∙ ap (λ (l : List ℕ). valueUpTo t y (suc k) ++ 44 ∷ l) (sym u) ∙ sym (append-assoc (valueUpTo t y (suc k)) (44 ∷ []) (bare (drawAt t (w .seed) .uri))) in
+      ap (λ (n : ℕ). valueUpTo t y (suc n)) j ∙ value-more k ∙ ap (λ (l : List ℕ). valueUpTo t y (suc k) ++ 44 ∷ l) (sym u)
+      ∙ sym (append-assoc (valueUpTo t y (suc k)) (44 ∷ []) (bare (drawAt t (w .seed) .uri))) in
       let l : r .len ≡ w .len + 1 + length (bare (drawAt t (w .seed) .uri)) = ap (λ (x : Wrote). x .len) (h .0) in
       let e : w .len + 1 ≡ 0 + length (valueUpTo t y (suc k) ++ 44 ∷ []) = omega (arith, a .0, length-append (valueUpTo t y (suc k)) (44 ∷ [])) in (
         (
@@ -101,10 +111,15 @@ module _ (t : List ℕ) (formed : tableRefusal t ≡ 0) (y : ℕ) where
       )
 
 -- the whole value
-pub after-all : (t : List ℕ) → tableRefusal t ≡ 0 → (x : ℕ) (b : List ℕ) {y n k : ℕ} {w : Wrote} {c : List ℕ} → y ≡ nextOf x → n ≡ choiceOf y 8 → k ≡ n → 4096 ≤ length b
+pub after-all : (t : List ℕ) → tableRefusal t ≡ 0 → (x : ℕ) (b : List ℕ) {y n k : ℕ} {w : Wrote} {c : List ℕ} → y ≡ nextOf x
+    → n ≡ choiceOf y 8 → k ≡ n → sampleRoom ≤ length b
     → After t y (suc k) w → c ≡ sets b 0 (valueUpTo t y (suc k))
-    → (_≡_ {A = Made} (record { refusal = 0; len = w .len; seed = w .seed }) (record { refusal = 0; len = length (sampleOf t x .value); seed = sampleOf t x .seed })) × (c ≡ over (sampleOf t x .value) b)
-unfolding drawnOf
+    → (_≡_ {A = Made} (record { refusal = 0; len = w .len; seed = w .seed }) (record {
+      refusal = 0;
+      len = length (sampleOf t x .value);
+      seed = sampleOf t x .seed;
+    })) × (c ≡ over (sampleOf t x .value) b)
+unfolding drawnOf over
 after-all t formed x b {y} {n} {k} {w} {c} e f g h a s =
     let m : k ≡ choiceOf (nextOf x) 8 = g ∙ f ∙ ap (λ (z : ℕ). choiceOf z 8) e in
     let d : drawsOf (categoryNames t) (nodes (tableOf t)) y (suc k) ≡ drawsOf (categoryNames t) (nodes (tableOf t)) (nextOf x) (suc (choiceOf (nextOf x) 8)) =
@@ -128,14 +143,18 @@ module _ (t : List ℕ) (x : ℕ) (b : List ℕ) (d : Decoded) (m : Means t d) w
     zero-refusal : eqb (tableRefusal t) 0 ≡ true
     zero-refusal = eq-eqb (tableRefusal t) 0 (sym (m .refusal) ∙ z)
 
-    pub made-short : length b < 4096 → (_≡_ {A = Made} (record { refusal = 26; len = 0; seed = x }) (madeOf t x (length b))) × (b ≡ bufferOf t x b)
+    pub made-short : length b < sampleRoom → (_≡_ {A = Made} (record { refusal = 26; len = 0; seed = x }) (madeOf t x (length b))) × (b ≡ bufferOf t x b)
     unfolding madeOf bufferOf
-    made-short h = simp (zero-refusal, lt-ltb (length b) 4096 h) (refl, refl)
+    made-short h = simp (zero-refusal, lt-ltb (length b) sampleRoom h) (refl, refl)
 
     pub made-ready : Ready t d
     made-ready = record { formed = sym (m .refusal) ∙ z; holds = m .holds (sym (m .refusal) ∙ z) }
 
-    pub made-whole : {r : Made} {c : List ℕ} → 4096 ≤ length b → (r ≡ record { refusal = 0; len = length (sampleOf t x .value); seed = sampleOf t x .seed }) × (c ≡ over (sampleOf t x .value) b)
+    pub made-whole : {r : Made} {c : List ℕ} → sampleRoom ≤ length b → (r ≡ record {
+      refusal = 0;
+      len = length (sampleOf t x .value);
+      seed = sampleOf t x .seed;
+    }) × (c ≡ over (sampleOf t x .value) b)
         → (r ≡ madeOf t x (length b)) × (c ≡ bufferOf t x b)
     unfolding madeOf bufferOf
-    made-whole h e = simp (zero-refusal, le-ltb (length b) 4096 h) e
+    made-whole h e = simp (zero-refusal, le-ltb (length b) sampleRoom h) e

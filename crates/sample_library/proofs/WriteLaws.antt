@@ -28,11 +28,13 @@ use Rattle.sample_library.proofs.ValueLaws.{chosen-node}
 pub put-start : (b : List ℕ) (at : ℕ) (s : List ℕ) → sets b at s ≡ sets b (at + 0) (drop 0 s)
 put-start b at s = let z : at ≡ at + 0 = omega arith in ap (λ (k : ℕ). sets b k s) z
 
-pub put-on : (b : List ℕ) (at i : ℕ) (s : List ℕ) {c : List ℕ} → i < length s → c ≡ sets b (at + i) (drop i s) → c ≡ sets (set b (at + i) (getD s i 0)) (at + (i + 1)) (drop (i + 1) s)
+pub put-on : (b : List ℕ) (at i : ℕ) (s : List ℕ) {c : List ℕ} → i < length s → c ≡ sets b (at + i) (drop i s)
+    → c ≡ sets (set b (at + i) (getD s i 0)) (at + (i + 1)) (drop (i + 1) s)
 put-on b at i s {c} h e =
     let k : at + (i + 1) ≡ suc (at + i) = omega arith in
     let one : i + 1 ≡ suc i = omega arith in
-    e ∙ ap (sets b (at + i)) (drop-cons s i 0 h) ∙ ap₂ (λ (j : ℕ) (l : List ℕ). sets (set b (at + i) (getD s i 0)) j l) (sym k) (ap (λ (j : ℕ). drop j s) (sym one))
+    e ∙ ap (sets b (at + i)) (drop-cons s i 0 h) ∙ ap₂ (λ (j : ℕ) (l : List ℕ). sets (set b (at + i) (getD s i 0)) j l) (sym k)
+    (ap (λ (j : ℕ). drop j s) (sym one))
 
 pub put-end : (b : List ℕ) (at i : ℕ) (s : List ℕ) {c : List ℕ} → length s ≤ i → c ≡ sets b (at + i) (drop i s) → b ≡ c
 put-end b at i s {c} h e = sym (e ∙ ap (sets b (at + i)) (drop-of-length-le s {i = i} h))
@@ -88,7 +90,8 @@ bare-uri x p = ap (λ (l : List ℕ). first ++ (x ++ l) ++ 62 ∷ []) (colons-fi
 bare-strange : (x p z : List ℕ) → bare (uriOf x (fields 58 p ++ z ∷ [])) ≡ opening x p ++ (58 ∷ z) ++ 62 ∷ []
 unfolding bare uriOf textOf opening
 bare-strange x p z =
-    ap (λ (l : List ℕ). first ++ (x ++ l) ++ 62 ∷ []) (colons-append (fields 58 p) (z ∷ []) ∙ ap₂ (λ (a : List ℕ) (c : List ℕ). a ++ c) (colons-fields p) (colons-one z))
+    ap (λ (l : List ℕ). first ++ (x ++ l) ++ 62 ∷ []) (colons-append (fields 58 p) (z ∷ []) ∙ ap₂ (λ (a : List ℕ) (c : List ℕ). a ++ c)
+    (colons-fields p) (colons-one z))
     ∙ ap (λ (l : List ℕ). first ++ l ++ 62 ∷ []) (sym (append-assoc x (58 ∷ p) (58 ∷ z)))
 
 -- a node's name and path, in the table's bytes
@@ -105,7 +108,8 @@ module _ (t : List ℕ) (d : Decoded) (r : Ready t d) (i : ℕ) (h : i < d .node
   pub cat-few : getD (d .category) i 0 < 8
   cat-few = omega (arith, cat-known, r .holds .names .few-names)
 
-  pub name-is : {w : List ℕ} → w ≡ take (getD (d .«name_len») (getD (d .category) i 0) 0) (drop (getD (d .«name_at») (getD (d .category) i 0) 0) t) → w ≡ nameOf (categoryNames t) u
+  pub name-is : {w : List ℕ} → w ≡ take (getD (d .«name_len») (getD (d .category) i 0) 0)
+      (drop (getD (d .«name_at») (getD (d .category) i 0) 0) t) → w ≡ nameOf (categoryNames t) u
   name-is e = e ∙ r .holds .names .name-at (getD (d .category) i 0) cat-known ∙ ap (λ (k : ℕ). getD (categoryNames t) k []) (r .holds .nodes .cat-at i h)
 
   pub path-is : {w : List ℕ} → w ≡ take (getD (d .len) i 0) (drop (getD (d .at) i 0) t) → fields 58 w ≡ u .path
@@ -114,31 +118,37 @@ module _ (t : List ℕ) (d : Decoded) (r : Ready t d) (i : ℕ) (h : i < d .node
   pub both-short : (x p : List ℕ) → x ≡ nameOf (categoryNames t) u → fields 58 p ≡ u .path → 1 + length x + length p ≤ 255
   unfolding textOf
   both-short x p e f =
-      let g : textOf (nameOf (categoryNames t) u ∷ u .path) ≡ x ++ 58 ∷ p = ap₂ (λ (y : Name) (q : Parts). textOf (y ∷ q)) (sym e) (sym f) ∙ ap (λ (l : List ℕ). x ++ l) (colons-fields p) in
+      let g : textOf (nameOf (categoryNames t) u ∷ u .path) ≡ x ++ 58 ∷ p = ap₂ (λ (y : Name) (q : Parts). textOf (y ∷ q)) (sym e) (sym f)
+      ∙ ap (λ (l : List ℕ). x ++ l) (colons-fields p) in
       omega (arith, written .short, ap length g, length-append x (58 ∷ p))
 
   module _ (x p : List ℕ) (e : x ≡ nameOf (categoryNames t) u) (f : fields 58 p ≡ u .path) (kind : ℕ) where
     plain-bytes : (kind ≡ 1 → ⊥) → opening x p ++ 62 ∷ [] ≡ bare (nodeUri (categoryNames t) (nodes (tableOf t)) kind u)
     unfolding nodeUri
     plain-bytes n =
-        sym (ap (λ (b : Bool). bare (cond b (uriOf (nameOf (categoryNames t) u) (u .path ++ strange (nodes (tableOf t)) u ∷ [])) (uriOf (nameOf (categoryNames t) u) (u .path)))) (ne-eqb kind 1 n)
+        sym (ap (λ (b : Bool). bare (cond b (uriOf (nameOf (categoryNames t) u) (u .path ++ strange (nodes (tableOf t)) u ∷ []))
+        (uriOf (nameOf (categoryNames t) u) (u .path)))) (ne-eqb kind 1 n)
         ∙ ap₂ (λ (y : Name) (q : Parts). bare (uriOf y q)) (sym e) (sym f) ∙ bare-uri x p)
 
     strange-bytes : kind ≡ 1 → opening x p ++ (58 ∷ strange (nodes (tableOf t)) u) ++ 62 ∷ [] ≡ bare (nodeUri (categoryNames t) (nodes (tableOf t)) kind u)
     unfolding nodeUri
     strange-bytes n =
-        sym (ap (λ (b : Bool). bare (cond b (uriOf (nameOf (categoryNames t) u) (u .path ++ strange (nodes (tableOf t)) u ∷ [])) (uriOf (nameOf (categoryNames t) u) (u .path)))) (eq-eqb kind 1 n)
-        ∙ ap₂ (λ (y : Name) (q : Parts). bare (uriOf y (q ++ strange (nodes (tableOf t)) u ∷ []))) (sym e) (sym f) ∙ bare-strange x p (strange (nodes (tableOf t)) u))
+        sym (ap (λ (b : Bool). bare (cond b (uriOf (nameOf (categoryNames t) u) (u .path ++ strange (nodes (tableOf t)) u ∷ []))
+        (uriOf (nameOf (categoryNames t) u) (u .path)))) (eq-eqb kind 1 n)
+        ∙ ap₂ (λ (y : Name) (q : Parts). bare (uriOf y (q ++ strange (nodes (tableOf t)) u ∷ []))) (sym e) (sym f)
+        ∙ bare-strange x p (strange (nodes (tableOf t)) u))
 
     module _ (b : List ℕ) (at : ℕ) {k : ℕ} {b₁ : List ℕ} (g : (k ≡ at + length (opening x p)) × (b₁ ≡ sets b at (opening x p))) where
       pub node-plain : (kind ≡ 1 → ⊥)
-          → (k + 1 ≡ at + length (bare (nodeUri (categoryNames t) (nodes (tableOf t)) kind u))) × (set b₁ k 62 ≡ sets b at (bare (nodeUri (categoryNames t) (nodes (tableOf t)) kind u)))
+          → (k + 1 ≡ at + length (bare (nodeUri (categoryNames t) (nodes (tableOf t)) kind u)))
+          × (set b₁ k 62 ≡ sets b at (bare (nodeUri (categoryNames t) (nodes (tableOf t)) kind u)))
       node-plain n =
           subst (λ (s : List ℕ). (k + 1 ≡ at + length s) × (set b₁ k 62 ≡ sets b at s)) (plain-bytes n) (closed b at (opening x p) (g .0) (g .1))
 
       pub node-strange : {m : ℕ} {b₂ : List ℕ} → kind ≡ 1 → m ≡ k + length (58 ∷ strange (nodes (tableOf t)) (urn (getD (d .category) i 0) (fields 58 p)))
           → b₂ ≡ sets b₁ k (58 ∷ strange (nodes (tableOf t)) (urn (getD (d .category) i 0) (fields 58 p)))
-          → (m + 1 ≡ at + length (bare (nodeUri (categoryNames t) (nodes (tableOf t)) kind u))) × (set b₂ m 62 ≡ sets b at (bare (nodeUri (categoryNames t) (nodes (tableOf t)) kind u)))
+          → (m + 1 ≡ at + length (bare (nodeUri (categoryNames t) (nodes (tableOf t)) kind u)))
+          × (set b₂ m 62 ≡ sets b at (bare (nodeUri (categoryNames t) (nodes (tableOf t)) kind u)))
       node-strange {m} {b₂} n a′ c′ =
           let same : urn (getD (d .category) i 0) (fields 58 p) ≡ u = ap₂ urn (r .holds .nodes .cat-at i h) f in
           let a : m ≡ k + length (58 ∷ strange (nodes (tableOf t)) u) = a′ ∙ ap (λ (v : Urn). k + length (58 ∷ strange (nodes (tableOf t)) v)) same in
@@ -198,15 +208,18 @@ module _ (names : List Name) (ns : List Urn) (x : ℕ) {y kind : ℕ} (e : y ≡
       simp m (λ q. record { uri = nodeUri names ns (k q) (nodeAt ns (w q)); seed = s q })
 
   abbrev Written : List ℕ → ℕ → List ℕ → Wrote → Type 0
-  Written b at c r = (r ≡ record { len = at + length (bare (drawOf names ns x .uri)); seed = drawOf names ns x .seed }) × (c ≡ sets b at (bare (drawOf names ns x .uri)))
+  Written b at c r = (r ≡ record { len = at + length (bare (drawOf names ns x .uri)); seed = drawOf names ns x .seed })
+      × (c ≡ sets b at (bare (drawOf names ns x .uri)))
 
   by-draw : (b : List ℕ) (at : ℕ) {k z : ℕ} {c : List ℕ} (uri : List ℕ) → record { uri = uri; seed = z } ≡ drawOf names ns x
       → (k ≡ at + length (bare uri)) × (c ≡ sets b at (bare uri)) → Written b at c (record { len = k; seed = z })
   by-draw b at {k} {z} {c} uri g h =
-      subst (λ (w : Draw). (_≡_ {A = Wrote} (record { len = k; seed = z }) (record { len = at + length (bare (w .uri)); seed = w .seed })) × (c ≡ sets b at (bare (w .uri)))) g
+      subst (λ (w : Draw). (_≡_ {A = Wrote} (record { len = k; seed = z }) (record { len = at + length (bare (w .uri)); seed = w .seed }))
+      × (c ≡ sets b at (bare (w .uri)))) g
       (ap (λ (j : ℕ). record { len = j; seed = z }) (h .0), h .1)
 
-  pub entry-foreign : (b : List ℕ) (at : ℕ) {k : ℕ} {c : List ℕ} → kind ≡ 2 → (k ≡ at + length (bare (foreignUri names))) × (c ≡ sets b at (bare (foreignUri names)))
+  pub entry-foreign : (b : List ℕ) (at : ℕ) {k : ℕ} {c : List ℕ} → kind ≡ 2 → (k ≡ at + length (bare (foreignUri names)))
+      × (c ≡ sets b at (bare (foreignUri names)))
       → Written b at c (record { len = k; seed = y })
   entry-foreign b at n h = by-draw b at (foreignUri names) (draw-foreign n) h
 

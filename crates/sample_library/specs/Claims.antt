@@ -5,6 +5,7 @@ use mathlib.Core.Logic.{_⊎_, _↔_}
 use mathlib.Core.Bool.{true, cond}
 use mathlib.Core.List.{List, [], _∷_, List·Memᴰ}
 use lib.ListN.{length, take, drop}
+use Rattle.base_numbers.specs.Numbers.{sampleRoom}
 use Rattle.value_reader.specs.Value.{refusalOf, urisOf}
 use Rattle.theory_resolution.specs.Names.{Name, sameName}
 use Rattle.urn_names.specs.Urn.{alertUrn}
@@ -43,7 +44,7 @@ pub record Answers (t : List ℕ) (x : ℕ) (b : List ℕ) : Type 0 where
   -- 4 to 12 come first, whatever the buffer
   pub table-first : (tableRefusal t ≡ 0 → ⊥) → madeOf t x (length b) .refusal ≡ tableRefusal t
   -- then 26, exactly for a buffer under 4,096 bytes
-  pub too-short : tableRefusal t ≡ 0 → (madeOf t x (length b) .refusal ≡ 26) ↔ (length b < 4096)
+  pub too-short : tableRefusal t ≡ 0 → (madeOf t x (length b) .refusal ≡ 26) ↔ (length b < sampleRoom)
   -- a refusal changes nothing, neither buffer nor seed, and its length is 0
   pub refused-keeps : (madeOf t x (length b) .refusal ≡ 0 → ⊥) → (bufferOf t x b ≡ b) × (madeOf t x (length b) .seed ≡ x) × (madeOf t x (length b) .len ≡ 0)
   -- else the buffer has the value, as long as was answered, and behind it what it had

@@ -2,8 +2,10 @@
 use Prim.Native.Nat.{ℕ, zero, suc}
 use mathlib.Core.Bool.{cond}
 use mathlib.Core.List.{List, [], _∷_, _++_}
-use lib.ListN.{length, getD, drop}
+use lib.ListN.{length, getD}
 use lib.Dec.{eqb, ltb}
+use Rattle.base_numbers.specs.Numbers.{sampleNoRoom, sampleRoom}
+use Rattle.base_lists.specs.Lists.{over}
 use Rattle.theory_resolution.specs.Names.{Name, Parts}
 use Rattle.theory_resolution.specs.Table.{Urn}
 use Rattle.theory_resolution.specs.Nodes.{nodes, nodeAt}
@@ -91,16 +93,12 @@ refusedWith k x = record { refusal = k; len = 0; seed = x }
 unfoldable pub madeOf : List ℕ → ℕ → ℕ → Made
 madeOf t x n =
     cond (eqb (tableRefusal t) 0)
-    (cond (ltb n 4096) (refusedWith 26 x) (record { refusal = 0; len = length (sampleOf t x .value); seed = sampleOf t x .seed }))
+    (cond (ltb n sampleRoom) (refusedWith sampleNoRoom x) (record { refusal = 0; len = length (sampleOf t x .value); seed = sampleOf t x .seed }))
     (refusedWith (tableRefusal t) x)
-
--- p over the front of b
-abbrev pub over : List ℕ → List ℕ → List ℕ
-over p b = p ++ drop (length p) b
 
 -- the buffer b after it: the value, and the bytes past it as they were; unchanged if refused
 unfoldable pub bufferOf : List ℕ → ℕ → List ℕ → List ℕ
-bufferOf t x b = cond (eqb (tableRefusal t) 0) (cond (ltb (length b) 4096) b (over (sampleOf t x .value) b)) b
+bufferOf t x b = cond (eqb (tableRefusal t) 0) (cond (ltb (length b) sampleRoom) b (over (sampleOf t x .value) b)) b
 
 -- what the caller is told of it
 abbrev pub answerOf : Made → Answer

@@ -1,3 +1,4 @@
+// One entry, drawn from the seed and written to the buffer.
 use base_text::cut::text_in;
 use table_decode::Decoded;
 ghost use mathlib.Core.Path.{_≡_};

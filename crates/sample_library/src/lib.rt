@@ -1,4 +1,4 @@
-// Sample headers for the bench: from a table and a seed, a value of 1 to 8 bare entries.
+// Values to test with, made by a table and a seed: 1 to 8 entries, each a URI in angle brackets and nothing else.
 //
 // In: a table, the seed, which is lent, and a buffer. Out: a refusal number, or the length of the value in the buffer; the
 // seed has gone on once for each choice.
@@ -9,12 +9,16 @@
 // by a walk of its MIR by hand. It is thin: all decisions are made in `make_from`.
 mod entry;
 
+use base_numbers::SAMPLE_NO_ROOM;
+use base_numbers::SAMPLE_ROOM;
 use sample_seed::Seed;
 use table_decode::Decoded;
 ghost use mathlib.Core.Path.{_≡_};
 ghost use Prim.Native.Nat.{_≤_};
 ghost use lib.ListN.{length};
-ghost use Rattle.sample_library.specs.Sample.{sampleOf, madeOf, over, bufferOf, answerOf};
+ghost use Rattle.base_numbers.specs.Numbers.{sampleRoom};
+ghost use Rattle.base_lists.specs.Lists.{over};
+ghost use Rattle.sample_library.specs.Sample.{sampleOf, madeOf, bufferOf, answerOf};
 ghost use Rattle.sample_library.specs.Written.{Ready};
 
 // What the maker came to: a refusal number, the length of the value, and the seed after its last choice.
@@ -33,7 +37,7 @@ pub struct Answer {
 
 // The entries by a well-formed table, into a buffer that has room for them.
 fn entries(t: &[u8], d: Decoded, x: u32, buf: &mut [u8]) -> Made
-    requires { ⌜ Ready (now t) d × (4096 ≤ length (now buf)) ⌝ }
+    requires { ⌜ Ready (now t) d × (sampleRoom ≤ length (now buf)) ⌝ }
     ensures { λ r. ⌜
         (r ≡ record { refusal = 0; len = length (sampleOf (now (t .entry)) x .value); seed = sampleOf (now (t .entry)) x .seed })
         × (now (buf .exit) ≡ over (sampleOf (now (t .entry)) x .value) (now (buf .entry)))
@@ -72,9 +76,9 @@ pub fn make_from(t: &[u8], x: u32, buf: &mut [u8]) -> Made
             seed: x,
         };
     }
-    if buf.len() < 4096 {
+    if buf.len() < SAMPLE_ROOM {
         return Made {
-            refusal: 26,
+            refusal: SAMPLE_NO_ROOM,
             len: 0,
             seed: x,
         };

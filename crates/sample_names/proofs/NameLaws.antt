@@ -3,21 +3,27 @@ use Prim.Native.Nat.{ℕ, zero, suc, _+_, _-_, _*_, _/_, _%_, _≤_, _<_}
 use mathlib.Core.Path.{_≡_, refl, sym, ap, _∙_}
 use mathlib.Core.Logic.{_⊎_, inl, inr}
 use mathlib.Core.Bool.{Bool, true, false, cond}
-use mathlib.Core.List.{List, [], _∷_, _++_, reverse, reverse-reverse, head-eq-of-cons-eq, tail-eq-of-cons-eq, append-cancel-left, List·Memᴰ, List·Memᴰ·not-nil, List·Memᴰ·append-cases, List·Memᴰ·eq-of-singleton}
+use mathlib.Core.List.{List, [], _∷_, _++_, reverse, reverse-reverse, head-eq-of-cons-eq, tail-eq-of-cons-eq, append-cancel-left, List·Memᴰ}
+use mathlib.Core.List.{List·Memᴰ·not-nil, List·Memᴰ·append-cases, List·Memᴰ·eq-of-singleton}
 use native.Mathlib.Omega.{arith}
 use lib.Dec.{eqb, ltb, leb}
 use lib.ListN.{length}
 use borrow.Author.Tests.{eqb-true, eqb-false, leb-true, lt-ltb, le-ltb}
-use Rattle.theory_resolution.specs.Lists.{memberBy, Distinct, tabulate, allBelow}
+use Rattle.base_numbers.specs.Numbers.{mostNodes}
+use Rattle.base_lists.proofs.Bools.{byTest}
+use Rattle.base_lists.specs.Cuts.{upTo, past}
+use Rattle.base_lists.specs.Tests.{all}
+use Rattle.base_lists.proofs.Tabulated.{tabulate-length}
+use Rattle.base_lists.proofs.Below.{all-to}
+use Rattle.base_lists.proofs.Lists.{Exact, distinct-add, distinct-fits, member-to}
+use Rattle.base_lists.specs.Lists.{memberBy, Distinct, tabulate, allBelow}
 use Rattle.theory_resolution.specs.Names.{Name, sameName, sameParts}
 use Rattle.theory_resolution.specs.Table.{Urn, urn}
 use Rattle.theory_resolution.specs.Nodes.{sameUrn}
-use Rattle.theory_resolution.proofs.Lists.{Exact, all-to, distinct-add, distinct-fits, member-to, tabulate-length}
 use Rattle.theory_resolution.proofs.Names.{name-exact, parts-exact}
 use Rattle.theory_resolution.proofs.Nodes.{urn-exact}
-use Rattle.base_text.specs.Text.{all, upTo, past, fields, onFirst}
+use Rattle.base_text.specs.Text.{fields, onFirst}
 use Rattle.urn_names.specs.Names.{labelByte, labelOk, nameOk}
-use Rattle.base_text.proofs.Fields.{byTest}
 use Rattle.sample_names.specs.FirstFree.{oneMore, digitsOf, zName, firstFree, nameTaken, partTaken, foreign, strange}
 use Rattle.sample_names.specs.Claims.{NamesDiffer, ForeignFirst, StrangeFirst}
 
@@ -68,13 +74,13 @@ short-test : allBelow 65 (λ k. sameName (short k) (zName k)) ≡ true
 unfolding allBelow zName digitsOf oneMore
 short-test = refl
 
-short-z : (k : ℕ) → k ≤ 64 → short k ≡ zName k
+short-z : (k : ℕ) → k ≤ mostNodes → short k ≡ zName k
 short-z k h = name-exact .to (short k) (zName k) (all-to 65 (λ k. sameName (short k) (zName k)) short-test k (omega arith))
 
-pub z-one : (k : ℕ) → k ≤ 64 → k < 10 → 122 ∷ (48 + k) ∷ [] ≡ zName k
+pub z-one : (k : ℕ) → k ≤ mostNodes → k < 10 → 122 ∷ (48 + k) ∷ [] ≡ zName k
 z-one k h l = ap (λ b. cond b (122 ∷ (48 + k) ∷ []) (122 ∷ (48 + k / 10) ∷ (48 + k % 10) ∷ [])) (sym (lt-ltb k 10 l)) ∙ short-z k h
 
-pub z-two : (k : ℕ) → k ≤ 64 → 10 ≤ k → 122 ∷ (48 + k / 10) ∷ (48 + k % 10) ∷ [] ≡ zName k
+pub z-two : (k : ℕ) → k ≤ mostNodes → 10 ≤ k → 122 ∷ (48 + k / 10) ∷ (48 + k % 10) ∷ [] ≡ zName k
 z-two k h l = ap (λ b. cond b (122 ∷ (48 + k) ∷ []) (122 ∷ (48 + k / 10) ∷ (48 + k % 10) ∷ [])) (sym (le-ltb k 10 l)) ∙ short-z k h
 
 -- they are names of at most three bytes, with no colon
@@ -82,21 +88,21 @@ ok-test : allBelow 65 (λ k. nameOk (zName k)) ≡ true
 unfolding allBelow zName digitsOf oneMore nameOk labelOk labelByte upTo past all
 ok-test = refl
 
-pub z-ok : (k : ℕ) → k ≤ 64 → nameOk (zName k) ≡ true
+pub z-ok : (k : ℕ) → k ≤ mostNodes → nameOk (zName k) ≡ true
 z-ok k h = all-to 65 (λ k. nameOk (zName k)) ok-test k (omega arith)
 
 length-test : allBelow 65 (λ k. leb (length (zName k)) 3) ≡ true
 unfolding allBelow zName digitsOf oneMore
 length-test = refl
 
-pub z-length : (k : ℕ) → k ≤ 64 → length (zName k) ≤ 3
+pub z-length : (k : ℕ) → k ≤ mostNodes → length (zName k) ≤ 3
 z-length k h = leb-true (length (zName k)) 3 (all-to 65 (λ k. leb (length (zName k)) 3) length-test k (omega arith))
 
 alone-test : allBelow 65 (λ k. sameParts (fields 58 (zName k)) (zName k ∷ [])) ≡ true
 unfolding allBelow zName digitsOf oneMore fields onFirst
 alone-test = refl
 
-pub z-alone : (k : ℕ) → k ≤ 64 → fields 58 (zName k) ≡ zName k ∷ []
+pub z-alone : (k : ℕ) → k ≤ mostNodes → fields 58 (zName k) ≡ zName k ∷ []
 z-alone k h = parts-exact .to (fields 58 (zName k)) (zName k ∷ []) (all-to 65 (λ k. sameParts (fields 58 (zName k)) (zName k ∷ [])) alone-test k (omega arith))
 
 -- the search ends at a number that is not taken, or past the last one
@@ -181,7 +187,8 @@ module _ {A : Type 0} (f : A → A → Bool) (ex : Exact f) (g : ℕ → A) (onc
       go : Ended (λ k. memberBy f (g k) l) (length l) 0 (firstFree (λ k. memberBy f (g k) l) (length l) 0)
           → memberBy f (g (firstFree (λ k. memberBy f (g k) l) (length l) 0)) l ≡ false
       go (inl x) = x
-      go (inr x) = all-taken (firstFree (λ k. memberBy f (g k) l) (length l) 0) (omega (arith, x .0)) (x .1) (memberBy f (g (firstFree (λ k. memberBy f (g k) l) (length l) 0)) l) refl
+      go (inr x) = all-taken (firstFree (λ k. memberBy f (g k) l) (length l) 0) (omega (arith, x .0)) (x .1)
+          (memberBy f (g (firstFree (λ k. memberBy f (g k) l) (length l) 0)) l) refl
 
 -- the foreign name is the first that is no category
 pub foreign-first : ForeignFirst
@@ -207,8 +214,8 @@ strange-first ns u = (
 )
 
 -- the numbers are small
-pub strange-number : (ns : List Urn) (u : Urn) → length ns ≤ 64 → firstFree (partTaken ns u) (length ns) 0 ≤ 64
+pub strange-number : (ns : List Urn) (u : Urn) → length ns ≤ mostNodes → firstFree (partTaken ns u) (length ns) 0 ≤ mostNodes
 strange-number ns u h = omega (arith, free-le (partTaken ns u) (length ns) 0)
 
-pub foreign-number : (names : List Name) → length names ≤ 64 → firstFree (nameTaken names) (length names) 0 ≤ 64
+pub foreign-number : (names : List Name) → length names ≤ mostNodes → firstFree (nameTaken names) (length names) 0 ≤ mostNodes
 foreign-number names h = omega (arith, free-le (nameTaken names) (length names) 0)

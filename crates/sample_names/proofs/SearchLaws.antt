@@ -9,17 +9,19 @@ use lib.Dec.{eqb}
 use lib.ListN.{length, getD, take, drop, drop-of-length-le}
 use lib.Seq.{drop-cons}
 use borrow.Author.Tests.{eq-eqb, ne-eqb}
-use Rattle.theory_resolution.specs.Lists.{memberBy, tabulate}
+use Rattle.base_numbers.specs.Numbers.{mostNodes}
+use Rattle.base_lists.specs.Cuts.{stretch}
+use Rattle.base_lists.proofs.Tabulated.{tabulate-length, tabulate-at, tabulate-same, tab-list}
+use Rattle.base_lists.proofs.Bools.{byTest}
+use Rattle.base_lists.specs.Lists.{memberBy, tabulate}
 use Rattle.theory_resolution.specs.Names.{Name, Parts, sameName, sameParts}
 use Rattle.theory_resolution.specs.Table.{Urn, urn, Table}
 use Rattle.theory_resolution.specs.Nodes.{sameUrn, nodes, nodeAt, isNode}
 use Rattle.base_text.specs.Text.{fields}
-use Rattle.node_search.specs.Arrays.{stretch, NamesIn, NodesIn}
-use Rattle.base_text.proofs.Fields.{byTest, same-fields, fields-join}
+use Rattle.node_search.specs.Arrays.{NamesIn, NodesIn}
+use Rattle.base_text.proofs.Fields.{same-fields, fields-join}
 use Rattle.sample_names.specs.FirstFree.{zName, firstFree, nameTaken, partTaken, foreign, strange}
 use Rattle.sample_names.proofs.NameLaws.{z-alone}
-use Rattle.theory_resolution.proofs.Lists.{tabulate-length, tabulate-at, tabulate-same}
-use Rattle.table_places.proofs.Flat.{tab-list}
 use Rattle.sample_names.specs.Held.{heldNames, heldUrn, heldUrns, UrnsIn}
 
 -- a member, looked for from the i-th element on
@@ -92,7 +94,8 @@ module _ (t category at len : List ℕ) (n : ℕ) (u : Urn) (j : ℕ) (inv : Nod
 
 -- the first free name, looked for from the k-th on
 abbrev pub NameSoFar : (t at len : List ℕ) → ℕ → ℕ → Type 0
-NameSoFar t at len n k = (names : List Name) → NamesIn t at len n names → firstFree (nameTaken names) (length names) 0 ≡ firstFree (nameTaken names) (length names - k) k
+NameSoFar t at len n k = (names : List Name) → NamesIn t at len n names → firstFree (nameTaken names) (length names) 0
+    ≡ firstFree (nameTaken names) (length names - k) k
 
 module _ (t at len : List ℕ) (n k : ℕ) (inv : NameSoFar t at len n k) where
   module _ {b : Bool} (h : k < n) (e : (names : List Name) → NamesIn t at len n names → b ≡ nameTaken names k) where
@@ -125,7 +128,8 @@ module _ (t category at len : List ℕ) (n : ℕ) (u : Urn) (k : ℕ) (inv : Par
 pub front-name : (k n : ℕ) (bs : List ℕ) → take n bs ≡ zName k → take (n - 0) (drop 0 bs) ≡ zName k
 front-name k n bs e = let z : n - 0 ≡ n = omega arith in ap (λ (j : ℕ). take j bs) z ∙ e
 
-pub name-same : (names : List Name) (k n : ℕ) (bs : List ℕ) {b : Bool} → take n bs ≡ zName k → b ≡ memberBy sameName (take (n - 0) (drop 0 bs)) names → b ≡ nameTaken names k
+pub name-same : (names : List Name) (k n : ℕ) (bs : List ℕ) {b : Bool} → take n bs ≡ zName k
+    → b ≡ memberBy sameName (take (n - 0) (drop 0 bs)) names → b ≡ nameTaken names k
 unfolding nameTaken
 name-same names k n bs e g = g ∙ ap (λ (z : Name). memberBy sameName z names) (front-name k n bs e)
 
@@ -160,7 +164,8 @@ module _ (p z w : List ℕ) (h : length p < length w) where
       sym (split-there ∙ ap (λ (c : Bool). c && (eqb 58 (getD w (length p) 0) && sameName z (drop (suc (length p)) w))) (front e t)
       ∙ ap (λ (c : Bool). c && sameName z (drop (suc (length p)) w)) (ne-eqb 58 (getD w (length p) 0) (λ q. n (sym q))))
 
-  pub made-rest : {b r : Bool} → b ≡ sameName p (take (length p - 0) w) → b ≡ true → getD w (length p) 0 ≡ 58 → r ≡ sameName z (drop (length p + 1) w) → r ≡ sameName (p ++ 58 ∷ z) w
+  pub made-rest : {b r : Bool} → b ≡ sameName p (take (length p - 0) w) → b ≡ true → getD w (length p) 0 ≡ 58
+      → r ≡ sameName z (drop (length p + 1) w) → r ≡ sameName (p ++ 58 ∷ z) w
   made-rest {b} {r} e t n q =
       let one : length p + 1 ≡ suc (length p) = omega arith in
       q ∙ ap (λ (k : ℕ). sameName z (drop k w)) one ∙
@@ -171,12 +176,13 @@ module _ (p z w : List ℕ) (h : length p < length w) where
 pub node-other : (c : ℕ) (s : List ℕ) (u : Urn) {k : ℕ} → k ≡ u .cat → (c ≡ k → ⊥) → false ≡ sameUrn (urn c (fields 58 s)) u
 node-other c s u {k} e n = sym (ap (λ (b : Bool). b && sameParts (fields 58 s) (u .path)) (ne-eqb c (u .cat) (λ q. n (q ∙ sym e))))
 
-pub node-same : (c : ℕ) (s w : List ℕ) (u : Urn) {k : ℕ} {b : Bool} → k ≡ u .cat → c ≡ k → fields 58 w ≡ u .path → b ≡ sameName s w → b ≡ sameUrn (urn c (fields 58 s)) u
+pub node-same : (c : ℕ) (s w : List ℕ) (u : Urn) {k : ℕ} {b : Bool} → k ≡ u .cat → c ≡ k → fields 58 w ≡ u .path → b ≡ sameName s w
+    → b ≡ sameUrn (urn c (fields 58 s)) u
 node-same c s w u {k} {b} e q f h =
     h ∙ sym (ap₂ (λ (x : Bool) (y : Bool). x && y) (eq-eqb c (u .cat) (q ∙ e)) (ap (sameParts (fields 58 s)) (sym f) ∙ same-fields 58 s w))
 
 -- the k-th name after a path's text
-pub part-same : (ns : List Urn) (c k n : ℕ) (p bs : List ℕ) {b : Bool} → k ≤ 64 → take n bs ≡ zName k
+pub part-same : (ns : List Urn) (c k n : ℕ) (p bs : List ℕ) {b : Bool} → k ≤ mostNodes → take n bs ≡ zName k
     → b ≡ isNode ns c (fields 58 (p ++ 58 ∷ take (n - 0) (drop 0 bs))) → b ≡ partTaken ns (urn c (fields 58 p)) k
 unfolding partTaken
 part-same ns c k n p bs h e g =
@@ -189,7 +195,8 @@ module _ (t at len : List ℕ) (m : ℕ) where
   unfolding heldNames
   held-names names h =
       let q : min m 8 ≡ length names = omega (arith, h .few-names, h .all-names) in
-      ap (tabulate (stretch t at len)) q ∙ tabulate-same (stretch t at len) (λ i. getD names i []) (length names) (λ i k. h .name-at i (omega (arith, h .all-names))) ∙ tab-list names []
+      ap (tabulate (stretch t at len)) q ∙ tabulate-same (stretch t at len) (λ i. getD names i []) (length names)
+      (λ i k. h .name-at i (omega (arith, h .all-names))) ∙ tab-list names []
 
   names-held : NamesIn t at len (min m 8) (heldNames t at len m)
   unfolding heldNames
@@ -199,7 +206,8 @@ module _ (t at len : List ℕ) (m : ℕ) where
     name-at = λ i k. sym (tabulate-at (stretch t at len) (min m 8) i [] k);
   }
 
-  pub foreign-name : {k n : ℕ} {l : List ℕ} → n ≡ min m 8 → ((xs : List Name) → NamesIn t at len n xs → k ≡ firstFree (nameTaken xs) (length xs) 0) → l ≡ zName k
+  pub foreign-name : {k n : ℕ} {l : List ℕ} → n ≡ min m 8
+      → ((xs : List Name) → NamesIn t at len n xs → k ≡ firstFree (nameTaken xs) (length xs) 0) → l ≡ zName k
       → l ≡ foreign (heldNames t at len m)
   unfolding foreign
   foreign-name e f g = g ∙ ap zName (f (heldNames t at len m) (subst (λ (j : ℕ). NamesIn t at len j (heldNames t at len m)) (sym e) names-held))
@@ -208,32 +216,36 @@ module _ (t category at len : List ℕ) (m : ℕ) where
   held-urns : (T : Table) → NodesIn t category at len m T → heldUrns t category at len m ≡ nodes T
   unfolding heldUrns
   held-urns T h =
-      let q : min m 64 ≡ length (nodes T) = omega (arith, h .few-nodes, h .all-nodes) in
+      let q : min m mostNodes ≡ length (nodes T) = omega (arith, h .few-nodes, h .all-nodes) in
       ap (tabulate (heldUrn t category at len)) q
       ∙ tabulate-same (heldUrn t category at len) (nodeAt (nodes T)) (length (nodes T))
       (λ i k. let j : i < m = omega (arith, h .all-nodes) in ap₂ urn (h .cat-at i j) (h .path-at i j))
       ∙ tab-list (nodes T) (urn 0 [])
 
-  urns-held : UrnsIn t category at len (min m 64) (heldUrns t category at len m)
+  urns-held : UrnsIn t category at len (min m mostNodes) (heldUrns t category at len m)
   unfolding heldUrns
   urns-held =
-      let e : (i : ℕ) → i < min m 64 → heldUrn t category at len i ≡ nodeAt (tabulate (heldUrn t category at len) (min m 64)) i =
-      λ i k. sym (tabulate-at (heldUrn t category at len) (min m 64) i (urn 0 []) k) in
+      let e : (i : ℕ) → i < min m mostNodes → heldUrn t category at len i ≡ nodeAt (tabulate (heldUrn t category at len) (min m mostNodes)) i =
+      λ i k. sym (tabulate-at (heldUrn t category at len) (min m mostNodes) i (urn 0 []) k) in
       record {
-        all-nodes = tabulate-length (heldUrn t category at len) (min m 64);
+        all-nodes = tabulate-length (heldUrn t category at len) (min m mostNodes);
         few-nodes = omega arith;
         cat-at = λ i k. ap (λ (u : Urn). u .cat) (e i k);
         path-at = λ i k. ap (λ (u : Urn). u .path) (e i k);
       }
 
-  pub strange-name : (u : Urn) {k n : ℕ} {l : List ℕ} → n ≡ min m 64 → ((ns : List Urn) → UrnsIn t category at len n ns → k ≡ firstFree (partTaken ns u) (length ns) 0) → l ≡ zName k
+  pub strange-name : (u : Urn) {k n : ℕ} {l : List ℕ} → n ≡ min m mostNodes → ((ns : List Urn) → UrnsIn t category at len n ns
+      → k ≡ firstFree (partTaken ns u) (length ns) 0) → l ≡ zName k
       → l ≡ strange (heldUrns t category at len m) u
   unfolding strange
-  strange-name u e f g = g ∙ ap zName (f (heldUrns t category at len m) (subst (λ (j : ℕ). UrnsIn t category at len j (heldUrns t category at len m)) (sym e) urns-held))
+  strange-name u e f g = g ∙ ap zName
+      (f (heldUrns t category at len m) (subst (λ (j : ℕ). UrnsIn t category at len j (heldUrns t category at len m)) (sym e) urns-held))
 
 -- by a table's own arrays they are the table's
-pub foreign-held : (t at len : List ℕ) (m : ℕ) (names : List Name) {l : List ℕ} → l ≡ foreign (heldNames t at len m) → NamesIn t at len m names → l ≡ foreign names
+pub foreign-held : (t at len : List ℕ) (m : ℕ) (names : List Name) {l : List ℕ} → l ≡ foreign (heldNames t at len m)
+    → NamesIn t at len m names → l ≡ foreign names
 foreign-held t at len m names e h = e ∙ ap foreign (held-names t at len m names h)
 
-pub strange-held : (t category at len : List ℕ) (m : ℕ) (u : Urn) (T : Table) {l : List ℕ} → l ≡ strange (heldUrns t category at len m) u → NodesIn t category at len m T → l ≡ strange (nodes T) u
+pub strange-held : (t category at len : List ℕ) (m : ℕ) (u : Urn) (T : Table) {l : List ℕ} → l ≡ strange (heldUrns t category at len m) u
+    → NodesIn t category at len m T → l ≡ strange (nodes T) u
 strange-held t category at len m u T e h = e ∙ ap (λ (ns : List Urn). strange ns u) (held-urns t category at len m T h)

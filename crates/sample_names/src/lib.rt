@@ -5,11 +5,14 @@
 //   search.rt  which of the names are taken
 mod search;
 
-use base_text::compare::at_most;
+use base_bytes::numbers::at_most;
+use base_numbers::MOST_CATEGORIES;
+use base_numbers::MOST_NODES;
 use table_decode::Decoded;
 ghost use mathlib.Core.Path.{_≡_};
 ghost use Prim.Native.Nat.{_≤_};
 ghost use lib.ListN.{length, take};
+ghost use Rattle.base_numbers.specs.Numbers.{mostNodes};
 ghost use Rattle.theory_resolution.specs.Table.{urn};
 ghost use Rattle.base_text.specs.Text.{fields};
 ghost use Rattle.sample_names.specs.FirstFree.{zName, foreign as foreignOf, strange as strangeOf};
@@ -23,7 +26,7 @@ pub struct FreeName {
 
 // The k-th of the names.
 pub(crate) fn z_name(k: usize) -> FreeName
-    requires { ⌜ k ≤ 64 ⌝ }
+    requires { ⌜ k ≤ mostNodes ⌝ }
     ensures { λ r. ⌜ (take (r .len) (r .bytes) ≡ zName k) × (r .len ≤ length (r .bytes)) × (r .len ≤ 3) ⌝ }
 {
     if k < 10 {
@@ -46,7 +49,7 @@ pub fn foreign(t: &[u8], d: Decoded) -> FreeName
     ensures { λ r. ⌜ take (r .len) (r .bytes) ≡ foreignOf (heldNames (now (t .entry)) (d .«name_at») (d .«name_len») (d .categories)) ⌝ }
     ensures short { λ r. ⌜ (r .len ≤ length (r .bytes)) × (r .len ≤ 3) ⌝ }
 {
-    let n = at_most(d.categories, 8);
+    let n = at_most(d.categories, MOST_CATEGORIES);
     let k = search::first_name(t, &d.name_at, &d.name_len, n);
     z_name(k)
 }
@@ -59,7 +62,7 @@ pub fn strange(t: &[u8], d: Decoded, c: u8, p: &[u8]) -> FreeName
         ⌝ }
     ensures short { λ r. ⌜ (r .len ≤ length (r .bytes)) × (r .len ≤ 3) ⌝ }
 {
-    let n = at_most(d.nodes, 64);
+    let n = at_most(d.nodes, MOST_NODES);
     let k = search::first_part(t, &d.category, &d.at, &d.len, n, c, p);
     z_name(k)
 }

@@ -1,21 +1,32 @@
+// The search for the first name that is not taken, as a category or as a part of a path.
 use crate::z_name;
+use base_numbers::MOST_CATEGORIES;
+use base_numbers::MOST_NODES;
 use node_search::texts::name_text;
 use node_search::texts::node_text;
 ghost use mathlib.Core.Path.{_≡_};
 ghost use mathlib.Core.List.{List, _∷_, _++_};
 ghost use Prim.Native.Nat.{_≤_, _<_};
 ghost use lib.ListN.{length, getD};
-ghost use Rattle.theory_resolution.specs.Lists.{memberBy};
+ghost use Rattle.base_numbers.specs.Numbers.{mostCategories, mostNodes};
+ghost use Rattle.base_lists.specs.Cuts.{stretch};
+ghost use Rattle.base_lists.specs.Lists.{memberBy};
 ghost use Rattle.theory_resolution.specs.Names.{Name, sameName};
 ghost use Rattle.theory_resolution.specs.Table.{Urn, urn};
 ghost use Rattle.theory_resolution.specs.Nodes.{sameUrn, isNode};
 ghost use Rattle.base_text.specs.Text.{fields};
-ghost use Rattle.node_search.specs.Arrays.{stretch, NamesIn};
+ghost use Rattle.node_search.specs.Arrays.{NamesIn};
 ghost use Rattle.sample_names.specs.FirstFree.{firstFree, nameTaken, partTaken};
 ghost use Rattle.sample_names.specs.Held.{UrnsIn};
 
 // The text z is one of n categories.
-fn is_category(t: &[u8], at: &[u16; 8], len: &[u8; 8], n: usize, z: &[u8]) -> bool
+fn is_category(
+    t: &[u8],
+    at: &[u16; MOST_CATEGORIES],
+    len: &[u8; MOST_CATEGORIES],
+    n: usize,
+    z: &[u8],
+) -> bool
     ensures { λ r. ⌜ ((names : List Name) → NamesIn (now (t .entry)) (now (at .entry)) (now (len .entry)) n names → r ≡ memberBy sameName (now (z .entry)) names) ⌝ }
 {
     let mut i = 0;
@@ -29,8 +40,14 @@ fn is_category(t: &[u8], at: &[u16; 8], len: &[u8; 8], n: usize, z: &[u8]) -> bo
 }
 
 // The k-th of the names is one of n categories.
-fn name_taken(t: &[u8], at: &[u16; 8], len: &[u8; 8], n: usize, k: usize) -> bool
-    requires { ⌜ k ≤ 64 ⌝ }
+fn name_taken(
+    t: &[u8],
+    at: &[u16; MOST_CATEGORIES],
+    len: &[u8; MOST_CATEGORIES],
+    n: usize,
+    k: usize,
+) -> bool
+    requires { ⌜ k ≤ mostNodes ⌝ }
     ensures { λ r. ⌜ ((names : List Name) → NamesIn (now (t .entry)) (now (at .entry)) (now (len .entry)) n names → r ≡ nameTaken names k) ⌝ }
 {
     let z = z_name(k);
@@ -41,10 +58,15 @@ fn name_taken(t: &[u8], at: &[u16; 8], len: &[u8; 8], n: usize, k: usize) -> boo
 }
 
 // The number of the first name that is none of n categories.
-pub(crate) fn first_name<'a>(t: &[u8], at: &'a [u16; 8], len: &'a [u8; 8], n: usize) -> usize
-    requires { ⌜ n ≤ 8 ⌝ }
+pub(crate) fn first_name<'a>(
+    t: &[u8],
+    at: &'a [u16; MOST_CATEGORIES],
+    len: &'a [u8; MOST_CATEGORIES],
+    n: usize,
+) -> usize
+    requires { ⌜ n ≤ mostCategories ⌝ }
     ensures { λ r. ⌜ ((names : List Name) → NamesIn (now (t .entry)) (now (at .entry)) (now (len .entry)) n names → r ≡ firstFree (nameTaken names) (length names) 0) ⌝ }
-    ensures few { λ r. ⌜ r ≤ 64 ⌝ }
+    ensures few { λ r. ⌜ r ≤ mostNodes ⌝ }
 {
     let mut k = 0;
     while k < n {
@@ -68,7 +90,7 @@ fn made_of(p: &[u8], z: &[u8], w: &[u8]) -> bool
     }
     let a = 0;
     if base_text::compare::same(p, &w[a..k]) {
-        if w[k] == 58 {
+        if w[k] == b':' {
             let from = k + 1;
             return base_text::compare::same(z, &w[from..n]);
         }
@@ -80,15 +102,15 @@ fn made_of(p: &[u8], z: &[u8], w: &[u8]) -> bool
 // The node at j is of category c, with the path p, a colon and z.
 fn node_is(
     t: &[u8],
-    category: &[u8; 64],
-    at: &[u16; 64],
-    len: &[u8; 64],
+    category: &[u8; MOST_NODES],
+    at: &[u16; MOST_NODES],
+    len: &[u8; MOST_NODES],
     c: u8,
     p: &[u8],
     z: &[u8],
     j: usize,
 ) -> bool
-    requires { ⌜ j < 64 ⌝ }
+    requires { ⌜ j < mostNodes ⌝ }
     ensures { λ r. ⌜
         ((u : Urn) → getD (now (category .entry)) j 0 ≡ u .cat → fields 58 (stretch (now (t .entry)) (now (at .entry)) (now (len .entry)) j) ≡ u .path
         → r ≡ sameUrn (urn c (fields 58 (now (p .entry) ++ 58 ∷ now (z .entry)))) u)
@@ -104,15 +126,15 @@ fn node_is(
 // One of n nodes is of category c, with the path p, a colon and z.
 fn is_node(
     t: &[u8],
-    category: &[u8; 64],
-    at: &[u16; 64],
-    len: &[u8; 64],
+    category: &[u8; MOST_NODES],
+    at: &[u16; MOST_NODES],
+    len: &[u8; MOST_NODES],
     n: usize,
     c: u8,
     p: &[u8],
     z: &[u8],
 ) -> bool
-    requires { ⌜ n ≤ 64 ⌝ }
+    requires { ⌜ n ≤ mostNodes ⌝ }
     ensures { λ r. ⌜
         ((ns : List Urn) → UrnsIn (now (t .entry)) (now (category .entry)) (now (at .entry)) (now (len .entry)) n ns
         → r ≡ isNode ns c (fields 58 (now (p .entry) ++ 58 ∷ now (z .entry))))
@@ -131,15 +153,15 @@ fn is_node(
 // The k-th of the names makes one of n nodes, in category c under the path p.
 fn part_taken(
     t: &[u8],
-    category: &[u8; 64],
-    at: &[u16; 64],
-    len: &[u8; 64],
+    category: &[u8; MOST_NODES],
+    at: &[u16; MOST_NODES],
+    len: &[u8; MOST_NODES],
     n: usize,
     c: u8,
     p: &[u8],
     k: usize,
 ) -> bool
-    requires { ⌜ (n ≤ 64) × (k ≤ 64) ⌝ }
+    requires { ⌜ (n ≤ mostNodes) × (k ≤ mostNodes) ⌝ }
     ensures { λ r. ⌜
         ((ns : List Urn) → UrnsIn (now (t .entry)) (now (category .entry)) (now (at .entry)) (now (len .entry)) n ns
         → r ≡ partTaken ns (urn c (fields 58 (now (p .entry)))) k)
@@ -155,19 +177,19 @@ fn part_taken(
 // The number of the first name that makes none of n nodes, in category c under the path p.
 pub(crate) fn first_part<'a>(
     t: &[u8],
-    category: &'a [u8; 64],
-    at: &'a [u16; 64],
-    len: &'a [u8; 64],
+    category: &'a [u8; MOST_NODES],
+    at: &'a [u16; MOST_NODES],
+    len: &'a [u8; MOST_NODES],
     n: usize,
     c: u8,
     p: &[u8],
 ) -> usize
-    requires { ⌜ n ≤ 64 ⌝ }
+    requires { ⌜ n ≤ mostNodes ⌝ }
     ensures { λ r. ⌜
         ((ns : List Urn) → UrnsIn (now (t .entry)) (now (category .entry)) (now (at .entry)) (now (len .entry)) n ns
         → r ≡ firstFree (partTaken ns (urn c (fields 58 (now (p .entry))))) (length ns) 0)
         ⌝ }
-    ensures few { λ r. ⌜ r ≤ 64 ⌝ }
+    ensures few { λ r. ⌜ r ≤ mostNodes ⌝ }
 {
     let mut k = 0;
     while k < n {

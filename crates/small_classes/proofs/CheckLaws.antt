@@ -1,14 +1,15 @@
 -- Laws of the check and the proposer as the code makes them.
 use Prim.Native.Nat.{ℕ, _<_}
 use mathlib.Core.Path.{_≡_, refl, sym, ap, ap₂, _∙_}
-use mathlib.Core.Bool.{Bool, true, false, cond, _&&_}
+use mathlib.Core.Bool.{Bool, true, false, cond, _&&_, and-false}
 use mathlib.Core.Option.{some, none}
 use mathlib.Core.List.{List}
 use lib.Dec.{eqb}
 use lib.ListN.{length}
 use borrow.Author.Tests.{eq-eqb, ne-eqb}
 use native.Mathlib.Omega.{arith}
-use Rattle.theory_resolution.specs.Lists.{sameList, allBelow, tabulate}
+use Rattle.base_numbers.specs.Numbers.{mostStates}
+use Rattle.base_lists.specs.Lists.{sameList, allBelow, tabulate}
 use Rattle.theory_minimal.specs.Machine.{Machine, Formed}
 use Rattle.theory_minimal.specs.Proposal.{classOf, classCount}
 use Rattle.theory_minimal.specs.Refine.{leaders, sameClass, blocks, blockNumber, classes}
@@ -42,19 +43,16 @@ module _ (m : Machine) where
   pub firsts-of : Formed m → (x : List ℕ) → x ≡ blocks m → Firsts x (m .states)
   firsts-of f x e = rw e (blocks-firsts m f)
 
-  pub proposal-is : (x out q : List ℕ) (r : Bool) → x ≡ blocks m → out ≡ tabulate (blockNumber x) (m .states) → q ≡ foundStates m → r ≡ allBelow (classCount out) (classFound out q)
+  pub proposal-is : (x out q : List ℕ) (r : Bool) → x ≡ blocks m → out ≡ tabulate (blockNumber x) (m .states) → q ≡ foundStates m
+      → r ≡ allBelow (classCount out) (classFound out q)
       → (r ≡ allReached m (classes m)) × (out ≡ classes m)
   proposal-is x out q r a b d e =
       let i : out ≡ classes m = b ∙ ap (λ z. tabulate (blockNumber z) (m .states)) a in
       (e ∙ ap₂ (λ (o z : List ℕ). allBelow (classCount o) (classFound o z)) i d, i)
 
-and-false : (b : Bool) → (b && false) ≡ false
-and-false false = refl
-and-false true = refl
-
 -- the answers for any rows: a machine must be in them
 module _ (rows : List ℕ) (n head k : ℕ) where
-  pub many-fits : (p : List ℕ) → 256 < n → false ≡ storedFits rows n head k p
+  pub many-fits : (p : List ℕ) → mostStates < n → false ≡ storedFits rows n head k p
   unfolding storedFits
   many-fits p h = rw (← many-no rows n head k (omega arith) h)
 
@@ -73,9 +71,12 @@ module _ (rows : List ℕ) (n head k : ℕ) where
   -- no machine: nothing is proposed, and the list stays
   pub rows-proposed : (b : List ℕ) → isStored rows n head k ≡ false → (false ≡ proposes rows n head k b) × (b ≡ classesIn rows n head k b)
   unfolding storedProposed proposes classesIn
-  rows-proposed b e = rw e (sym (and-false (eqb (length b) n)), sym (ap (λ (s : Bool). cond s (classes (storedMachine rows n head k)) b) (and-false (eqb (length b) n))))
+  rows-proposed b e = rw e (
+    sym (and-false (eqb (length b) n)),
+    sym (ap (λ (s : Bool). cond s (classes (storedMachine rows n head k)) b) (and-false (eqb (length b) n))),
+  )
 
-  pub many-proposed : (b : List ℕ) → 256 < n → (false ≡ proposes rows n head k b) × (b ≡ classesIn rows n head k b)
+  pub many-proposed : (b : List ℕ) → mostStates < n → (false ≡ proposes rows n head k b) × (b ≡ classesIn rows n head k b)
   many-proposed b h = rows-proposed b (sym (many-no rows n head k (omega arith) h))
 
   -- nor into a list of another length
@@ -96,7 +97,8 @@ module _ (rows : List ℕ) (n head k : ℕ) where
       rw (eq-eqb (length b) n l, e) (w .0 ∙ some-cond (allReached m (classes m)) (classes m), w .1)
 
   -- what is proposed, by the answer and the list
-  pub proposed-is : (b b′ : List ℕ) (r : Bool) → length b ≡ n → (r ≡ proposes rows n head k b) × (b′ ≡ classesIn rows n head k b) → storedProposed rows n head k ≡ cond r (some b′) none
+  pub proposed-is : (b b′ : List ℕ) (r : Bool) → length b ≡ n → (r ≡ proposes rows n head k b) × (b′ ≡ classesIn rows n head k b)
+      → storedProposed rows n head k ≡ cond r (some b′) none
   unfolding storedProposed proposes classesIn
   proposed-is b b′ r l w = go (isStored rows n head k) (rw (eq-eqb (length b) n l) at (w .0)) (rw (eq-eqb (length b) n l) at (w .1))
     where

@@ -10,16 +10,18 @@ use borrow.Author.Tests.{ne-eqb, eq-eqb, lt-ltb, le-ltb}
 use native.Mathlib.Numerals.{add-one}
 use native.Mathlib.Decide.{ℕ-discrete}
 use native.Mathlib.Omega.{arith}
-use Rattle.theory_resolution.specs.Lists.{memberBy, addBy, Distinct, tabulate}
+use Rattle.base_lists.proofs.Search.{seek-hit, seek-end}
+use Rattle.base_lists.specs.Search.{seek}
+use Rattle.base_lists.proofs.Tabulated.{tabulate-at, tabulate-length}
+use Rattle.base_lists.proofs.Lists.{eqb-exact, Extends, mem-at, add-has, add-all, distinct-add}
+use Rattle.base_lists.specs.Lists.{memberBy, addBy, Distinct, tabulate}
 use Rattle.theory_resolution.specs.Discovery.{expand, discover}
-use Rattle.theory_resolution.proofs.Lists.{eqb-exact, Extends, mem-at, add-has, add-all, distinct-add, tabulate-at, tabulate-length}
 use Rattle.theory_resolution.proofs.Discovery.{expand-extends, discover-next, discover-done}
 use Rattle.theory_minimal.specs.Machine.{Machine}
-use Rattle.theory_minimal.specs.Proposal.{classOf, seek}
+use Rattle.theory_minimal.specs.Proposal.{classOf}
 use Rattle.small_classes.specs.Found.{zeroAt, Kept, Visited, Turned}
 use Rattle.theory_minimal.specs.Test.{foundStates, foundClass, classFound}
 use Rattle.theory_minimal.proofs.Reach.{numbers-fit}
-use Rattle.small_rounds.proofs.Turns.{seek-hit, seek-end}
 
 mark-yes : (b : Bool) (s : ℕ) → s ≡ cond b 1 0 → (s ≡ 0 → ⊥) → b ≡ true
 mark-yes true s e h = refl
@@ -40,7 +42,8 @@ module _ (n : ℕ) (list seen : List ℕ) (count : ℕ) (k : Kept n list seen co
 
   pub visit-old : (getD seen at 0 ≡ 0 → ⊥) → Visited n list count x list seen count
   visit-old d =
-      let e : memberBy eqb x (take count list) ≡ true = mark-yes (memberBy eqb x (take count list)) (getD seen x 0) (k .marked x h) (λ q. d (ap (λ z. getD seen z 0) at-x ∙ q)) in
+      let e : memberBy eqb x (take count list) ≡ true = mark-yes (memberBy eqb x (take count list)) (getD seen x 0) (k .marked x h)
+      (λ q. d (ap (λ z. getD seen z 0) at-x ∙ q)) in
       record { found = rw e; kept = k }
 
   module _ (d : getD seen at 0 ≡ 0) where
@@ -97,11 +100,13 @@ module _ (m : Machine) (list : List ℕ) (count j : ℕ) where
   unfolding expand
   turned-more s list₁ seen₁ r₁ list₂ seen₂ r₂ x t e v =
       record {
-        found = v .found ∙ ap (λ z. addBy eqb z x) (t .found) ∙ ap (addBy eqb (expand eqb (m .target) j s (take count list))) e ∙ sym (ap (λ z. expand eqb (m .target) j z (take count list)) (add-one s));
+        found = v .found ∙ ap (λ z. addBy eqb z x) (t .found) ∙ ap (addBy eqb (expand eqb (m .target) j s (take count list))) e
+            ∙ sym (ap (λ z. expand eqb (m .target) j z (take count list)) (add-one s));
         kept = v .kept;
       }
 
-  pub turned-all : (s : ℕ) (list₁ seen₁ : List ℕ) (r : ℕ) → s ≤ m .symbols → m .symbols ≤ s → Turned m list count j s list₁ seen₁ r → Turned m list count j (m .symbols) list₁ seen₁ r
+  pub turned-all : (s : ℕ) (list₁ seen₁ : List ℕ) (r : ℕ) → s ≤ m .symbols → m .symbols ≤ s → Turned m list count j s list₁ seen₁ r
+      → Turned m list count j (m .symbols) list₁ seen₁ r
   turned-all s list₁ seen₁ r a b t = let e : s ≡ m .symbols = omega arith in subst (λ (z : ℕ). Turned m list count j z list₁ seen₁ r) e t
 
 -- the states of the list are numbers below n
@@ -131,7 +136,8 @@ module _ (m : Machine) where
 
       pub found-grows : count ≤ r
       found-grows =
-          let x : Extends (take count list) (expand eqb (m .target) j (m .symbols) (take count list)) = expand-extends eqb eqb-exact (m .target) j (m .symbols) (take count list) in
+          let x : Extends (take count list) (expand eqb (m .target) j (m .symbols) (take count list)) =
+          expand-extends eqb eqb-exact (m .target) j (m .symbols) (take count list) in
           let a = t .kept .few in
           let b = k .few in
           omega (
@@ -181,7 +187,8 @@ module _ (p list : List ℕ) (count c : ℕ) (h : count ≤ length list) where
   abbrev pub classAt : ℕ → Bool
   classAt = foundClass p (take count list) c
 
-  pub class-hit : (i s : ℕ) → i < count → s ≡ getD list i 0 → classOf p s ≡ c → seek classAt 0 count ≡ seek classAt i (count - i) → true ≡ classFound p (take count list) c
+  pub class-hit : (i s : ℕ) → i < count → s ≡ getD list i 0 → classOf p s ≡ c → seek classAt 0 count ≡ seek classAt i (count - i)
+      → true ≡ classFound p (take count list) c
   class-hit i s a b d e =
       let w : classAt i ≡ true = eq-eqb (classOf p (getD (take count list) i 0)) c (ap (classOf p) (getD-take count list i 0 a ∙ sym b) ∙ d) in
       let z = length-take-le count list h in

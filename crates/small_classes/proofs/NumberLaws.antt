@@ -8,13 +8,15 @@ use lib.ListN.{getD}
 use borrow.Author.Tests.{eqb-true, eqb-false}
 use native.Mathlib.Numerals.{add-one}
 use native.Mathlib.Omega.{arith}
+use Rattle.base_numbers.specs.Numbers.{mostStates}
+use Rattle.base_lists.proofs.Search.{count-fits}
+use Rattle.base_lists.specs.Search.{count}
+use Rattle.base_lists.proofs.Filled.{Filled}
 use Rattle.theory_minimal.specs.Machine.{Machine, Formed}
 use Rattle.theory_minimal.specs.Proposal.{classOf}
-use Rattle.theory_minimal.specs.Refine.{count, isFirst, blockNumber, blocks}
+use Rattle.theory_minimal.specs.Refine.{isFirst, blockNumber, blocks}
 use Rattle.small_classes.specs.Found.{Firsts}
-use Rattle.theory_minimal.proofs.Count.{count-fits}
 use Rattle.theory_minimal.proofs.Classes.{block-le, block-leads}
-use Rattle.small_rounds.proofs.Turns.{Filled}
 
 -- blocks are lists of first states
 pub blocks-firsts : (m : Machine) → Formed m → Firsts (blocks m) (m .states)
@@ -24,7 +26,8 @@ module _ (b : List ℕ) (n : ℕ) (fs : Firsts b n) (i : ℕ) (h : i < n) (f : �
   pub first-below : f < n
   first-below = omega (arith, fs .before i h)
 
-  pub number-value : (c : List ℕ) (next v : ℕ) → Filled (blockNumber b) c i → next ≡ count (isFirst b) i → v ≡ cond (eqb f i) next (getD c f 0) → v ≡ blockNumber b i
+  pub number-value : (c : List ℕ) (next v : ℕ) → Filled (blockNumber b) c i → next ≡ count (isFirst b) i
+      → v ≡ cond (eqb f i) next (getD c f 0) → v ≡ blockNumber b i
   number-value c next v a d g = go (eqb f i) refl
     where
       go : (t : Bool) → eqb f i ≡ t → v ≡ blockNumber b i
@@ -44,7 +47,7 @@ module _ (b : List ℕ) (n : ℕ) (fs : Firsts b n) (i : ℕ) (h : i < n) (f : �
   number-next next r d g = rw (add-one, ← e, ← d) g
 
 -- fewer than 256 come before a state below 256
-pub number-small : (b : List ℕ) (n i next : ℕ) → i < n → n ≤ 256 → next ≡ count (isFirst b) i → next < 256
+pub number-small : (b : List ℕ) (n i next : ℕ) → i < n → n ≤ mostStates → next ≡ count (isFirst b) i → next < 256
 number-small b n i next h k e = omega (arith, count-fits (isFirst b) i)
 
 pub number-none : (b : List ℕ) → 0 ≡ count (isFirst b) 0

@@ -5,7 +5,7 @@ use mathlib.Core.Bool.{cond}
 use mathlib.Core.List.{List, List·Memᴰ}
 use lib.Dec.{eqb}
 use lib.ListN.{getD, length, take}
-use Rattle.theory_resolution.specs.Lists.{memberBy, addBy, Distinct}
+use Rattle.base_lists.specs.Lists.{memberBy, addBy, Distinct}
 use Rattle.theory_resolution.specs.Discovery.{expand}
 use Rattle.theory_minimal.specs.Machine.{Machine}
 use Rattle.theory_minimal.specs.Proposal.{classOf}

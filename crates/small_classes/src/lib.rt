@@ -5,6 +5,8 @@
 //
 //   numbers.rt  classes by their first states
 //   states.rt   the states that state 0 leads to, and their classes
+use base_numbers::MOST_STATES;
+
 mod numbers;
 pub mod states;
 
@@ -56,15 +58,15 @@ fn check_in(
 pub fn check(rows: &[u8], p: &[u8], n: usize, head: usize, k: usize) -> bool
     ensures { λ r. ⌜ r ≡ storedFits (now (rows .entry)) n head k (now (p .entry)) ⌝ }
 {
-    if 256 < n {
+    if MOST_STATES < n {
         return false;
     }
     if p.len() != n {
         return false;
     }
     let a = 0;
-    let mut x = [0u8; 256];
-    let mut y = [0u8; 256];
+    let mut x = [0u8; MOST_STATES];
+    let mut y = [0u8; MOST_STATES];
     check_in(rows, p, &mut x[a..n], &mut y[a..n], n, head, k)
 }
 
@@ -112,14 +114,14 @@ fn propose_in(
 pub fn propose(rows: &[u8], out: &mut [u8], n: usize, head: usize, k: usize) -> bool
     ensures { λ r. ⌜ (r ≡ proposes (now (rows .entry)) n head k (now (out .entry))) × (now (out .exit) ≡ classesIn (now (rows .entry)) n head k (now (out .entry))) ⌝ }
 {
-    if 256 < n {
+    if MOST_STATES < n {
         return false;
     }
     if out.len() != n {
         return false;
     }
     let a = 0;
-    let mut x = [0u8; 256];
-    let mut y = [0u8; 256];
+    let mut x = [0u8; MOST_STATES];
+    let mut y = [0u8; MOST_STATES];
     propose_in(rows, out, &mut x[a..n], &mut y[a..n], n, head, k)
 }

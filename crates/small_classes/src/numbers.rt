@@ -1,11 +1,12 @@
 // Classes by their first states: the first state of each state's class, and classes numbered in the order of these.
-use base_text::cut::wide;
+use base_bytes::numbers::wide;
 ghost use mathlib.Core.Path.{_≡_};
 ghost use Prim.Native.Nat.{suc, _≤_, _<_};
 ghost use mathlib.Core.Bool.{cond};
 ghost use lib.Dec.{eqb};
 ghost use lib.ListN.{length, getD};
-ghost use Rattle.theory_resolution.specs.Lists.{tabulate};
+ghost use Rattle.base_numbers.specs.Numbers.{mostStates};
+ghost use Rattle.base_lists.specs.Lists.{tabulate};
 ghost use Rattle.theory_minimal.specs.Refine.{leader, leaders, sameClass, blockNumber};
 ghost use Rattle.small_classes.specs.Found.{Firsts};
 
@@ -26,7 +27,7 @@ fn first_same(p: &[u8], i: usize) -> usize
 
 // For each state the first one of its class.
 pub(crate) fn first_states(p: &[u8], q: &mut [u8], n: usize)
-    requires { ⌜ (n ≤ 256) × (length (now p) ≡ n) × (length (now q) ≡ n) ⌝ }
+    requires { ⌜ (n ≤ mostStates) × (length (now p) ≡ n) × (length (now q) ≡ n) ⌝ }
     ensures { λ r. ⌜ now (q .exit) ≡ leaders (sameClass (now (p .entry))) n ⌝ }
 {
     let mut i = 0;
@@ -61,7 +62,7 @@ fn next_number(next: usize, f: usize, i: usize) -> usize
 
 // The classes of the blocks b, numbered by their first states.
 pub(crate) fn number(b: &[u8], c: &mut [u8], n: usize)
-    requires { ⌜ (n ≤ 256) × (length (now b) ≡ n) × (length (now c) ≡ n) × Firsts (now b) n ⌝ }
+    requires { ⌜ (n ≤ mostStates) × (length (now b) ≡ n) × (length (now c) ≡ n) × Firsts (now b) n ⌝ }
     ensures { λ r. ⌜ now (c .exit) ≡ tabulate (blockNumber (now (b .entry))) n ⌝ }
 {
     let mut next: usize = 0;

@@ -1,17 +1,19 @@
 // The states that state 0 leads to, and the classes that have one of them.
-use base_text::cut::wide;
+use base_bytes::numbers::wide;
 ghost use mathlib.Core.Path.{_≡_};
 ghost use Prim.Native.Nat.{ℕ, _≤_, _<_, max};
 ghost use lib.ListN.{length, take, getD};
-ghost use Rattle.theory_resolution.specs.Lists.{allBelow, tabulate};
-ghost use Rattle.theory_minimal.specs.Proposal.{classOf, highest, classCount};
+ghost use Rattle.base_numbers.specs.Numbers.{mostStates};
+ghost use Rattle.base_lists.specs.Search.{highest};
+ghost use Rattle.base_lists.specs.Lists.{allBelow, tabulate};
+ghost use Rattle.theory_minimal.specs.Proposal.{classOf, classCount};
 ghost use Rattle.small_rounds.specs.Stored.{storedMachine, Stored};
 ghost use Rattle.small_classes.specs.Found.{zeroAt, Kept, Visited, Turned};
 ghost use Rattle.theory_minimal.specs.Test.{foundStates, classFound};
 
 // How many states are found after x, which is put at their end unless it was found before.
 fn visit(list: &mut [u8], seen: &mut [u8], n: usize, count: usize, x: u8) -> usize
-    requires { ⌜ Kept n (now list) (now seen) count × (x < n) × (n ≤ 256) ⌝ }
+    requires { ⌜ Kept n (now list) (now seen) count × (x < n) × (n ≤ mostStates) ⌝ }
     ensures { λ r. ⌜ Visited n (now (list .entry)) count x (now (list .exit)) (now (seen .exit)) r ⌝ }
 {
     let at = wide(x);

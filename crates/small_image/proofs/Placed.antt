@@ -1,29 +1,23 @@
 -- Where everything stands in a small image, and that its form is right.
 use Prim.Native.Nat.{ℕ, zero, suc, _+_, _*_, _/_, _%_, _≤_, _<_}
 use mathlib.Core.Path.{_≡_, refl, sym, ap, _∙_}
-use mathlib.Core.Bool.{Bool, true, _&&_, and-eq-true-iff}
+use mathlib.Core.Bool.{true}
 use mathlib.Core.List.{List, [], _∷_, _++_, append-assoc}
-use lib.Dec.{eqb, ltb, leb}
 use lib.ListN.{length, getD, take, drop, length-append, List·getD-append}
 use lib.Seq.{getD-at, getD-append-add, take-at}
-use borrow.Author.Tests.{le-leb, lt-ltb, eq-eqb}
 use native.Mathlib.Decide.{ℕ-discrete}
-use native.Mathlib.Nat.{zero-mul, suc-mul, mul-le-mul-right}
+use native.Mathlib.Nat.{zero-mul, suc-mul}
 use native.Mathlib.Omega.{arith}
-use Rattle.theory_resolution.specs.Lists.{allBelow}
-use Rattle.theory_resolution.specs.Names.{sameName}
+use Rattle.base_lists.proofs.Numbers.{row-fits}
+use Rattle.base_lists.proofs.Tabulated.{tabulate-at, tabulate-length}
 use Rattle.theory_resolution.specs.Table.{Table}
 use Rattle.theory_resolution.specs.Symbols.{symbols}
-use Rattle.theory_resolution.proofs.Lists.{Exact, eqb-exact, list-exact, tabulate-at, tabulate-length, all-of}
 use Rattle.machine_image.specs.Image.{storedSymbols, symbolCount, stateCount, placeOf, signalIn, targetIn}
-use Rattle.machine_image.specs.Refusals.{sameSymbols}
 use Rattle.machine_image.proofs.Joined.{stored-length}
 use Rattle.theory_minimal.specs.Machine.{Machine}
-use Rattle.small_image.specs.Small.{smallBytes, smallStates, smallImage, smallTargetBelow, smallStateFormed, smallForm}
+use Rattle.small_image.specs.Small.{smallBytes, smallStates, smallImage, smallForm}
 use Rattle.small_image.specs.Claims.{SmallFits, SmallLayout}
-
-stretch : (i n w : ℕ) → i < n → i * w + w ≤ n * w
-stretch i n w h = rw (← suc-mul i w) (mul-le-mul-right w h)
+use Rattle.machine_image.proofs.Form.{form-of-over}
 
 -- the states' bytes
 module _ (m : Machine) where
@@ -53,7 +47,7 @@ module _ (m : Machine) where
           ∙ sym (ap (λ z. getD (smallBytes m z) i 0) e)
       go (no e) ih =
           let a : c < n = omega arith in
-          List·getD-append (smallStates m n) (smallBytes m n) 0 (c * width + i) (omega (arith, states-length n, stretch c n width a)) ∙ ih a
+          List·getD-append (smallStates m n) (smallBytes m n) 0 (c * width + i) (omega (arith, states-length n, row-fits c n width a)) ∙ ih a
 
 -- the image's parts
 module _ (T : Table) (m : Machine) where
@@ -103,7 +97,8 @@ module _ (T : Table) (m : Machine) where
         ap length image-parts
         ∙ length-append front (m .states % 256 ∷ m .states / 256 ∷ smallStates m (m .states))
         ∙ omega (arith, front-length, states-length m (m .states) ∙ ap (λ z. m .states * (z + 0 + 1)) same) in
-        e ∙ ap (λ z. 3 + 3 * count + z * (count + 0 + 1)) (sym image-states) ∙ ap (λ z. 3 + 3 * z + stateCount (smallImage T m) * (z + 0 + 1)) (sym image-symbols)
+        e ∙ ap (λ z. 3 + 3 * count + z * (count + 0 + 1)) (sym image-states)
+        ∙ ap (λ z. 3 + 3 * z + stateCount (smallImage T m) * (z + 0 + 1)) (sym image-symbols)
 
     pub image-signal : (c : ℕ) → c < m .states → signalIn 0 (smallImage T m) c ≡ m .signal c
     image-signal c h =
@@ -128,46 +123,31 @@ module _ (T : Table) (m : Machine) where
         place : 3 + 3 * count + c * width m + 1 + 0 + k ≡ 3 + 3 * count + (c * width m + suc k)
         place = omega arith
 
-bytes-exact : Exact sameName
-bytes-exact = list-exact eqb-exact
-
 module _ (T : Table) (m : Machine) (ok : SmallFits T m) where
   abbrev im : List ℕ
   im = smallImage T m
 
-  state-formed : (c : ℕ) → c < stateCount im → smallStateFormed T im c ≡ true
-  unfolding smallStateFormed
-  state-formed c h =
-      let a : c < m .states = omega (arith, image-states T m) in
-      and-eq-true-iff (ltb (signalIn 0 im c) (length (T .signals))) (allBelow (symbolCount im) (smallTargetBelow im c)) .1 (
-        lt-ltb (signalIn 0 im c) (length (T .signals)) (omega (arith, image-signal T m (ok .symbolled) c a, ok .listed c a)),
-        all-of (symbolCount im) (smallTargetBelow im c) (λ k i. below c k a (omega (arith, image-symbols T m, ok .symbolled))),
-      )
-    where
-      below : (c k : ℕ) → c < m .states → k < m .symbols → smallTargetBelow im c k ≡ true
-      below c k a b =
-          lt-ltb (targetIn 0 im c k) (stateCount im)
-          (omega (arith, image-target T m (ok .symbolled) c k a b, ok .formed .leads c k a b, image-states T m))
+  below : (c k : ℕ) → c < m .states → k < m .symbols → targetIn 0 im c k < stateCount im
+  below c k a b = omega (arith, image-target T m (ok .symbolled) c k a b, ok .formed .leads c k a b, image-states T m)
 
   pub image-formed : smallForm T im ≡ true
-  unfolding smallForm
-  image-formed = both (leb (3 + 3 * symbolCount im) (length im)) _ (le-leb (3 + 3 * symbolCount im) (length im) long)
-      (both (eqb (length im) (placeOf 0 im (stateCount im))) _ (eq-eqb (length im) (placeOf 0 im (stateCount im)) (image-length T m (ok .symbolled)))
-      (both (sameSymbols T im) _ same
-      (both (leb 1 (stateCount im)) _ (le-leb 1 (stateCount im) (omega (arith, image-states T m, ok .formed .some-state)))
-      (both (leb (stateCount im) 256) (allBelow (stateCount im) (smallStateFormed T im)) (le-leb (stateCount im) 256 (omega (arith, image-states T m, ok .few)))
-      (all-of (stateCount im) (smallStateFormed T im) state-formed)))))
+  image-formed =
+      form-of-over 0 T im (record {
+        counts-fit = long;
+        length-right = image-length T m (ok .symbolled);
+        symbols-right = same;
+        some-state = omega (arith, image-states T m, ok .formed .some-state);
+        few-states = omega (arith, image-states T m, ok .few);
+        signal-listed = λ c h. let a : c < m .states = omega (arith, image-states T m) in omega (arith, image-signal T m (ok .symbolled) c a, ok .listed c a);
+        status-formed = λ c k h i. absurd (omega arith);
+        leads = λ c k h i. below c k (omega (arith, image-states T m)) (omega (arith, image-symbols T m, ok .symbolled));
+      })
     where
-      both : (a b : Bool) → a ≡ true → b ≡ true → (a && b) ≡ true
-      both a b e d = and-eq-true-iff a b .1 (e, d)
-
       long : 3 + 3 * symbolCount im ≤ length im
       long = omega (arith, image-length T m (ok .symbolled))
 
-      same : sameSymbols T im ≡ true
-      same =
-          ap (λ z. sameName z (storedSymbols T)) (ap (λ z. take (3 * z) (drop 1 im)) (image-symbols T m) ∙ image-taken T m)
-          ∙ bytes-exact .self (storedSymbols T)
+      same : take (3 * symbolCount im) (drop 1 im) ≡ storedSymbols T
+      same = ap (λ z. take (3 * z) (drop 1 im)) (image-symbols T m) ∙ image-taken T m
 
   pub small-layout : SmallLayout T m
   small-layout =

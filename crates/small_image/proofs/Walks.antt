@@ -5,6 +5,7 @@ use mathlib.Core.Option.{Option, none, some}
 use mathlib.Core.List.{List, [], _∷_, _++_, foldl, List·Memᴰ·head, List·Memᴰ·tail, Memᴰ·append-left}
 use lib.ListN.{length}
 use native.Mathlib.Omega.{arith}
+use Rattle.base_numbers.specs.Numbers.{mostStates}
 use Rattle.theory_resolution.specs.Table.{Urn, Table, WellFormed}
 use Rattle.theory_resolution.specs.Direct.{Used, usedOf, AllUsed, stepUri, changes}
 use Rattle.theory_resolution.specs.Nodes.{nodes}
@@ -44,7 +45,7 @@ module _ (T : Table) (im : List ℕ) (ok : image.Formed T im) where
   pub large-formed : Formed large
   large-formed = record { some-state = ok .some-state; leads = ok .leads }
 
-  module _ (p : List ℕ) (f : Fits large p) (few : classCount p ≤ 256) where
+  module _ (p : List ℕ) (f : Fits large p) (few : classCount p ≤ mostStates) where
     pub small-fits : SmallFits T (small large p)
     small-fits =
         record {

@@ -5,6 +5,7 @@ use mathlib.Core.Bool.{true}
 use mathlib.Core.Option.{Option}
 use mathlib.Core.List.{List, _++_}
 use lib.ListN.{length, getD, take, drop}
+use Rattle.base_numbers.specs.Numbers.{mostStates}
 use Rattle.theory_resolution.specs.Names.{Parts}
 use Rattle.theory_resolution.specs.Table.{Urn, Table, mostParts}
 use Rattle.theory_resolution.specs.Direct.{direct, usedOf, stepUri, changes}
@@ -19,7 +20,7 @@ use Rattle.small_image.specs.Numbers.{smallOf}
 -- a machine that a small image can hold: 1 to 256 states with signals of the table, and one target for each of its symbols
 pub record SmallFits (T : Table) (m : Machine) : Type 0 where
   pub formed : Formed m
-  pub few : m .states ≤ 256
+  pub few : m .states ≤ mostStates
   pub symbolled : m .symbols ≡ length (symbols T)
   pub listed : (c : ℕ) → c < m .states → m .signal c < length (T .signals)
 

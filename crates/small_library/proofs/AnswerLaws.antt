@@ -9,6 +9,9 @@ use lib.ListN.{length, take, drop, replicate, length-drop}
 use lib.Seq.{take-all}
 use borrow.Author.Tests.{eqb-true, eqb-false, eq-eqb, ne-eqb}
 use native.Mathlib.Omega.{arith}
+use Rattle.base_numbers.specs.Numbers.{mostSymbols}
+use Rattle.base_bytes.specs.Built.{refused}
+use Rattle.base_lists.proofs.Numbers.{min-le}
 use Rattle.theory_resolution.specs.Symbols.{symbols}
 use Rattle.theory_resolution.proofs.SymbolCount.{few-symbols}
 use Rattle.machine_image.specs.Image.{symbolCount, stateCount}
@@ -20,8 +23,7 @@ use Rattle.table_decode.specs.Decoded.{Means}
 use Rattle.table_decode.specs.declared.Decoded.{Decoded}
 use Rattle.table_decode.specs.Accepted.{Accepted}
 use Rattle.table_decode.proofs.Accepting.{accepted}
-use Rattle.machine_build.specs.declared.Built.{Built}
-use Rattle.machine_build.specs.Built.{refused}
+use Rattle.base_bytes.specs.declared.Built.{Built}
 use Rattle.machine_library.specs.Built.{checkFrom}
 use Rattle.machine_library.proofs.Claims.{all-used}
 use Rattle.theory_minimal.specs.Test.{fits, proposed}
@@ -34,7 +36,6 @@ use Rattle.small_write.proofs.AnswerLaws.{answer-refused}
 use Rattle.small_library.specs.Smaller.{machineFrom, classesRefusal, numberOf, bytesOf, proposeRefusal}
 use Rattle.small_library.specs.Rows.{frontOf, rowsOf, machineBy}
 use Rattle.small_library.proofs.RowLaws.{fits-same, proposed-same, small-same}
-use Rattle.base_text.proofs.Lesser.{min-le}
 
 -- the parts of an image as the code lends them
 pub rows-is : (im : List ℕ) (k : ℕ) → k ≡ symbolCount im → take (length im - (3 + 3 * k)) (drop (3 + 3 * k) im) ≡ rowsOf im
@@ -55,11 +56,13 @@ module _ (im : List ℕ) (rows : List ℕ) (n k head : ℕ) (rows-are : rows ≡
       ∙ ap (λ z. storedFits (rowsOf im) z head k p) n-is
       ∙ ap (λ z. storedFits (rowsOf im) (stateCount im) head z p) k-is
 
-  pub fit-yes : (p : List ℕ) (b : Bool) → b ≡ storedFits rows n head k p → b ≡ true → _≡_ {A = ℕ} 0 (fitRefusal (rowsOf im) (stateCount im) head (symbolCount im) p)
+  pub fit-yes : (p : List ℕ) (b : Bool) → b ≡ storedFits rows n head k p → b ≡ true
+      → _≡_ {A = ℕ} 0 (fitRefusal (rowsOf im) (stateCount im) head (symbolCount im) p)
   unfolding fitRefusal
   fit-yes p b e t = rw (sym (fits-read p) ∙ sym e ∙ t)
 
-  pub fit-no : (p : List ℕ) (b : Bool) → b ≡ storedFits rows n head k p → b ≡ false → _≡_ {A = ℕ} 27 (fitRefusal (rowsOf im) (stateCount im) head (symbolCount im) p)
+  pub fit-no : (p : List ℕ) (b : Bool) → b ≡ storedFits rows n head k p → b ≡ false
+      → _≡_ {A = ℕ} 27 (fitRefusal (rowsOf im) (stateCount im) head (symbolCount im) p)
   unfolding fitRefusal
   fit-no p b e t = rw (sym (fits-read p) ∙ sym e ∙ t)
 
@@ -81,8 +84,10 @@ module _ (im : List ℕ) (rows : List ℕ) (n k head : ℕ) (rows-are : rows ≡
       ∙ ap (λ z. smallBy (frontOf im) (storedMachine (rowsOf im) (stateCount im) head z) p) k-is
 
   pub write-read : (front p : List ℕ) (room : ℕ) → front ≡ frontOf im
-      → (answerIn (fitRefusal rows n head k p) (smallBy front (storedMachine rows n head k) p) room ≡ answerIn (fitRefusal (rowsOf im) (stateCount im) head (symbolCount im) p) (smallBy (frontOf im) (machineBy im head) p) room)
-      × (bufferIn (fitRefusal rows n head k p) (smallBy front (storedMachine rows n head k) p) room ≡ bufferIn (fitRefusal (rowsOf im) (stateCount im) head (symbolCount im) p) (smallBy (frontOf im) (machineBy im head) p) room)
+      → (answerIn (fitRefusal rows n head k p) (smallBy front (storedMachine rows n head k) p) room
+      ≡ answerIn (fitRefusal (rowsOf im) (stateCount im) head (symbolCount im) p) (smallBy (frontOf im) (machineBy im head) p) room)
+      × (bufferIn (fitRefusal rows n head k p) (smallBy front (storedMachine rows n head k) p) room
+      ≡ bufferIn (fitRefusal (rowsOf im) (stateCount im) head (symbolCount im) p) (smallBy (frontOf im) (machineBy im head) p) room)
   write-read front p room e = (
     ap (λ x. answerIn x (smallBy front (storedMachine rows n head k) p) room) (refusal-read p)
         ∙ ap (λ x. answerIn (fitRefusal (rowsOf im) (stateCount im) head (symbolCount im) p) x room) (image-read front p e),
@@ -118,10 +123,12 @@ module _ (t im : List ℕ) (k : ℕ) (e : k ≡ checkFrom t im) (n : k ≡ 0 →
   unfolding proposeRefusal
   propose-number = e ∙ sym (rw other)
 
-  pub write-refused : (p bytes : List ℕ) (room : ℕ) → (refused k ≡ answerIn (classesRefusal t im p) bytes room) × (replicate room 0 ≡ bufferIn (classesRefusal t im p) bytes room)
+  pub write-refused : (p bytes : List ℕ) (room : ℕ) → (refused k ≡ answerIn (classesRefusal t im p) bytes room)
+      × (replicate room 0 ≡ bufferIn (classesRefusal t im p) bytes room)
   write-refused p bytes room = rw (← check-refused p) (answer-refused bytes room k n)
 
-  pub propose-refused : (bytes : List ℕ) (room : ℕ) → (refused k ≡ answerIn (proposeRefusal t im) bytes room) × (replicate room 0 ≡ bufferIn (proposeRefusal t im) bytes room)
+  pub propose-refused : (bytes : List ℕ) (room : ℕ) → (refused k ≡ answerIn (proposeRefusal t im) bytes room)
+      × (replicate room 0 ≡ bufferIn (proposeRefusal t im) bytes room)
   propose-refused bytes room = rw (← propose-number) (answer-refused bytes room k n)
 
 both-zero : (b : Bool) (x r : ℕ) → eqb r 0 ≡ b → _≡_ {A = ℕ} (cond b x r) 0 → (r ≡ 0) × (x ≡ 0)
@@ -146,7 +153,7 @@ module _ (t im : List ℕ) (z : checkFrom t im ≡ 0) where
   pub accepted-table : Accepted (tableOf t)
   accepted-table = accepted t well
 
-  pub symbols-few : length (symbols (tableOf t)) ≤ 128
+  pub symbols-few : length (symbols (tableOf t)) ≤ mostSymbols
   symbols-few = omega (arith, few-symbols (tableOf t) (all-used t well), accepted-table .few-nodes)
 
   same : eqb (checkFrom t im) 0 ≡ true
@@ -169,8 +176,10 @@ module _ (t im : List ℕ) (z : checkFrom t im ≡ 0) where
         ∙ small-same (tableOf t) im formed (accepted-table .few-categories) symbols-few p
 
     pub write-accepted : (p : List ℕ) (room : ℕ)
-        → (answerIn (fitRefusal (rowsOf im) (stateCount im) head (symbolCount im) p) (smallBy (frontOf im) (machineBy im head) p) room ≡ answerIn (classesRefusal t im p) (smallOf (tableOf t) im p) room)
-        × (bufferIn (fitRefusal (rowsOf im) (stateCount im) head (symbolCount im) p) (smallBy (frontOf im) (machineBy im head) p) room ≡ bufferIn (classesRefusal t im p) (smallOf (tableOf t) im p) room)
+        → (answerIn (fitRefusal (rowsOf im) (stateCount im) head (symbolCount im) p) (smallBy (frontOf im) (machineBy im head) p) room
+        ≡ answerIn (classesRefusal t im p) (smallOf (tableOf t) im p) room)
+        × (bufferIn (fitRefusal (rowsOf im) (stateCount im) head (symbolCount im) p) (smallBy (frontOf im) (machineBy im head) p) room
+        ≡ bufferIn (classesRefusal t im p) (smallOf (tableOf t) im p) room)
     write-accepted p room =
         let a = check-accepted p (fitRefusal (rowsOf im) (stateCount im) head (symbolCount im) p) refl in (
           ap (λ x. answerIn x (smallBy (frontOf im) (machineBy im head) p) room) a ∙ ap (λ x. answerIn (classesRefusal t im p) x room) (bytes-same p),
@@ -187,11 +196,17 @@ module _ (t im : List ℕ) (z : checkFrom t im ≡ 0) where
     number-same = ap numberOf proposal-same ∙ sym (ap (λ b. cond b (numberOf (proposed (machineFrom t im))) (checkFrom t im)) same)
 
     pub propose-accepted : (room : ℕ)
-        → (answerIn (numberOf (storedProposed (rowsOf im) (stateCount im) head (symbolCount im))) (bytesOf (storedProposed (rowsOf im) (stateCount im) head (symbolCount im))) room ≡ answerIn (proposeRefusal t im) (bytesOf (proposed (machineFrom t im))) room)
-        × (bufferIn (numberOf (storedProposed (rowsOf im) (stateCount im) head (symbolCount im))) (bytesOf (storedProposed (rowsOf im) (stateCount im) head (symbolCount im))) room ≡ bufferIn (proposeRefusal t im) (bytesOf (proposed (machineFrom t im))) room)
+        → (answerIn (numberOf (storedProposed (rowsOf im) (stateCount im) head (symbolCount im)))
+        (bytesOf (storedProposed (rowsOf im) (stateCount im) head (symbolCount im))) room
+        ≡ answerIn (proposeRefusal t im) (bytesOf (proposed (machineFrom t im))) room)
+        × (bufferIn (numberOf (storedProposed (rowsOf im) (stateCount im) head (symbolCount im)))
+        (bytesOf (storedProposed (rowsOf im) (stateCount im) head (symbolCount im))) room
+        ≡ bufferIn (proposeRefusal t im) (bytesOf (proposed (machineFrom t im))) room)
     propose-accepted room = (
-      ap (λ x. answerIn x (bytesOf (storedProposed (rowsOf im) (stateCount im) head (symbolCount im))) room) number-same ∙ ap (λ x. answerIn (proposeRefusal t im) (bytesOf x) room) proposal-same,
-      ap (λ x. bufferIn x (bytesOf (storedProposed (rowsOf im) (stateCount im) head (symbolCount im))) room) number-same ∙ ap (λ x. bufferIn (proposeRefusal t im) (bytesOf x) room) proposal-same,
+      ap (λ x. answerIn x (bytesOf (storedProposed (rowsOf im) (stateCount im) head (symbolCount im))) room) number-same
+          ∙ ap (λ x. answerIn (proposeRefusal t im) (bytesOf x) room) proposal-same,
+      ap (λ x. bufferIn x (bytesOf (storedProposed (rowsOf im) (stateCount im) head (symbolCount im))) room) number-same
+          ∙ ap (λ x. bufferIn (proposeRefusal t im) (bytesOf x) room) proposal-same,
     )
 
 -- the bytes before a state's targets: one for the signal, and one for each category

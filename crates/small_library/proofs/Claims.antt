@@ -10,18 +10,17 @@ use lib.ListN.{length, replicate}
 use borrow.Author.Tests.{eqb-true, eqb-false, eq-eqb, ne-eqb}
 use native.Mathlib.Nat.{mul-le-mul-right}
 use native.Mathlib.Omega.{arith}
-use Rattle.theory_resolution.specs.Lists.{allBelow}
+use Rattle.base_numbers.specs.Numbers.{mostStates, mostSymbols}
+use Rattle.base_lists.specs.Lists.{allBelow}
 use Rattle.theory_resolution.specs.Table.{Table}
 use Rattle.theory_resolution.specs.Direct.{start, sameState}
 use Rattle.theory_resolution.specs.Symbols.{symbols}
 use Rattle.theory_resolution.specs.Build.{discovered, machineOf}
 use Rattle.theory_resolution.specs.Machine.{machineState, rowRight}
-use Rattle.theory_resolution.specs.Machine as tables
 use Rattle.theory_resolution.proofs.Build.{machine-length}
 use Rattle.machine_image.specs.Image.{imageOf, machineImage, machineIn, stateCount}
 use Rattle.machine_image.specs.Refusals.{formOf, checkOf}
 use Rattle.machine_image.specs.Storable.{Storable}
-use Rattle.machine_image.proofs.Form as image
 use Rattle.machine_image.proofs.Stored.{image-symbols, image-states, image-target}
 use Rattle.machine_image.proofs.Build.{few-found, own-storable}
 use Rattle.table_decode.specs.Tables.{tableOf, tableRefusal}
@@ -47,8 +46,11 @@ use Rattle.small_image.proofs.Walks.{first-state, large-formed, small-fits, sma
 use Rattle.small_write.specs.Answer.{refusalIn, answerIn, bufferIn}
 use Rattle.small_write.proofs.AnswerLaws.{answer-short, answer-done}
 use Rattle.small_library.specs.Smaller.{machineFrom, classesRefusal, numberOf, bytesOf, proposeRefusal}
-use Rattle.small_library.specs.Claims.{CheckExactly, ProposeExactly, Proposes, CheckClaim, WritesClaim, RefusedClaim, ProposeClaim, OwnClaim, ClassesNumber, SmallNumber, NumbersClaim}
+use Rattle.small_library.specs.Claims.{CheckExactly, ProposeExactly, Proposes, CheckClaim, WritesClaim, RefusedClaim, ProposeClaim, OwnClaim}
+use Rattle.small_library.specs.Claims.{ClassesNumber, SmallNumber, NumbersClaim}
 use Rattle.small_library.proofs.AnswerLaws.{well, right, formed, symbols-few}
+use Rattle.theory_resolution.specs.Machine as tables
+use Rattle.machine_image.proofs.Form as image
 
 -- the numbers of the checker
 check-numbers : (a b c : Bool) → cond a (cond b (cond c 0 17) 16) 15 ≤ 17
@@ -60,7 +62,8 @@ check-numbers false b c = omega arith
 check-small : (T : Table) (im : List ℕ) → checkOf T im ≤ 17
 unfolding checkOf
 check-small T im =
-    check-numbers (formOf T im) (sameState (machineState (machineIn T im) 0 .pair) (start (T .cats))) (allBelow (length (machineIn T im)) (rowRight T (machineIn T im)))
+    check-numbers (formOf T im) (sameState (machineState (machineIn T im) 0 .pair) (start (T .cats)))
+    (allBelow (length (machineIn T im)) (rowRight T (machineIn T im)))
 
 module _ (t im : List ℕ) where
   within : checkFrom t im ≤ 17
@@ -154,7 +157,8 @@ check-parts false b c = inr (inr (inl (omega arith, omega arith)))
 check-of-image : (T : Table) (im : List ℕ) → ClassesNumber (checkOf T im)
 unfolding checkOf
 check-of-image T im =
-    check-parts (formOf T im) (sameState (machineState (machineIn T im) 0 .pair) (start (T .cats))) (allBelow (length (machineIn T im)) (rowRight T (machineIn T im)))
+    check-parts (formOf T im) (sameState (machineState (machineIn T im) 0 .pair) (start (T .cats)))
+    (allBelow (length (machineIn T im)) (rowRight T (machineIn T im)))
 
 check-from : (t im : List ℕ) → ClassesNumber (checkFrom t im)
 unfolding checkFrom
@@ -185,7 +189,8 @@ classes-number t im p =
 propose-numbers : (t im : List ℕ) → ClassesNumber (proposeRefusal t im)
 unfolding proposeRefusal
 propose-numbers t im =
-    either-number (eqb (checkFrom t im) 0) (numberOf (proposed (machineFrom t im))) (checkFrom t im) (option-number (proposed (machineFrom t im))) (check-from t im)
+    either-number (eqb (checkFrom t im) 0) (numberOf (proposed (machineFrom t im))) (checkFrom t im)
+    (option-number (proposed (machineFrom t im))) (check-from t im)
 
 room-number : (b c : Bool) (k : ℕ) → ClassesNumber k → SmallNumber (cond b (cond c 14 0) k)
 room-number true true k h = inr refl
@@ -210,11 +215,13 @@ fewer-classes m ok p f =
     values-fit (firstOf p) (classCount p) (m .states) (λ c h. first-state m ok p f c h .0)
     (λ c d h k e. sym (first-state m ok p f c h .1) ∙ ap (classOf p) e ∙ first-state m ok p f d k .1)
 
-right-form-of : (T : Table) (im : List ℕ) (ok : image.Formed T im) (p : List ℕ) (f : Fits (numbersIn (T .cats) im) p) → classCount p ≤ 256 → smallForm T (smallOf T im p) ≡ true
+right-form-of : (T : Table) (im : List ℕ) (ok : image.Formed T im) (p : List ℕ) (f : Fits (numbersIn (T .cats) im) p) → classCount p ≤ mostStates
+    → smallForm T (smallOf T im p) ≡ true
 unfolding smallOf
 right-form-of T im ok p f few = image-formed T (small (numbersIn (T .cats) im) p) (small-fits T im ok p f few)
 
-short-of : (T : Table) (im : List ℕ) (ok : image.Formed T im) (p : List ℕ) (f : Fits (numbersIn (T .cats) im) p) → classCount p ≤ 256 → length (symbols T) ≤ 128
+short-of : (T : Table) (im : List ℕ) (ok : image.Formed T im) (p : List ℕ) (f : Fits (numbersIn (T .cats) im) p)
+    → classCount p ≤ mostStates → length (symbols T) ≤ mostSymbols
     → length (smallOf T im p) ≤ 33411
 unfolding smallOf
 short-of T im ok p f few s =
@@ -240,7 +247,8 @@ writes-claim t im p h =
     }
 
 -- after any refusal
-cleared : (k : ℕ) (bytes : List ℕ) (room : ℕ) → (answerIn k bytes room .refusal ≡ 0 → ⊥) → (answerIn k bytes room .len ≡ 0) × (bufferIn k bytes room ≡ replicate room 0)
+cleared : (k : ℕ) (bytes : List ℕ) (room : ℕ) → (answerIn k bytes room .refusal ≡ 0 → ⊥) → (answerIn k bytes room .len ≡ 0)
+    × (bufferIn k bytes room ≡ replicate room 0)
 unfolding answerIn bufferIn
 cleared k bytes room n = rw (ne-eqb (refusalIn k bytes room) 0 n) (refl, refl)
 
@@ -307,9 +315,9 @@ agree-run a b ok same j h (s ∷ w) l =
     let i = sequence-first a s w l in
     ap (λ z. run b z w) (same j s h i) ∙ agree-run a b ok same (a .target j s) (ok .leads j s h i) w (sequence-rest a s w l)
 
-module _ (T : Table) (few : length (discovered T 256) ≤ 256) (ok : Storable T (machineOf T (discovered T 256))) where
+module _ (T : Table) (few : length (discovered T mostStates) ≤ mostStates) (ok : Storable T (machineOf T (discovered T mostStates))) where
   abbrev own : tables.Machine
-  own = machineOf T (discovered T 256)
+  own = machineOf T (discovered T mostStates)
 
   abbrev im : List ℕ
   im = imageOf T own
@@ -322,8 +330,8 @@ module _ (T : Table) (few : length (discovered T 256) ≤ 256) (ok : Storable T 
 
   all-reached : (j : ℕ) → j < stateCount im → Reachable (numbersIn (T .cats) im) j
   all-reached j h =
-      let l = machine-length T (discovered T 256) in
-      let r = all-before T 256 (length (discovered T 256)) (omega arith) j (omega (arith, image-states T own, l)) in
+      let l = machine-length T (discovered T mostStates) in
+      let r = all-before T mostStates (length (discovered T mostStates)) (omega arith) j (omega (arith, image-states T own, l)) in
       record {
         by = r .by;
         listed = λ k i. omega (arith, image-symbols T own, r .listed k i);

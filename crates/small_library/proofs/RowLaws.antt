@@ -6,6 +6,7 @@ use mathlib.Core.List.{List, [], _∷_}
 use lib.ListN.{length, getD, take, drop, length-drop}
 use lib.Seq.{getD-drop}
 use native.Mathlib.Omega.{arith}
+use Rattle.base_numbers.specs.Numbers.{mostSymbols}
 use Rattle.theory_resolution.specs.Table.{Table}
 use Rattle.theory_resolution.specs.Symbols.{symbols}
 use Rattle.machine_image.specs.Image.{storedSymbols, symbolCount, stateCount, placeOf, signalIn, targetIn}
@@ -37,7 +38,7 @@ module _ (cats : ℕ) (im : List ℕ) where
   pub machine-same : machineBy im (1 + cats) ≡ numbersIn cats im
   machine-same = λ i. record { states = stateCount im; symbols = k; signal = λ j. same-signal j i; target = λ j s. same-target j s i }
 
-module _ (T : Table) (im : List ℕ) (ok : Formed T im) (few-cats : T .cats ≤ 8) (few : length (symbols T) ≤ 128) where
+module _ (T : Table) (im : List ℕ) (ok : Formed T im) (few-cats : T .cats ≤ 8) (few : length (symbols T) ≤ mostSymbols) where
   abbrev head : ℕ
   head = 1 + T .cats
 

@@ -6,11 +6,11 @@ use mathlib.Core.Bool.{true}
 use mathlib.Core.Option.{Option}
 use mathlib.Core.List.{List, [], _++_}
 use lib.ListN.{length, replicate}
+use Rattle.base_bytes.specs.Built.{accepted}
 use Rattle.theory_resolution.specs.Table.{Urn}
 use Rattle.theory_resolution.specs.Direct.{AllUsed}
 use Rattle.machine_image.specs.Image.{machineImage, stateCount}
 use Rattle.table_decode.specs.Tables.{tableOf, tableRefusal}
-use Rattle.machine_build.specs.Built.{accepted}
 use Rattle.machine_library.specs.Built.{checkFrom}
 use Rattle.machine_library.specs.Claims.{TooManyStates}
 use Rattle.theory_minimal.specs.Proposal.{classCount, Fits, ByFirstStates, SameButNumbers}

@@ -4,8 +4,9 @@ use mathlib.Core.Bool.{cond}
 use mathlib.Core.Option.{Option, some, none}
 use mathlib.Core.List.{List, []}
 use lib.Dec.{eqb}
+use Rattle.base_numbers.specs.Numbers.{badClasses}
 use Rattle.table_decode.specs.Tables.{tableOf}
-use Rattle.machine_build.specs.declared.Built.{Built}
+use Rattle.base_bytes.specs.declared.Built.{Built}
 use Rattle.machine_library.specs.Built.{checkFrom}
 use Rattle.theory_minimal.specs.Machine.{Machine}
 use Rattle.theory_minimal.specs.Test.{fits, proposed}
@@ -18,7 +19,7 @@ machineFrom t im = numbersIn (tableOf t .cats) im
 
 -- what the checker says of the image; else 27 for a proposal that does not fit the machine in it, else 0
 unfoldable pub classesRefusal : List ℕ → List ℕ → List ℕ → ℕ
-classesRefusal t im p = cond (eqb (checkFrom t im) 0) (cond (fits (machineFrom t im) p) 0 27) (checkFrom t im)
+classesRefusal t im p = cond (eqb (checkFrom t im) 0) (cond (fits (machineFrom t im) p) 0 badClasses) (checkFrom t im)
 
 -- the writer's answer, and the whole buffer after it
 abbrev pub smallFrom : List ℕ → List ℕ → List ℕ → ℕ → Built
@@ -29,7 +30,7 @@ smallBuffer t im p room = bufferIn (classesRefusal t im p) (smallOf (tableOf t) 
 
 -- the proposer's number and bytes: 27 and none if there is no proposal
 abbrev pub numberOf : Option (List ℕ) → ℕ
-numberOf none = 27
+numberOf none = badClasses
 numberOf (some p) = 0
 
 abbrev pub bytesOf : Option (List ℕ) → List ℕ

@@ -1,5 +1,5 @@
 // The same for C: a table, an image, a proposal and a buffer are each a pointer and a length.
-use machine_build::Built;
+use base_bytes::Built;
 ghost use mathlib.Core.Path.{_≡_};
 ghost use lib.ListN.{length};
 ghost use Rattle.small_library.specs.Smaller.{classesRefusal, smallFrom, smallBuffer, proposedFrom, proposedBuffer};

@@ -1,8 +1,12 @@
-use base_text::cut::wide;
-use machine_build::Built;
+// An accepted image handed to the check of a proposal, to the proposer and to the writer: as rows, with their counts.
+use base_bytes::Built;
+use base_bytes::numbers::wide;
+use base_numbers::BAD_CLASSES;
+use base_numbers::MOST_STATES;
 ghost use mathlib.Core.Path.{_≡_};
 ghost use Prim.Native.Nat.{_+_, _*_, _≤_, _<_};
 ghost use lib.ListN.{length, getD};
+ghost use Rattle.base_numbers.specs.Numbers.{mostStates};
 ghost use Rattle.machine_image.specs.Image.{symbolCount, stateCount};
 ghost use Rattle.small_classes.specs.Check.{storedProposed};
 ghost use Rattle.small_write.specs.Answer.{answerIn, bufferIn};
@@ -42,7 +46,7 @@ pub(crate) fn fit(im: &[u8], p: &[u8], head: usize) -> u8
     if small_classes::check(&im[a..e], p, n, head, k) {
         return 0;
     }
-    27
+    BAD_CLASSES
 }
 
 // The small image of the proposal's classes, written to the buffer.
@@ -64,7 +68,7 @@ pub(crate) fn write(im: &[u8], p: &[u8], buf: &mut [u8], head: usize) -> Built
 
 // The proposer's classes, written to the buffer.
 pub(crate) fn propose(im: &[u8], buf: &mut [u8], head: usize) -> Built
-    requires { ⌜ (3 + 3 * symbolCount (now im) ≤ length (now im)) × (stateCount (now im) ≤ 256) ⌝ }
+    requires { ⌜ (3 + 3 * symbolCount (now im) ≤ length (now im)) × (stateCount (now im) ≤ mostStates) ⌝ }
     ensures { λ r. ⌜ r ≡ answerIn (numberOf (storedProposed (rowsOf (now (im .entry))) (stateCount (now (im .entry))) head (symbolCount (now (im .entry)))))
         (bytesOf (storedProposed (rowsOf (now (im .entry))) (stateCount (now (im .entry))) head (symbolCount (now (im .entry))))) (length (now (buf .entry))) ⌝ }
     ensures { λ _. ⌜ now (buf .exit) ≡ bufferIn (numberOf (storedProposed (rowsOf (now (im .entry))) (stateCount (now (im .entry))) head (symbolCount (now (im .entry)))))
@@ -75,7 +79,7 @@ pub(crate) fn propose(im: &[u8], buf: &mut [u8], head: usize) -> Built
     let a = 3 + 3 * k;
     let e = im.len();
     let z = 0;
-    let mut classes = [0u8; 256];
+    let mut classes = [0u8; MOST_STATES];
     propose_to(&im[a..e], &mut classes[z..n], buf, n, head, k)
 }
 
@@ -93,7 +97,7 @@ fn propose_to(
     ensures { λ _. ⌜ now (buf .exit) ≡ bufferIn (numberOf (storedProposed (now (rows .entry)) n head k)) (bytesOf (storedProposed (now (rows .entry)) n head k)) (length (now (buf .entry))) ⌝ }
 {
     if !small_classes::propose(rows, classes, n, head, k) {
-        return machine_build::refuse(buf, 27);
+        return base_bytes::refuse(buf, BAD_CLASSES);
     }
     small_write::put(classes, buf)
 }

@@ -5,10 +5,12 @@
 //
 //   image.rt  what is answered for an image of right form
 //   c.rt      all of it for C
+use base_numbers::MOST_CATEGORIES;
+
 pub mod c;
 mod image;
 
-pub use machine_build::Built;
+pub use base_bytes::Built;
 ghost use mathlib.Core.Path.{_≡_};
 ghost use lib.ListN.{length};
 ghost use Rattle.small_library.specs.Smaller.{classesRefusal, smallFrom, smallBuffer, proposedFrom, proposedBuffer};
@@ -31,7 +33,7 @@ fn judge(t: &[u8], im: &[u8]) -> Judged
             head: 0,
         };
     }
-    let s = machine_symbols::list(&d.category, &d.parent, d.nodes, d.categories);
+    let s = machine_symbols::list(&d.category, &d.inner, d.nodes, d.categories);
     let refusal = machine_check::check_by(
         &d.rows,
         &d.parent,
@@ -44,7 +46,7 @@ fn judge(t: &[u8], im: &[u8]) -> Judged
         s.count,
         im,
     );
-    let head = base_text::compare::at_most(d.categories, 8) + 1;
+    let head = base_bytes::numbers::at_most(d.categories, MOST_CATEGORIES) + 1;
     Judged { refusal, head }
 }
 
@@ -67,7 +69,7 @@ pub fn write(t: &[u8], im: &[u8], p: &[u8], buf: &mut [u8]) -> Built
 {
     let j = judge(t, im);
     if j.refusal != 0 {
-        return machine_build::refuse(buf, j.refusal);
+        return base_bytes::refuse(buf, j.refusal);
     }
     image::write(im, p, buf, j.head)
 }
@@ -79,7 +81,7 @@ pub fn propose(t: &[u8], im: &[u8], buf: &mut [u8]) -> Built
 {
     let j = judge(t, im);
     if j.refusal != 0 {
-        return machine_build::refuse(buf, j.refusal);
+        return base_bytes::refuse(buf, j.refusal);
     }
     image::propose(im, buf, j.head)
 }

@@ -1,4 +1,3 @@
-pub mod Turns
 pub mod StoredLaws
 pub mod TestLaws
 pub mod RoundLaws

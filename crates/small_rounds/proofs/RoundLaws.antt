@@ -7,8 +7,9 @@ use lib.Dec.{eqb}
 use lib.ListN.{length}
 use native.Mathlib.Numerals.{add-one}
 use native.Mathlib.Omega.{arith}
-use Rattle.theory_resolution.specs.Lists.{sameList, tabulate}
-use Rattle.theory_resolution.proofs.Lists.{eqb-exact, list-exact, tabulate-length}
+use Rattle.base_lists.proofs.Tabulated.{tabulate-length}
+use Rattle.base_lists.proofs.Lists.{eqb-exact, list-exact}
+use Rattle.base_lists.specs.Lists.{sameList, tabulate}
 use Rattle.theory_minimal.specs.Machine.{Machine}
 use Rattle.theory_minimal.specs.Refine.{leader, sameRow, refine, refined, blocks}
 

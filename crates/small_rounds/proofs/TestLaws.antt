@@ -8,21 +8,22 @@ use lib.ListN.{length}
 use borrow.Author.Tests.{leb-true, ltb-true, le-leb, lt-leb, lt-ltb, le-ltb, eq-eqb, ne-eqb}
 use native.Mathlib.Nat.{mul-le-mul-right}
 use native.Mathlib.Omega.{arith}
-use Rattle.theory_resolution.specs.Lists.{allBelow}
-use Rattle.theory_resolution.proofs.Lists.{all-to, all-of, all-stop}
+use Rattle.base_numbers.specs.Numbers.{mostStates}
+use Rattle.base_lists.proofs.Numbers.{row-fits}
+use Rattle.base_lists.proofs.Below.{all-to, all-of, all-stop, all-more}
+use Rattle.base_lists.specs.Lists.{allBelow}
 use Rattle.theory_minimal.specs.Machine.{Machine}
 use Rattle.small_rounds.specs.Stored.{storedMachine, leadsOn, rowLeads, isStored, Stored}
-use Rattle.small_rounds.proofs.Turns.{stretch, all-more}
 
 -- where a row of n rows lies
 module _ (rows : List ℕ) (n head k j : ℕ) (h : j < n) where
   pub row-within : n * (head + k) ≤ length rows → j * (head + k) + (head + k) ≤ length rows
-  row-within r = omega (arith, stretch j n (head + k) h)
+  row-within r = omega (arith, row-fits j n (head + k) h)
 
-  pub row-below : head + k ≤ 1024 → n ≤ 256 → j * (head + k) + (head + k) ≤ 262144
+  pub row-below : head + k ≤ 1024 → n ≤ mostStates → j * (head + k) + (head + k) ≤ 262144
   row-below w f =
       let a = mul-le-mul-right (head + k) f in
-      omega (arith, stretch j n (head + k) h)
+      omega (arith, row-fits j n (head + k) h)
 
 -- one row, target by target
 module _ (m : Machine) (j : ℕ) where
@@ -49,13 +50,13 @@ module _ (rows : List ℕ) (n head k : ℕ) where
     some-yes : leb 1 n ≡ true
     some-yes = le-leb 1 n a
 
-    pub many-no : 256 < n → false ≡ isStored rows n head k
+    pub many-no : mostStates < n → false ≡ isStored rows n head k
     unfolding isStored
-    many-no h = rw (some-yes, lt-leb n 256 h)
+    many-no h = rw (some-yes, lt-leb n mostStates h)
 
-    module _ (b : n ≤ 256) where
-      few-yes : leb n 256 ≡ true
-      few-yes = le-leb n 256 b
+    module _ (b : n ≤ mostStates) where
+      few-yes : leb n mostStates ≡ true
+      few-yes = le-leb n mostStates b
 
       pub bare-no : head < 1 → false ≡ isStored rows n head k
       unfolding isStored
@@ -99,14 +100,14 @@ module _ (rows : List ℕ) (n head k : ℕ) where
   stored-of t =
       let m = storedMachine rows n head k in
       let a = and-eq-true-iff (leb 1 n) _ .0 t in
-      let b = and-eq-true-iff (leb n 256) _ .0 (a .1) in
+      let b = and-eq-true-iff (leb n mostStates) _ .0 (a .1) in
       let d = and-eq-true-iff (leb 1 head) _ .0 (b .1) in
       let e = and-eq-true-iff (leb head 512) _ .0 (d .1) in
       let f = and-eq-true-iff (leb k 512) _ .0 (e .1) in
       let g = and-eq-true-iff (leb (n * (head + k)) (length rows)) (allBelow n (rowLeads m)) .0 (f .1) in
       let h : head + k ≤ 1024 = omega (arith, leb-true head 512 (e .0), leb-true k 512 (f .0)) in
       record {
-        few = leb-true n 256 (b .0);
+        few = leb-true n mostStates (b .0);
         signalled = leb-true 1 head (d .0);
         narrow = h;
         room = leb-true (n * (head + k)) (length rows) (g .0);
@@ -121,8 +122,16 @@ module _ (rows : List ℕ) (n head k : ℕ) where
   unfolding isStored
   is-stored h i st =
       let m = storedMachine rows n head k in
-      let leads : allBelow n (rowLeads m) ≡ true = all-of n (rowLeads m) (λ j a. all-of k (leadsOn m j) (λ s b. lt-ltb (m .target j s) n (st .formed .leads j s a b))) in
-      rw (le-leb 1 n (st .formed .some-state), le-leb n 256 (st .few), le-leb 1 head (st .signalled), le-leb head 512 h, le-leb k 512 i, le-leb (n * (head + k)) (length rows) (st .room)) leads
+      let leads : allBelow n (rowLeads m) ≡ true =
+      all-of n (rowLeads m) (λ j a. all-of k (leadsOn m j) (λ s b. lt-ltb (m .target j s) n (st .formed .leads j s a b))) in
+      rw (
+        le-leb 1 n (st .formed .some-state),
+        le-leb n mostStates (st .few),
+        le-leb 1 head (st .signalled),
+        le-leb head 512 h,
+        le-leb k 512 i,
+        le-leb (n * (head + k)) (length rows) (st .room),
+      ) leads
 
 -- the answer of the rounds for any lists to work in: only if there is a machine, and both lists are of its length
 module _ (s : Bool) (l k n : ℕ) where

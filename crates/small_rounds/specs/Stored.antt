@@ -4,7 +4,8 @@ use mathlib.Core.Bool.{Bool, _&&_}
 use mathlib.Core.List.{List}
 use lib.Dec.{leb, ltb}
 use lib.ListN.{getD, length}
-use Rattle.theory_resolution.specs.Lists.{allBelow}
+use Rattle.base_numbers.specs.Numbers.{mostStates}
+use Rattle.base_lists.specs.Lists.{allBelow}
 use Rattle.theory_minimal.specs.Machine.{Machine, Formed}
 
 -- n states, with head bytes before the targets for k symbols
@@ -29,7 +30,7 @@ rowLeads m j = allBelow (m .symbols) (leadsOn m j)
 unfoldable pub isStored : List ℕ → ℕ → ℕ → ℕ → Bool
 isStored rows n head k =
     leb 1 n
-    && (leb n 256
+    && (leb n mostStates
     && (leb 1 head
     && (leb head 512
     && (leb k 512
@@ -38,7 +39,7 @@ isStored rows n head k =
 
 -- the same as a fact
 pub record Stored (rows : List ℕ) (n head k : ℕ) : Type 0 where
-  pub few : n ≤ 256
+  pub few : n ≤ mostStates
   pub signalled : 0 < head
   pub narrow : head + k ≤ 1024
   pub room : n * (head + k) ≤ length rows

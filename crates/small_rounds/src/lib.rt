@@ -1,4 +1,4 @@
-// Which states of a machine behave alike, over the machine's rows of bytes.
+// Which states of a machine are equivalent, over the machine's rows of bytes: the partition into blocks, by refinement.
 //
 // In: rows, any bytes, with the numbers of states, of bytes before a state's targets, and of symbols. Out: whether there is a
 // machine in them, and then for each state the first one that behaves as it does.

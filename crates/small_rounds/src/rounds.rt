@@ -1,8 +1,9 @@
-use base_text::cut::wide;
+// The rounds of refinement: the partition by signals, then by the classes of the targets, until nothing changes.
+use base_bytes::numbers::wide;
 ghost use mathlib.Core.Path.{_≡_};
 ghost use Prim.Native.Nat.{_≤_, _<_};
 ghost use lib.ListN.{length};
-ghost use Rattle.theory_resolution.specs.Lists.{tabulate};
+ghost use Rattle.base_lists.specs.Lists.{tabulate};
 ghost use Rattle.theory_minimal.specs.Refine.{leader, sameRow, refine, blocks};
 ghost use Rattle.small_rounds.specs.Stored.{storedMachine, Stored};
 
@@ -56,7 +57,7 @@ fn refine(rows: &[u8], p: &[u8], q: &mut [u8], n: usize, head: usize, k: usize)
     }
 }
 
-// The first classes: the states' signals.
+// The first partition: by the states' signals.
 fn signals(rows: &[u8], p: &mut [u8], n: usize, head: usize, k: usize)
     requires { ⌜ Stored (now rows) n head k × (length (now p) ≡ n) ⌝ }
     ensures { λ r. ⌜ now (p .exit) ≡ tabulate (storedMachine (now (rows .entry)) n head k .signal) n ⌝ }
@@ -68,18 +69,7 @@ fn signals(rows: &[u8], p: &mut [u8], n: usize, head: usize, k: usize)
     }
 }
 
-fn copy(a: &[u8], b: &mut [u8])
-    requires { ⌜ length (now a) ≡ length (now b) ⌝ }
-    ensures { λ r. ⌜ now (b .exit) ≡ now (a .entry) ⌝ }
-{
-    let mut i = 0;
-    while i < a.len() {
-        b[i] = a[i];
-        i += 1;
-    }
-}
-
-// For each state the first one that behaves as it does: rounds until nothing changes, at most as many as there are states.
+// For each state the first equivalent one: rounds of refinement until nothing changes, at most as many as there are states.
 pub(crate) fn blocks(rows: &[u8], p: &mut [u8], q: &mut [u8], n: usize, head: usize, k: usize)
     requires { ⌜ Stored (now rows) n head k × (length (now p) ≡ n) × (length (now q) ≡ n) ⌝ }
     ensures { λ r. ⌜ (now (p .exit) ≡ blocks (storedMachine (now (rows .entry)) n head k)) × (length (now (q .exit)) ≡ n) ⌝ }
@@ -91,7 +81,7 @@ pub(crate) fn blocks(rows: &[u8], p: &mut [u8], q: &mut [u8], n: usize, head: us
         if base_text::compare::same(p, q) {
             return;
         }
-        copy(q, p);
+        base_bytes::lent::copy(q, p);
         r += 1;
     }
 }

@@ -1,13 +1,16 @@
-use base_text::cut::wide;
+// Whether there is a machine in the rows: the counts are in range, the bytes are there, every target is a state.
+use base_bytes::numbers::wide;
+use base_numbers::MOST_STATES;
 ghost use mathlib.Core.Path.{_≡_};
 ghost use Prim.Native.Nat.{_+_, _*_, _≤_, _<_};
 ghost use lib.ListN.{length};
-ghost use Rattle.theory_resolution.specs.Lists.{allBelow};
+ghost use Rattle.base_numbers.specs.Numbers.{mostStates};
+ghost use Rattle.base_lists.specs.Lists.{allBelow};
 ghost use Rattle.small_rounds.specs.Stored.{storedMachine, rowLeads, isStored};
 
 // All targets of state j are states.
 fn row_leads(rows: &[u8], n: usize, head: usize, k: usize, j: usize) -> bool
-    requires { ⌜ (head + k ≤ 1024) × (n ≤ 256) × (n * (head + k) ≤ length (now rows)) × (j < n) ⌝ }
+    requires { ⌜ (head + k ≤ 1024) × (n ≤ mostStates) × (n * (head + k) ≤ length (now rows)) × (j < n) ⌝ }
     ensures { λ r. ⌜ r ≡ rowLeads (storedMachine (now (rows .entry)) n head k) j ⌝ }
 {
     let a = j * (head + k) + head;
@@ -23,7 +26,7 @@ fn row_leads(rows: &[u8], n: usize, head: usize, k: usize, j: usize) -> bool
 
 // All targets of all states are.
 fn all_lead(rows: &[u8], n: usize, head: usize, k: usize) -> bool
-    requires { ⌜ (head + k ≤ 1024) × (n ≤ 256) × (n * (head + k) ≤ length (now rows)) ⌝ }
+    requires { ⌜ (head + k ≤ 1024) × (n ≤ mostStates) × (n * (head + k) ≤ length (now rows)) ⌝ }
     ensures { λ r. ⌜ r ≡ allBelow n (rowLeads (storedMachine (now (rows .entry)) n head k)) ⌝ }
 {
     let mut j = 0;
@@ -43,7 +46,7 @@ pub(crate) fn is_stored(rows: &[u8], n: usize, head: usize, k: usize) -> bool
     if n < 1 {
         return false;
     }
-    if 256 < n {
+    if MOST_STATES < n {
         return false;
     }
     if head < 1 {

@@ -5,10 +5,10 @@ use mathlib.Core.List.{List, _++_}
 use lib.ListN.{length, take, drop, replicate, length-append, length-take, length-drop, length-replicate}
 use borrow.Author.Tests.{ne-eqb, lt-ltb, le-ltb}
 use native.Mathlib.Omega.{arith}
-use Rattle.machine_build.specs.Built.{refused, accepted}
-use Rattle.machine_build.proofs.Over.{over, over-all}
+use Rattle.base_bytes.specs.Built.{refused, accepted}
+use Rattle.base_lists.proofs.Over.{over-all, over-front, length-over, over-lend, laid-all}
+use Rattle.base_lists.specs.Lists.{over, laid}
 use Rattle.small_write.specs.Answer.{refusalIn, answerIn, bufferIn}
-use Rattle.small_write.proofs.RowLaws.{over-front, length-over, over-lend}
 
 module _ (bytes : List ℕ) (room : ℕ) where
   pub answer-refused : (k : ℕ) → (k ≡ 0 → ⊥) → (refused k ≡ answerIn k bytes room) × (replicate room 0 ≡ bufferIn k bytes room)
@@ -19,13 +19,19 @@ module _ (bytes : List ℕ) (room : ℕ) where
   unfolding answerIn bufferIn refusalIn
   answer-short h = rw (lt-ltb room (length bytes) h) (refl, refl)
 
-  pub answer-done : length bytes ≤ room → (accepted (length bytes) ≡ answerIn 0 bytes room) × (bytes ++ replicate (room - length bytes) 0 ≡ bufferIn 0 bytes room)
+  pub answer-done : length bytes ≤ room → (accepted (length bytes) ≡ answerIn 0 bytes room)
+      × (bytes ++ replicate (room - length bytes) 0 ≡ bufferIn 0 bytes room)
   unfolding answerIn bufferIn refusalIn
   answer-done h = rw (le-ltb room (length bytes) h) (refl, refl)
 
+-- bytes copied over a part of their length
+pub copied : (bytes b h : List ℕ) → length bytes ≤ length b → h ≡ laid bytes (take (length bytes - 0) (drop 0 b)) → h ≡ bytes
+copied bytes b h k e = e ∙ laid-all bytes (take (length bytes - 0) (drop 0 b)) (simp (length-take, length-drop) (omega arith))
+
 -- two parts lent one after the other: the bytes, and what is left
 pub two-parts : (bytes b h z : List ℕ) (n room : ℕ) → n ≡ length bytes → room ≡ length b → n ≤ room → h ≡ bytes
-    → (b₁ b₂ : List ℕ) → z ≡ replicate (length (take (room - n) (drop n b₁))) 0 → b₁ ≡ take 0 b ++ (h ++ drop (n - 0) (drop 0 b)) → b₂ ≡ take n b₁ ++ (z ++ drop (room - n) (drop n b₁))
+    → (b₁ b₂ : List ℕ) → z ≡ replicate (length (take (room - n) (drop n b₁))) 0 → b₁ ≡ take 0 b ++ (h ++ drop (n - 0) (drop 0 b))
+    → b₂ ≡ take n b₁ ++ (z ++ drop (room - n) (drop n b₁))
     → b₂ ≡ bytes ++ replicate (room - length bytes) 0
 two-parts bytes b h z n room n-is room-is fit h-is b₁ b₂ z-is e₁ e₂ =
     let o₁ : b₁ ≡ over bytes b = e₁ ∙ ap (λ x. x ++ drop (n - 0) b) h-is ∙ over-front bytes b (n - 0) (omega (arith, n-is)) in

@@ -3,43 +3,21 @@ use Prim.Native.Nat.{ℕ, _+_, _-_, _*_, _/_, _%_, _≤_, _<_}
 use mathlib.Core.Path.{_≡_, refl, sym, ap, _∙_}
 use mathlib.Core.List.{List, [], _∷_, _++_, append-assoc}
 use lib.ListN.{length, getD, set, take, drop, length-append, length-take, length-drop}
-use lib.Seq.{take-all, take-at, drop-at, drop-drop}
+use lib.Seq.{take-all}
 use native.Mathlib.Numerals.{add-one}
-use native.Mathlib.Nat.{suc-mul, mul-le-mul-right}
+use native.Mathlib.Nat.{mul-le-mul-right}
 use native.Mathlib.Omega.{arith}
-use Rattle.theory_resolution.proofs.Lists.{tabulate-at, tabulate-length}
-use Rattle.machine_build.proofs.Over.{over, over-set, over-all}
+use Rattle.base_numbers.specs.Numbers.{mostStates}
+use Rattle.base_lists.proofs.Numbers.{row-fits}
+use Rattle.base_lists.proofs.Filled.{Filled, filled-copy}
+use Rattle.base_lists.proofs.Over.{over-set, over-all, over-none, length-over, over-lend}
+use Rattle.base_lists.specs.Lists.{over}
+use Rattle.base_lists.proofs.Tabulated.{tabulate-at, tabulate-length}
 use Rattle.theory_minimal.specs.Machine.{Machine}
 use Rattle.theory_minimal.specs.Proposal.{classOf, firstOf, small}
-use Rattle.small_rounds.proofs.Turns.{stretch, Filled, filled-copy}
 use Rattle.small_image.specs.Small.{smallStates}
 use Rattle.small_image.proofs.Placed.{states-length}
 use Rattle.small_write.specs.Rows.{targetClass, rowOf}
-
--- a list p written over the front of a list b, and a part behind it that was lent
-module _ (p b : List ℕ) where
-  pub over-none : b ≡ over [] b
-  unfolding over
-  over-none = refl
-
-  pub over-front : (n : ℕ) → n ≡ length p → p ++ drop n b ≡ over p b
-  unfolding over
-  over-front n e = ap (λ (k : ℕ). p ++ drop k b) e
-
-  pub length-over : length p ≤ length b → length (over p b) ≡ length b
-  unfolding over
-  length-over h = simp (length-append, length-drop) (omega arith)
-
-  pub over-lend : (a k : ℕ) (y : List ℕ) → length p ≡ a → length y ≡ k
-      → take a (over p b) ++ (y ++ drop k (drop a (over p b))) ≡ over (p ++ y) b
-  unfolding over
-  over-lend a k y e g =
-      rw (take-at p (drop (length p) b) a e, drop-at p (drop (length p) b) a e, drop-drop k (length p) b)
-      (sym (append-assoc p y (drop (length p + k) b))
-      ∙ ap (λ (n : ℕ). (p ++ y) ++ drop n b) (ap (λ (n : ℕ). length p + n) (sym g) ∙ sym (length-append p y)))
-
-pub next-stretch : (i w : ℕ) → i * w + w ≡ (i + 1) * w
-next-stretch i w = rw add-one (sym (suc-mul i w))
 
 -- the length of a part
 pub part-length : (xs : List ℕ) (a w : ℕ) → a + w ≤ length xs → length (take (a + w - a) (drop a xs)) ≡ w
@@ -63,7 +41,8 @@ module _ (m : Machine) (p : List ℕ) where
   row-written f s row l h g = filled-copy (rowOf m p f) row (s + 1) (l ∙ sym (row-length f)) (omega (arith, row-length f)) g
 
   -- one more row, written to a part that was lent
-  rows-more : (c : ℕ) (out out₀ y : List ℕ) (a e : ℕ) → out ≡ over (smallStates (small m p) c) out₀ → a ≡ c * (1 + m .symbols) → e ≡ a + (1 + m .symbols) → y ≡ rowOf m p (firstOf p c)
+  rows-more : (c : ℕ) (out out₀ y : List ℕ) (a e : ℕ) → out ≡ over (smallStates (small m p) c) out₀ → a ≡ c * (1 + m .symbols)
+      → e ≡ a + (1 + m .symbols) → y ≡ rowOf m p (firstOf p c)
       → take a out ++ (y ++ drop (e - a) (drop a out)) ≡ over (smallStates (small m p) (c + 1)) out₀
   unfolding smallStates
   rows-more c out out₀ y a e i j k d =
@@ -75,16 +54,19 @@ module _ (m : Machine) (p : List ℕ) where
   unfolding smallStates
   rows-none out = over-none [] out
 
-  over-rows-length : (c count : ℕ) (out out₀ : List ℕ) → c ≤ count → length out₀ ≡ count * (1 + m .symbols) → out ≡ over (smallStates (small m p) c) out₀ → length out ≡ count * (1 + m .symbols)
+  over-rows-length : (c count : ℕ) (out out₀ : List ℕ) → c ≤ count → length out₀ ≡ count * (1 + m .symbols)
+      → out ≡ over (smallStates (small m p) c) out₀ → length out ≡ count * (1 + m .symbols)
   over-rows-length c count out out₀ h l e =
       ap length e ∙ length-over (smallStates (small m p) c) out₀ (omega (arith, rows-length c, mul-le-mul-right (1 + m .symbols) h)) ∙ l
 
-  pub rows-done : (c count : ℕ) (out out₀ : List ℕ) → c ≤ count → count ≤ c → length out₀ ≡ count * (1 + m .symbols) → out ≡ over (smallStates (small m p) c) out₀ → out ≡ smallStates (small m p) count
+  pub rows-done : (c count : ℕ) (out out₀ : List ℕ) → c ≤ count → count ≤ c → length out₀ ≡ count * (1 + m .symbols)
+      → out ≡ over (smallStates (small m p) c) out₀ → out ≡ smallStates (small m p) count
   rows-done c count out out₀ h k l e =
       let i : c ≡ count = omega arith in
       e ∙ ap (λ z. over (smallStates (small m p) z) out₀) i ∙ over-all (smallStates (small m p) count) out₀ (rows-length count ∙ sym l)
 
-  pub rows-next : (c count : ℕ) (out out₀ y : List ℕ) (a : ℕ) → c < count → length out₀ ≡ count * (1 + m .symbols) → out ≡ over (smallStates (small m p) c) out₀ → a ≡ c * (1 + m .symbols)
+  pub rows-next : (c count : ℕ) (out out₀ y : List ℕ) (a : ℕ) → c < count → length out₀ ≡ count * (1 + m .symbols)
+      → out ≡ over (smallStates (small m p) c) out₀ → a ≡ c * (1 + m .symbols)
       → y ≡ rowOf m p (firstOf p c)
       → (length (take a out ++ (y ++ drop (a + (1 + m .symbols) - a) (drop a out))) ≡ count * (1 + m .symbols))
       × (take a out ++ (y ++ drop (a + (1 + m .symbols) - a) (drop a out)) ≡ over (smallStates (small m p) (c + 1)) out₀)
@@ -93,11 +75,12 @@ module _ (m : Machine) (p : List ℕ) where
       (over-rows-length (c + 1) count (take a out ++ (y ++ drop (a + (1 + m .symbols) - a) (drop a out))) out₀ (omega arith) l g, g)
 
   -- where the row of class c ends
-  pub small-end : (c count a : ℕ) → c < count → count ≤ 256 → a ≡ c * (1 + m .symbols) → a + (1 + m .symbols) ≤ count * (1 + m .symbols)
-  small-end c count a h k i = omega (arith, stretch c count (1 + m .symbols) h)
+  pub small-end : (c count a : ℕ) → c < count → count ≤ mostStates → a ≡ c * (1 + m .symbols) → a + (1 + m .symbols) ≤ count * (1 + m .symbols)
+  small-end c count a h k i = omega (arith, row-fits c count (1 + m .symbols) h)
 
 -- the front copied, and the class count behind it
-pub head-written : (front head₀ head : List ℕ) (j count : ℕ) → j ≤ length front → length front ≤ j → length head₀ ≡ length front + 2 → head ≡ over ([] ++ take j front) head₀
+pub head-written : (front head₀ head : List ℕ) (j count : ℕ) → j ≤ length front → length front ≤ j → length head₀ ≡ length front + 2
+    → head ≡ over ([] ++ take j front) head₀
     → set (set head (length front) (count % 256)) (length front + 1) (count / 256) ≡ front ++ count % 256 ∷ count / 256 ∷ []
 head-written front head₀ head j count a b l e =
     let f : take j front ≡ front = take-all j front b in

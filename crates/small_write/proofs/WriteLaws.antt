@@ -6,9 +6,11 @@ use mathlib.Core.List.{List, [], _∷_, _++_}
 use lib.ListN.{length, take, drop, replicate, length-append, length-take, length-drop, length-replicate}
 use native.Mathlib.Nat.{mul-le-mul-right}
 use native.Mathlib.Omega.{arith}
-use Rattle.machine_build.specs.declared.Built.{Built}
-use Rattle.machine_build.specs.Built.{refused, accepted}
-use Rattle.machine_build.proofs.Over.{over, over-all}
+use Rattle.base_numbers.specs.Numbers.{mostStates}
+use Rattle.base_bytes.specs.Built.{refused, accepted}
+use Rattle.base_lists.proofs.Over.{over-all, over-front, length-over, over-lend}
+use Rattle.base_lists.specs.Lists.{over}
+use Rattle.base_bytes.specs.declared.Built.{Built}
 use Rattle.theory_minimal.specs.Machine.{Machine}
 use Rattle.theory_minimal.specs.Proposal.{firstOf, classCount, small, Fits}
 use Rattle.theory_minimal.specs.Test.{fits}
@@ -20,7 +22,7 @@ use Rattle.small_image.specs.Small.{smallStates}
 use Rattle.small_image.proofs.Walks.{first-state}
 use Rattle.small_write.specs.Answer.{answerIn, bufferIn}
 use Rattle.small_write.specs.Written.{smallBy, fitRefusal}
-use Rattle.small_write.proofs.RowLaws.{over-front, length-over, over-lend, rows-length}
+use Rattle.small_write.proofs.RowLaws.{rows-length}
 use Rattle.small_write.proofs.AnswerLaws.{answer-refused, answer-short, answer-done}
 
 -- what a passed check says
@@ -53,12 +55,18 @@ module _ (front : List ℕ) (m : Machine) (p : List ℕ) where
   unfolding smallBy
   size-is count e =
       length-append headOf classesOf
-      ∙ omega (arith, length-append front (classCount p % 256 ∷ classCount p / 256 ∷ []), rows-length m p (classCount p) ∙ ap (λ z. z * (1 + m .symbols)) (sym e))
+      ∙ omega (
+        arith,
+        length-append front (classCount p % 256 ∷ classCount p / 256 ∷ []),
+        rows-length m p (classCount p) ∙ ap (λ z. z * (1 + m .symbols)) (sym e),
+      )
 
   -- three parts lent one after the other: the front with the class count, the classes, and what is left
-  pub three-parts : (b h r z : List ℕ) (count from size room : ℕ) → count ≡ classCount p → from ≡ length front + 2 → size ≡ from + count * (1 + m .symbols) → room ≡ length b → size ≤ room
+  pub three-parts : (b h r z : List ℕ) (count from size room : ℕ) → count ≡ classCount p → from ≡ length front + 2
+      → size ≡ from + count * (1 + m .symbols) → room ≡ length b → size ≤ room
       → h ≡ front ++ count % 256 ∷ count / 256 ∷ [] → r ≡ smallStates (small m p) count
-      → (b₁ b₂ b₃ : List ℕ) → z ≡ replicate (length (take (room - size) (drop size b₂))) 0 → b₁ ≡ take 0 b ++ (h ++ drop (from - 0) (drop 0 b)) → b₂ ≡ take from b₁ ++ (r ++ drop (size - from) (drop from b₁))
+      → (b₁ b₂ b₃ : List ℕ) → z ≡ replicate (length (take (room - size) (drop size b₂))) 0
+      → b₁ ≡ take 0 b ++ (h ++ drop (from - 0) (drop 0 b)) → b₂ ≡ take from b₁ ++ (r ++ drop (size - from) (drop from b₁))
       → b₃ ≡ take size b₂ ++ (z ++ drop (room - size) (drop size b₂))
       → b₃ ≡ smallBy front m p ++ replicate (room - length (smallBy front m p)) 0
   unfolding smallBy
@@ -91,7 +99,8 @@ module _ (front : List ℕ) (m : Machine) (p : List ℕ) where
       ∙ ap (λ x. (headOf ++ classesOf) ++ replicate (room - x) 0) (sym s-long)
 
 -- the part for the classes, after the first was lent
-pub rows-part : (b h : List ℕ) (from w : ℕ) → from + w ≤ length b → length h ≡ from → (b₁ : List ℕ) → b₁ ≡ h ++ drop (from - 0) b → length (take (from + w - from) (drop from b₁)) ≡ w
+pub rows-part : (b h : List ℕ) (from w : ℕ) → from + w ≤ length b → length h ≡ from → (b₁ : List ℕ) → b₁ ≡ h ++ drop (from - 0) b
+    → length (take (from + w - from) (drop from b₁)) ≡ w
 rows-part b h from w l e b₁ i =
     let g : length b₁ ≡ length b = ap length i ∙ length-append h (drop (from - 0) b) ∙ omega (arith, e, length-drop (from - 0) b) in
     simp (length-take, length-drop) (omega (arith, g))
@@ -101,7 +110,8 @@ pub small-short : (front : List ℕ) (m : Machine) (p : List ℕ) (count room : 
     → (refused 14 ≡ answerIn 0 (smallBy front m p) room) × (replicate room 0 ≡ bufferIn 0 (smallBy front m p) room)
 small-short front m p count room e h = answer-short (smallBy front m p) room (omega (arith, size-is front m p count e))
 
-pub small-done : (front : List ℕ) (m : Machine) (p b : List ℕ) (count room size : ℕ) → count ≡ classCount p → size ≡ length front + 2 + count * (1 + m .symbols) → size ≤ room
+pub small-done : (front : List ℕ) (m : Machine) (p b : List ℕ) (count room size : ℕ) → count ≡ classCount p
+    → size ≡ length front + 2 + count * (1 + m .symbols) → size ≤ room
     → b ≡ smallBy front m p ++ replicate (room - length (smallBy front m p)) 0
     → (accepted size ≡ answerIn 0 (smallBy front m p) room) × (b ≡ bufferIn 0 (smallBy front m p) room)
 small-done front m p b count room size e s h g =
@@ -123,7 +133,7 @@ module _ (rows : List ℕ) (n head k : ℕ) (p bytes : List ℕ) (room : ℕ) wh
 -- the sizes are small
 pub size-small : (h k : ℕ) → h < 256 → k ≤ 1024 → (h + 1) * (1 + k) ≤ 262400
 size-small h k a b =
-    let d : h + 1 ≤ 256 = omega arith in
+    let d : h + 1 ≤ mostStates = omega arith in
     omega (arith, mul-le-mul-right (1 + k) d)
 
 pub one-more : (r h : ℕ) → r ≡ h → r + 1 ≡ suc h

@@ -4,11 +4,12 @@ use mathlib.Core.Bool.{cond}
 use mathlib.Core.List.{List, _++_}
 use lib.Dec.{eqb, ltb}
 use lib.ListN.{length, replicate}
-use Rattle.machine_build.specs.declared.Built.{Built}
+use Rattle.base_numbers.specs.Numbers.{imageNoRoom}
+use Rattle.base_bytes.specs.declared.Built.{Built}
 
 -- the number that refuses them already, or 14 if they are longer than the room, else 0
 unfoldable pub refusalIn : ℕ → List ℕ → ℕ → ℕ
-refusalIn refusal bytes room = cond (eqb refusal 0) (cond (ltb room (length bytes)) 14 0) refusal
+refusalIn refusal bytes room = cond (eqb refusal 0) (cond (ltb room (length bytes)) imageNoRoom 0) refusal
 
 -- that number, and how many bytes there are, 0 after a refusal
 unfoldable pub answerIn : ℕ → List ℕ → ℕ → Built

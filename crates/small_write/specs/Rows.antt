@@ -1,7 +1,7 @@
 -- A class's bytes by its first state.
 use Prim.Native.Nat.{ℕ}
 use mathlib.Core.List.{List, _∷_}
-use Rattle.theory_resolution.specs.Lists.{tabulate}
+use Rattle.base_lists.specs.Lists.{tabulate}
 use Rattle.theory_minimal.specs.Machine.{Machine}
 use Rattle.theory_minimal.specs.Proposal.{classOf}
 

@@ -2,6 +2,7 @@
 use Prim.Native.Nat.{ℕ, _/_, _%_}
 use mathlib.Core.Bool.{cond}
 use mathlib.Core.List.{List, [], _∷_, _++_}
+use Rattle.base_numbers.specs.Numbers.{badClasses}
 use Rattle.theory_minimal.specs.Machine.{Machine}
 use Rattle.theory_minimal.specs.Proposal.{classCount, small}
 use Rattle.small_classes.specs.Check.{storedFits}
@@ -13,4 +14,4 @@ smallBy front m p = front ++ classCount p % 256 ∷ classCount p / 256 ∷ [] ++
 
 -- 27 if the proposal does not fit
 unfoldable pub fitRefusal : List ℕ → ℕ → ℕ → ℕ → List ℕ → ℕ
-fitRefusal rows n head k p = cond (storedFits rows n head k p) 0 27
+fitRefusal rows n head k p = cond (storedFits rows n head k p) 0 badClasses

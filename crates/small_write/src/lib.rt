@@ -7,37 +7,19 @@
 //   rows.rt  the classes' bytes
 mod rows;
 
-use machine_build::Built;
+use base_bytes::Built;
+use base_numbers::BAD_CLASSES;
+use base_numbers::IMAGE_NO_ROOM;
 ghost use mathlib.Core.Path.{_≡_};
 ghost use mathlib.Core.Bool.{true};
 ghost use mathlib.Core.List.{[], _∷_, _++_};
 ghost use Prim.Native.Nat.{_+_, _≤_, _/_, _%_};
-ghost use lib.ListN.{length, replicate};
+ghost use lib.ListN.{length};
+ghost use Rattle.base_numbers.specs.Numbers.{mostStates};
 ghost use Rattle.small_rounds.specs.Stored.{storedMachine};
 ghost use Rattle.small_classes.specs.Check.{storedFits};
 ghost use Rattle.small_write.specs.Answer.{answerIn, bufferIn};
 ghost use Rattle.small_write.specs.Written.{smallBy, fitRefusal};
-
-fn clear(part: &mut [u8])
-    ensures { λ _. ⌜ now (part .exit) ≡ replicate (length (now (part .entry))) 0 ⌝ }
-{
-    let mut i = 0;
-    while i < part.len() {
-        part[i] = 0;
-        i += 1;
-    }
-}
-
-fn copy(bytes: &[u8], part: &mut [u8])
-    requires { ⌜ length (now bytes) ≡ length (now part) ⌝ }
-    ensures { λ _. ⌜ now (part .exit) ≡ now (bytes .entry) ⌝ }
-{
-    let mut i = 0;
-    while i < bytes.len() {
-        part[i] = bytes[i];
-        i += 1;
-    }
-}
 
 // The bytes, with zeros after them, or 14 and all zeros.
 pub fn put(bytes: &[u8], buf: &mut [u8]) -> Built
@@ -47,17 +29,17 @@ pub fn put(bytes: &[u8], buf: &mut [u8]) -> Built
     let n = bytes.len();
     let room = buf.len();
     if room < n {
-        return machine_build::refuse(buf, 14);
+        return base_bytes::refuse(buf, IMAGE_NO_ROOM);
     }
     let z = 0;
-    copy(bytes, &mut buf[z..n]);
-    clear(&mut buf[n..room]);
+    base_bytes::lent::copy(bytes, &mut buf[z..n]);
+    base_bytes::lent::clear(&mut buf[n..room]);
     Built { refusal: 0, len: n }
 }
 
 // What stands in front, and the class count.
 fn put_head(front: &[u8], count: usize, head: &mut [u8])
-    requires { ⌜ (count ≤ 256) × (length (now head) ≡ length (now front) + 2) ⌝ }
+    requires { ⌜ (count ≤ mostStates) × (length (now head) ≡ length (now front) + 2) ⌝ }
     ensures { λ _. ⌜ now (head .exit) ≡ now (front .entry) ++ count % 256 ∷ count / 256 ∷ [] ⌝ }
 {
     let z = front.len();
@@ -89,12 +71,12 @@ fn write_small(
     let size = from + count * (1 + k);
     let room = buf.len();
     if room < size {
-        return machine_build::refuse(buf, 14);
+        return base_bytes::refuse(buf, IMAGE_NO_ROOM);
     }
     let z = 0;
     put_head(front, count, &mut buf[z..from]);
     rows::put_rows(rows, p, &mut buf[from..size], n, head, k, count);
-    clear(&mut buf[size..room]);
+    base_bytes::lent::clear(&mut buf[size..room]);
     Built {
         refusal: 0,
         len: size,
@@ -115,7 +97,7 @@ pub fn write(
     ensures { λ _. ⌜ now (buf .exit) ≡ bufferIn (fitRefusal (now (rows .entry)) n head k (now (p .entry))) (smallBy (now (front .entry)) (storedMachine (now (rows .entry)) n head k) (now (p .entry))) (length (now (buf .entry))) ⌝ }
 {
     if !small_classes::check(rows, p, n, head, k) {
-        return machine_build::refuse(buf, 27);
+        return base_bytes::refuse(buf, BAD_CLASSES);
     }
     write_small(front, rows, p, buf, n, head, k)
 }

@@ -1,7 +1,9 @@
-use base_text::cut::wide;
+// The rows of the small image: each class by its first state.
+use base_bytes::numbers::wide;
 ghost use mathlib.Core.Path.{_≡_};
 ghost use Prim.Native.Nat.{ℕ, _+_, _*_, _≤_, _<_};
 ghost use lib.ListN.{length};
+ghost use Rattle.base_numbers.specs.Numbers.{mostStates};
 ghost use Rattle.theory_minimal.specs.Proposal.{firstOf, small};
 ghost use Rattle.small_rounds.specs.Stored.{storedMachine, Stored};
 ghost use Rattle.small_image.specs.Small.{smallStates};
@@ -49,7 +51,7 @@ pub(crate) fn put_rows(
     count: usize,
 )
     requires { ⌜
-        Stored (now rows) n head k × (length (now p) ≡ n) × (count ≤ 256) × (length (now out) ≡ count * (1 + k))
+        Stored (now rows) n head k × (length (now p) ≡ n) × (count ≤ mostStates) × (length (now out) ≡ count * (1 + k))
         × ((c : ℕ) → c < count → firstOf (now p) c < n)
         ⌝ }
     ensures { λ r. ⌜ now (out .exit) ≡ smallStates (small (storedMachine (now (rows .entry)) n head k) (now (p .entry))) count ⌝ }

@@ -1,41 +1,38 @@
 -- A table that none of 4 to 12 refuses is well-formed.
 use Prim.Native.Nat.{ℕ, suc, zero, _≤_, _<_}
-use mathlib.Core.Path.{_≡_, refl, ap, ap₂, sym, _∙_, subst}
-use mathlib.Core.Logic.{_⊎_, inl, inr, _≢_}
+use mathlib.Core.Path.{_≡_, refl, ap, sym, _∙_, subst}
+use mathlib.Core.Logic.{_≢_}
 use mathlib.Core.Bool.{Bool, true, false, cond, not, _&&_, and-eq-true-iff, true≢false, false≢true}
-use mathlib.Core.List.{List, [], _∷_, map, List·Memᴰ, List·Memᴰ·head, List·Memᴰ·tail, List·Memᴰ·cases-cons, List·Memᴰ·not-nil}
+use mathlib.Core.List.{List, [], _∷_, map, List·Memᴰ, List·Memᴰ·head, List·Memᴰ·tail}
 use native.Mathlib.Omega.{arith}
-use lib.ListN.{length, getD, length-append}
+use lib.ListN.{length, getD, length-append, length-map}
 use lib.Dec.{leb, ltb}
-use borrow.Author.Tests.{le-leb, leb-true, ltb-true, ltb-false}
-use Rattle.base_ascii.specs.Ascii.{within}
-use Rattle.base_text.specs.Text.{all, upTo, past, fields}
+use borrow.Author.Tests.{le-leb, leb-true, ltb-true, ltb-false, not-true}
+use Rattle.base_numbers.specs.Numbers.{mostNodes}
+use Rattle.base_lists.proofs.Tests.{no-two-of, all-mem, all-by}
+use Rattle.base_lists.proofs.Lists.{mem-at, index-member, index-at, map-mem, mem-map}
+use Rattle.base_lists.specs.Lists.{memberBy, indexBy}
+use Rattle.base_lists.proofs.Bools.{byTest}
+use Rattle.base_lists.specs.Cuts.{upTo, past}
+use Rattle.base_lists.specs.Tests.{all, any, noTwo}
+use Rattle.base_lists.specs.Numbers.{within}
+use Rattle.base_text.specs.Text.{fields}
 use Rattle.urn_names.specs.Names.{nameOk, labelOk}
 use Rattle.urn_names.specs.Urn.{noCapital, storedName, urnOk, categoryOf}
-use Rattle.base_text.proofs.Fields.{byTest, fields-first, fields-more, fields-last}
-use Rattle.theory_resolution.specs.Lists.{memberBy, indexBy}
+use Rattle.base_text.proofs.Fields.{fields-first, fields-more, fields-last}
 use Rattle.theory_resolution.specs.Names.{Name, sameName}
 use Rattle.theory_resolution.specs.Table.{Urn, urn, Table, rowOf, sameRow}
 use Rattle.theory_resolution.specs.Nodes.{nodes, nodeAt}
-use Rattle.theory_resolution.proofs.Lists.{mem-at, index-member, index-at}
 use Rattle.theory_resolution.proofs.Names.{name-exact, row-exact}
 use Rattle.theory_resolution.proofs.Nodes.{nodes-all}
 use Rattle.table_sections.specs.Stored.{Read, fault, got, Stored, stored, sections}
 use Rattle.table_places.specs.Verdict.{sameCat, noUrn, samePlaces}
-use Rattle.table_decode.specs.Tables.{any, noTwo, formed, uses, isListed, listed, toUrn, tableIn, single, zeroSilent, distinct, fewNodes, verdict, judged, judgedRead, tableRefusal, tableRead, tableOf}
+use Rattle.table_decode.specs.Tables.{formed, uses, isListed, listed, toUrn, tableIn, single, zeroSilent, distinct, fewNodes, verdict, judged}
+use Rattle.table_decode.specs.Tables.{judgedRead, tableRefusal, tableRead, tableOf}
 use Rattle.table_decode.specs.Accepted.{Accepted}
 use Rattle.table_sections.proofs.FaultLaws.{fault-some-number, stored-counts}
 use Rattle.table_sections.proofs.SectionLaws.{sections-read}
-use Rattle.table_decode.proofs.Judging.{two-distinct, map-length}
-
-pub all-mem : {A : Type 0} (p : A → Bool) (xs : List A) (x : A) → all p xs ≡ true → List·Memᴰ x xs → p x ≡ true
-unfolding all
-all-mem p [] x e m = absurd (List·Memᴰ·not-nil m)
-all-mem p (y ∷ xs) x e m = go (List·Memᴰ·cases-cons m) (λ k. all-mem p xs x (and-eq-true-iff (p y) (all p xs) .0 e .1) k)
-  where
-    go : (x ≡ y) ⊎ List·Memᴰ x xs → (List·Memᴰ x xs → p x ≡ true) → p x ≡ true
-    go (inl i) ih = ap p i ∙ and-eq-true-iff (p y) (all p xs) .0 e .0
-    go (inr k) ih = ih k
+use Rattle.table_decode.proofs.Judging.{two-distinct}
 
 pub any-mem : {A : Type 0} (p : A → Bool) (xs : List A) → any p xs ≡ true → (x : A) × List·Memᴰ x xs × (p x ≡ true)
 unfolding any
@@ -52,35 +49,17 @@ any-at p [] j d e h = absurd (omega arith)
 any-at p (x ∷ xs) zero d e h = byTest (p x) (λ b. absurd (true≢false (rw b at e))) (λ b. b)
 any-at p (x ∷ xs) (suc j) d e h = any-at p xs j d (byTest (p x) (λ b. absurd (true≢false (rw b at e))) (λ b. rw b at e)) (omega arith)
 
-not-true : (b : Bool) → not b ≡ true → b ≡ false
-not-true true e = absurd (false≢true e)
-not-true false e = refl
-
-pub two-at : {A : Type 0} (q : A → A → Bool) (xs : List A) (d : A) → noTwo q xs ≡ true → (i j : ℕ) → i < j → j < length xs → q (getD xs i d) (getD xs j d) ≡ false
+pub two-at : {A : Type 0} (q : A → A → Bool) (xs : List A) (d : A) → noTwo q xs ≡ true → (i j : ℕ) → i < j → j < length xs
+    → q (getD xs i d) (getD xs j d) ≡ false
 unfolding noTwo
 two-at q [] d e i j h k = absurd (omega arith)
 two-at q (x ∷ xs) d e i zero h k = absurd (omega arith)
 two-at q (x ∷ xs) d e zero (suc j) h k = any-at (q x) xs j d (not-true (any (q x) xs) (and-eq-true-iff (not (any (q x) xs)) (noTwo q xs) .0 e .0)) (omega arith)
 two-at q (x ∷ xs) d e (suc i) (suc j) h k = two-at q xs d (and-eq-true-iff (not (any (q x) xs)) (noTwo q xs) .0 e .1) i j (omega arith) (omega arith)
 
-pub map-mem : {A B : Type 0} (f : A → B) (xs : List A) (y : B) → List·Memᴰ y (map f xs) → (x : A) × List·Memᴰ x xs × (y ≡ f x)
-map-mem {A} f [] y m = absurd (List·Memᴰ·not-nil m)
-map-mem {A} f (x ∷ xs) y m = go (List·Memᴰ·cases-cons m) (λ k. map-mem f xs y k)
-  where
-    go : (y ≡ f x) ⊎ List·Memᴰ y (map f xs) → (List·Memᴰ y (map f xs) → (z : A) × List·Memᴰ z xs × (y ≡ f z)) → (z : A) × List·Memᴰ z (x ∷ xs) × (y ≡ f z)
-    go (inl i) ih = (x, List·Memᴰ·head refl, i)
-    go (inr k) ih = let w = ih k in (w .0, List·Memᴰ·tail (w .1), w .2)
-
-pub mem-map : {A B : Type 0} (f : A → B) (xs : List A) (x : A) → List·Memᴰ x xs → List·Memᴰ (f x) (map f xs)
-mem-map f [] x m = absurd (List·Memᴰ·not-nil m)
-mem-map {A} {B} f (y ∷ xs) x m = go (List·Memᴰ·cases-cons m) (λ k. mem-map f xs x k)
-  where
-    go : (x ≡ y) ⊎ List·Memᴰ x xs → (List·Memᴰ x xs → List·Memᴰ (f x) (map f xs)) → List·Memᴰ (f x) (f y ∷ map f xs)
-    go (inl i) ih = List·Memᴰ·head (ap f i)
-    go (inr k) ih = List·Memᴰ·tail (ih k)
-
 -- the parts of a URN that has its form
-pub fields-parts : (w : List ℕ) → urnOk w ≡ true → (fields 58 w ≡ upTo 58 w ∷ fields 58 (past 58 w)) × (length (fields 58 w) ≤ 9) × (all nameOk (fields 58 w) ≡ true)
+pub fields-parts : (w : List ℕ) → urnOk w ≡ true → (fields 58 w ≡ upTo 58 w ∷ fields 58 (past 58 w)) × (length (fields 58 w) ≤ 9)
+    × (all nameOk (fields 58 w) ≡ true)
 unfolding urnOk
 fields-parts w e =
     let a = and-eq-true-iff (noCapital w) (within 2 9 (length (fields 58 w)) && all nameOk (fields 58 w)) .0 e in
@@ -113,9 +92,11 @@ pub record Passed (s : Stored) : Type 0 where
 
 pub judged-zero : (s : Stored) → judged s ≡ 0 → Passed s
 unfolding judged verdict
-judged-zero s e = go (formed s) (listed s) (single (tableIn s)) (zeroSilent (tableIn s)) (distinct (tableIn s)) (fewNodes (tableIn s)) refl refl refl refl refl refl e
+judged-zero s e = go (formed s) (listed s) (single (tableIn s)) (zeroSilent (tableIn s)) (distinct (tableIn s)) (fewNodes (tableIn s)) refl
+    refl refl refl refl refl e
   where
-    go : (a b c d f g : Bool) → formed s ≡ a → listed s ≡ b → single (tableIn s) ≡ c → zeroSilent (tableIn s) ≡ d → distinct (tableIn s) ≡ f → fewNodes (tableIn s) ≡ g
+    go : (a b c d f g : Bool) → formed s ≡ a → listed s ≡ b → single (tableIn s) ≡ c → zeroSilent (tableIn s) ≡ d → distinct (tableIn s)
+        ≡ f → fewNodes (tableIn s) ≡ g
         → _≡_ {A = ℕ} (cond a (cond b (cond c (cond d (cond f (cond g 0 12) 11) 10) 9) 8) 7) 0 → Passed s
     go true true true true true true p q r u v w e = record { form = p; lists = q; once = r; silent = u; rows = v; few = w }
     go true true true true true false p q r u v w e = absurd (omega arith)
@@ -143,10 +124,12 @@ module _ (t : List ℕ) (s : Stored) (q : ℕ) (r : stored t ≡ got s q) (g : P
       let b = map-mem (toUrn (s .names)) (a .0) u n in
       (a .0, a .1, b .0, b .1, b .2)
 
-  pub three : (noTwo sameName (s .names) ≡ true) × (all (λ x. any (uses x) (s .signals)) (s .names) ≡ true) × (all (all (isListed (s .names))) (s .signals) ≡ true)
+  pub three : (noTwo sameName (s .names) ≡ true) × (all (λ x. any (uses x) (s .signals)) (s .names) ≡ true)
+      × (all (all (isListed (s .names))) (s .signals) ≡ true)
   unfolding listed
   three =
-      let a = and-eq-true-iff (noTwo sameName (s .names)) (all (λ x. any (uses x) (s .signals)) (s .names) && all (all (isListed (s .names))) (s .signals)) .0 (g .lists) in
+      let a = and-eq-true-iff (noTwo sameName (s .names)) (all (λ x. any (uses x) (s .signals)) (s .names)
+      && all (all (isListed (s .names))) (s .signals)) .0 (g .lists) in
       let b = and-eq-true-iff (all (λ x. any (uses x) (s .signals)) (s .names)) (all (all (isListed (s .names))) (s .signals)) .0 (a .1) in
       (a .0, b .0, b .1)
 
@@ -160,7 +143,8 @@ module _ (t : List ℕ) (s : Stored) (q : ℕ) (r : stored t ≡ got s q) (g : P
   unfolding isListed
   known sig m u k =
       let a = from-stored sig m u k in
-      let h : memberBy sameName (categoryOf (a .2)) (s .names) ≡ true = all-mem (isListed (s .names)) (a .0) (a .2) (all-mem (all (isListed (s .names))) (s .signals) (a .0) (three .2) (a .1)) (a .3) in
+      let h : memberBy sameName (categoryOf (a .2)) (s .names) ≡ true =
+      all-mem (isListed (s .names)) (a .0) (a .2) (all-mem (all (isListed (s .names))) (s .signals) (a .0) (three .2) (a .1)) (a .3) in
       let w = index-member sameName name-exact [] (categoryOf (a .2)) (s .names) h in
       omega (arith, w .0, ap (λ (x : Urn). x .cat) (a .4))
 
@@ -219,13 +203,13 @@ module _ (t : List ℕ) (s : Stored) (q : ℕ) (r : stored t ≡ got s q) (g : P
   unfolding single fewNodes
   passed-accepted =
       let c = stored-counts t s q r in
-      let l = map-length (map (toUrn (s .names))) (s .signals) in
+      let l = length-map (s .signals) (map (toUrn (s .names))) in
       record {
         well = record { some-signal = omega (arith, l, c .2); silent = silent; named = named };
         some-category = c .0;
         few-categories = c .1;
         few-signals = omega (arith, l, c .3);
-        few-nodes = leb-true (length (nodes (tableIn s))) 64 (g .few);
+        few-nodes = leb-true (length (nodes (tableIn s))) mostNodes (g .few);
         few-parts = few-parts;
         known = known;
         some-part = some-part;
@@ -243,33 +227,21 @@ accepted t e = let a = refusal-zero t e in rw (a .2) (passed-accepted t (a .0) (
 pub node-parts : (T : Table) → Accepted T → (k : ℕ) → k < length (nodes T) → length (nodeAt (nodes T) k .path) ≤ 8
 node-parts T A k h =
     let n = nodes-all T (nodeAt (nodes T) k) (mem-at (nodes T) k (urn 0 []) h) in
-    omega (arith, A .few-parts (n .signal) (n .listed) (n .by) (n .named), ap length (n .above .joined), length-append (nodeAt (nodes T) k .path) (n .above .rest))
-
--- and a table of which all this holds is refused with none of 9 to 12
-pub all-of : {A : Type 0} (p : A → Bool) (xs : List A) → ((x : A) → List·Memᴰ x xs → p x ≡ true) → all p xs ≡ true
-unfolding all
-all-of p [] h = refl
-all-of p (x ∷ xs) h = ap₂ _&&_ (h x (List·Memᴰ·head refl)) (all-of p xs (λ y m. h y (List·Memᴰ·tail m)))
-
-none-of : {A : Type 0} (p : A → Bool) (xs : List A) (d : A) → ((j : ℕ) → j < length xs → p (getD xs j d) ≡ false) → any p xs ≡ false
-unfolding any
-none-of p [] d h = refl
-none-of p (x ∷ xs) d h = rw (h 0 (omega arith)) (none-of p xs d (λ j l. h (suc j) (omega arith)))
-
-two-of : {A : Type 0} (q : A → A → Bool) (xs : List A) (d : A) → ((i j : ℕ) → i < j → j < length xs → q (getD xs i d) (getD xs j d) ≡ false) → noTwo q xs ≡ true
-unfolding noTwo
-two-of q [] d h = refl
-two-of q (x ∷ xs) d h =
-    ap₂ (λ a b. not a && b) (none-of (q x) xs d (λ j l. h 0 (suc j) (omega arith) (omega arith))) (two-of q xs d (λ i j k l. h (suc i) (suc j) (omega arith) (omega arith)))
+    omega (
+      arith,
+      A .few-parts (n .signal) (n .listed) (n .by) (n .named),
+      ap length (n .above .joined),
+      length-append (nodeAt (nodes T) k .path) (n .above .rest),
+    )
 
 pub accepted-verdict : (T : Table) → Accepted T → verdict T ≡ 0
 unfolding verdict single zeroSilent distinct fewNodes
 accepted-verdict T A =
-    let once : all (noTwo sameCat) (T .signals) ≡ true = all-of (noTwo sameCat) (T .signals) (A .once) in
+    let once : all (noTwo sameCat) (T .signals) ≡ true = all-by (noTwo sameCat) (T .signals) (A .once) in
     let silent : noUrn (getD (T .signals) 0 []) ≡ true = ap noUrn (A .well .silent) in
     let rows : noTwo (samePlaces (T .cats)) (T .signals) ≡ true =
-    two-of (samePlaces (T .cats)) (T .signals) []
+    no-two-of (samePlaces (T .cats)) (T .signals) []
     (λ i j h k. byTest (sameRow (rowOf T i) (rowOf T j))
     (λ e. absurd (omega (arith, A .rows i j (omega arith) k (row-exact .to (rowOf T i) (rowOf T j) e))))
     (λ e. e)) in
-    rw (once, silent, rows, le-leb (length (nodes T)) 64 (A .few-nodes))
+    rw (once, silent, rows, le-leb (length (nodes T)) mostNodes (A .few-nodes))

@@ -3,10 +3,12 @@ use Prim.Native.Nat.{ℕ}
 use mathlib.Core.Path.{_≡_, refl, ap, ap₂, _∙_}
 use mathlib.Core.Bool.{cond, _&&_}
 use mathlib.Core.List.{List}
-use Rattle.base_text.specs.Text.{all}
+use Rattle.base_lists.proofs.Tests.{all-two}
+use Rattle.base_lists.proofs.Bools.{exchange}
+use Rattle.base_lists.specs.Tests.{all}
 use Rattle.urn_names.specs.Names.{nameOk}
 use Rattle.urn_names.specs.Urn.{noCapital, storedName, urnOk}
-use Rattle.urn_names.proofs.Capitals.{exchange, all-two, name-two}
+use Rattle.urn_names.proofs.Capitals.{name-two}
 use Rattle.table_sections.specs.Stored.{got, Stored, sections}
 use Rattle.table_decode.specs.Tables.{formed, listed, tableIn, verdict, judged, judgedRead, tableRefusal}
 use Rattle.table_decode.specs.Capitals.{withoutCapitals, urnInAnyCase, formedInAnyCase, CapitalsRefused}

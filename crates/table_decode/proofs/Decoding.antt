@@ -1,44 +1,41 @@
 -- From the nodes and the places to the answer: 9 to 12, and what the arrays of an accepted table hold.
 use Prim.Native.Nat.{ℕ, zero, suc, _+_, _≤_, _<_, min}
-use mathlib.Core.Path.{_≡_, refl, ap, ap₂, sym, _∙_, subst}
+use mathlib.Core.Path.{_≡_, refl, ap, sym, _∙_, subst}
 use mathlib.Core.Logic.{inl, inr, _≢_}
 use mathlib.Core.Bool.{Bool, true, false, cond, not}
-use mathlib.Core.List.{List, [], _∷_, _++_, map, foldl}
+use mathlib.Core.List.{List, [], map, foldl}
 use native.Mathlib.Omega.{arith}
 use borrow.Author.Tests.{lt-leb, ne-eqb}
-use lib.ListN.{length, getD, length-append}
+use lib.ListN.{length, getD}
+use Rattle.base_numbers.specs.Numbers.{mostNodes}
+use Rattle.base_lists.specs.Cuts.{stretch}
+use Rattle.theory_resolution.proofs.Names.{snoc-injective}
+use Rattle.base_lists.proofs.Numbers.{min-le}
+use Rattle.base_lists.proofs.Tabulated.{tabulate-length, tabulate-at, map-tab}
+use Rattle.base_lists.specs.Lists.{tabulate}
 use Rattle.base_text.specs.Text.{fields}
 use Rattle.base_text.proofs.Fields.{fields-first}
-use Rattle.theory_resolution.specs.Lists.{tabulate}
 use Rattle.theory_resolution.specs.Names.{Name, Parts}
 use Rattle.theory_resolution.specs.Table.{Urn, urn, Table}
 use Rattle.theory_resolution.specs.Nodes.{nodes, number, nodeAt, addUrn}
-use Rattle.theory_resolution.proofs.Lists.{tabulate-length, tabulate-at}
 use Rattle.theory_resolution.proofs.Numbers.{number-at, root-number}
-use Rattle.node_search.specs.Arrays.{stretch, NamesIn, NodesIn, SharedIn, childless}
+use Rattle.node_search.specs.Arrays.{NamesIn, NodesIn, SharedIn, childless}
 use Rattle.node_step.specs.Rows.{Numbers}
 use Rattle.node_step.proofs.Leaves.{inner-is}
 use Rattle.node_search.proofs.MarkLaws.{shared-of}
 use Rattle.table_sections.specs.declared.Counts.{Counts}
 use Rattle.table_nodes.specs.Nodes.{nodeUrn, Numbered, Nodes, AllAdded}
 use Rattle.table_places.specs.Slots.{urnOf, Numbering, Placed}
-use Rattle.table_places.proofs.Flat.{map-tab, whatOf, tagged-what, nodes-joined}
+use Rattle.table_places.proofs.Flat.{whatOf, tagged-what, nodes-joined}
 use Rattle.table_decode.specs.Tables.{single, zeroSilent, distinct, fewNodes, verdict, tableOf, tableRefusal, categoryNames}
 use Rattle.table_decode.specs.Stages.{ListedAs}
 use Rattle.table_decode.specs.Decoded.{Means}
 use Rattle.table_decode.proofs.Accepting.{accepted, node-parts}
-use Rattle.base_text.proofs.Lesser.{min-le}
-
-snoc-same : (p q : Parts) (x y : Name) → p ++ x ∷ [] ≡ q ++ y ∷ [] → p ≡ q
-snoc-same [] [] x y e = refl
-snoc-same [] (z ∷ q) x y e = absurd (omega (arith, ap length e, length-append q (y ∷ [])))
-snoc-same (z ∷ p) [] x y e = absurd (omega (arith, ap length e, length-append p (x ∷ [])))
-snoc-same (z ∷ p) (w ∷ q) x y e = let a : z ≡ w = cc in let b : p ++ x ∷ [] ≡ q ++ y ∷ [] = cc in ap₂ _∷_ a (snoc-same p q x y b)
 
 -- a table with too many nodes is refused
-pub many-nodes : (T : Table) → 64 < length (nodes T) → verdict T ≢ 0
+pub many-nodes : (T : Table) → mostNodes < length (nodes T) → verdict T ≢ 0
 unfolding verdict fewNodes
-many-nodes T h e = go (single T) (zeroSilent T) (distinct T) (rw (lt-leb (length (nodes T)) 64 h) at e)
+many-nodes T h e = go (single T) (zeroSilent T) (distinct T) (rw (lt-leb (length (nodes T)) mostNodes h) at e)
   where
     go : (a b c : Bool) → _≡_ {A = ℕ} (cond a (cond b (cond c 12 11) 10) 9) 0 → ⊥
     go true true true z = omega arith
@@ -55,12 +52,13 @@ module _ (t nameAt nameLen signal category pathAt pathLen : List ℕ) (l : Count
   path i = fields 58 (stretch t pathAt pathLen i)
 
   nodes-are : nodes T ≡ foldl addUrn [] (tabulate (nodeUrn t category pathAt pathLen) (l .urns))
-  nodes-are = nodes-joined T ∙ ap (foldl addUrn []) (sym (tagged-what 0 (T .signals)) ∙ ap (map whatOf) (sym (S .listing .urns)) ∙ map-tab whatOf (urnOf signal category path) (l .urns))
+  nodes-are = nodes-joined T ∙ ap (foldl addUrn []) (sym (tagged-what 0 (T .signals)) ∙ ap (map whatOf) (sym (S .listing .urns))
+      ∙ map-tab whatOf (urnOf signal category path) (l .urns))
 
-  pub over : 64 < n → 64 < length (nodes T)
+  pub over : mostNodes < n → mostNodes < length (nodes T)
   over h = omega (arith, A .over h, ap length nodes-are)
 
-  module _ (h : n ≤ 64) where
+  module _ (h : n ≤ mostNodes) where
     N : Nodes t cats parents at len n (nodes T)
     N = subst (λ (z : List Urn). Nodes t cats parents at len n z) (sym nodes-are) (A .kept h)
 
@@ -80,7 +78,8 @@ module _ (t nameAt nameLen signal category pathAt pathLen : List ℕ) (l : Count
     pub numbering : Numbering T category path node (l .urns)
     numbering =
         record {
-          no-root = λ i k. above (foldl addUrn [] (tabulate (nodeUrn t category pathAt pathLen) (l .urns))) (getD category i 0) i (getD node i 0) (A .numbered h i k);
+          no-root = λ i k. above (foldl addUrn [] (tabulate (nodeUrn t category pathAt pathLen) (l .urns))) (getD category i 0) i
+              (getD node i 0) (A .numbered h i k);
           numbers = λ i k. number-as (getD category i 0) (path i) (getD node i 0)
               (subst (λ (y : List Urn). Numbered y (getD category i 0) (path i) (getD node i 0)) (sym nodes-are) (A .numbered h i k));
           few-nodes = omega (arith, count);
@@ -131,7 +130,7 @@ module _ (t nameAt nameLen signal category pathAt pathLen : List ℕ) (l : Count
             packed = P .packed z;
             parent-at = λ k i p x e.
                 let w = N .parent k (omega (arith, i, count)) in
-                let s : w .0 ≡ p = snoc-same (w .0) p (w .1) x (sym (w .2) ∙ e) in
+                let s : w .0 ≡ p = snoc-injective (w .0) p (w .1) x (sym (w .2) ∙ e) in
                 number-as (nodeAt (nodes T) k .cat) (w .0) (getD parents k 0) (w .3) ∙ ap (number (nodes T) (nodeAt (nodes T) k .cat)) s;
           }
 
@@ -139,11 +138,25 @@ module _ (t nameAt nameLen signal category pathAt pathLen : List ℕ) (l : Count
       placed-refused = S .refusal ∙ sym (P .refusal)
 
       -- the answer to an accepted table
-      pub means-accepted : r ≡ 0 → (shared : List ℕ) → SharedIn t cats at len shared (min n 64)
-          → (inner : List Bool) → ((k : ℕ) → k < 64 → getD inner k false ≡ not (childless parents (k + 1) (min n 64)))
-          → Means t (record { refusal = 0; categories = l .categories; signals = l .signals; nodes = n; «name_at» = nameAt; «name_len» = nameLen; category = cats; parent = parents; at = at; len = len; shared = shared; inner = inner; rows = rows })
+      pub means-accepted : r ≡ 0 → (shared : List ℕ) → SharedIn t cats at len shared (min n mostNodes)
+          → (inner : List Bool) → ((k : ℕ) → k < mostNodes → getD inner k false ≡ not (childless parents (k + 1) (min n mostNodes)))
+          → Means t (record {
+            refusal = 0;
+            categories = l .categories;
+            signals = l .signals;
+            nodes = n;
+            «name_at» = nameAt;
+            «name_len» = nameLen;
+            category = cats;
+            parent = parents;
+            at = at;
+            len = len;
+            shared = shared;
+            inner = inner;
+            rows = rows;
+          })
       means-accepted z shared si inner marked =
-          let few : n ≡ min n 64 = min-le n 64 h in
+          let few : n ≡ min n mostNodes = min-le n mostNodes h in
           let zero-is : tableRefusal t ≡ 0 = placed-refused ∙ z in
           let acc = accepted t zero-is in
           record {

@@ -8,19 +8,24 @@ use native.Mathlib.Omega.{arith}
 use lib.ListN.{length, getD}
 use lib.Dec.{ltb}
 use borrow.Author.Tests.{leb-true, leb-false, ltb-true, ltb-false, eq-eqb, eqb-true}
-use Rattle.base_text.specs.Text.{all}
-use Rattle.base_text.proofs.Fields.{byTest}
+use Rattle.base_numbers.specs.Numbers.{mostNodes, mostTableBytes}
+use Rattle.base_lists.proofs.Tests.{all-mem, any-yes}
+use Rattle.base_lists.proofs.Lists.{member-of, member-to}
+use Rattle.base_lists.proofs.Bools.{byTest}
+use Rattle.base_lists.specs.Tests.{all, any, noTwo}
 use Rattle.urn_names.specs.Urn.{storedName, urnOk, categoryOf}
 use Rattle.theory_resolution.specs.Names.{Name, sameName}
 use Rattle.theory_resolution.specs.Table.{Urn, urn, Table, rowOf, sameRow}
 use Rattle.theory_resolution.specs.Nodes.{nodes}
-use Rattle.theory_resolution.proofs.Lists.{member-of, member-to}
 use Rattle.theory_resolution.proofs.Names.{name-exact, row-exact}
 use Rattle.table_sections.specs.Stored.{Read, fault, got, Stored, stored}
 use Rattle.table_places.specs.Verdict.{sameCat, noUrn, samePlaces}
-use Rattle.table_decode.specs.Tables.{any, noTwo, formed, uses, isListed, listed, tableIn, single, zeroSilent, distinct, fewNodes, verdict, judged, judgedRead, tableRefusal}
-use Rattle.table_decode.specs.Claims.{TableStops, Misformed, of-name, of-urn, Mislisted, twice, unused, unlisted, TwoOfOne, ZeroSays, AlikePlaces, ManyNodes, Holding, Due, four, five-six, seven, eight, nine, ten, eleven, twelve, TableGiven, accepted, first, TableRefusedExactly}
-use Rattle.table_decode.proofs.Accepting.{all-mem, any-mem, two-at}
+use Rattle.table_decode.specs.Tables.{formed, uses, isListed, listed, tableIn, single, zeroSilent, distinct, fewNodes, verdict, judged}
+use Rattle.table_decode.specs.Tables.{judgedRead, tableRefusal}
+use Rattle.table_decode.specs.Claims.{TableStops, Misformed, of-name, of-urn, Mislisted, twice, unused, unlisted, TwoOfOne, ZeroSays}
+use Rattle.table_decode.specs.Claims.{AlikePlaces, ManyNodes, Holding, Due, four, five-six, seven, eight, nine, ten, eleven, twelve, TableGiven}
+use Rattle.table_decode.specs.Claims.{accepted, first, TableRefusedExactly}
+use Rattle.table_decode.proofs.Accepting.{any-mem, two-at}
 use Rattle.table_decode.proofs.NameForms.{name-to, name-of, urn-to, urn-of}
 use Rattle.table_decode.proofs.Writing.{never, got-value, stored-reads, stored-back}
 use Rattle.table_decode.proofs.Stopping.{table-to, table-of, stop-number}
@@ -48,15 +53,6 @@ module _ {A : Type 0} where
       go (inl i) ih = ap p i ∙ here
       go (inr k) ih = ih (rw here at e) k
 
-  any-at : (p : A → Bool) (xs : List A) (d : A) → any p xs ≡ true → (j : ℕ) × (j < length xs) × (p (getD xs j d) ≡ true)
-  unfolding any
-  any-at p [] d e = absurd (false≢true e)
-  any-at p (x ∷ xs) d e = go (p x) refl (λ h. any-at p xs d h)
-    where
-      go : (b : Bool) → p x ≡ b → (any p xs ≡ true → (j : ℕ) × (j < length xs) × (p (getD xs j d) ≡ true)) → (j : ℕ) × (j < suc (length xs)) × (p (getD (x ∷ xs) j d) ≡ true)
-      go true h ih = (0, omega arith, h)
-      go false h ih = let w = ih (rw h at e) in (suc (w .0), omega (arith, w .1), w .2)
-
   two-not : (q : A → A → Bool) (xs : List A) (d : A) → noTwo q xs ≡ false → (i j : ℕ) × (i < j) × (j < length xs) × (q (getD xs i d) (getD xs j d) ≡ true)
   unfolding noTwo
   two-not q [] d e = absurd (true≢false e)
@@ -64,7 +60,7 @@ module _ {A : Type 0} where
     where
       go : (b : Bool) → any (q x) xs ≡ b → (noTwo q xs ≡ false → (i j : ℕ) × (i < j) × (j < length xs) × (q (getD xs i d) (getD xs j d) ≡ true))
           → (i j : ℕ) × (i < j) × (j < suc (length xs)) × (q (getD (x ∷ xs) i d) (getD (x ∷ xs) j d) ≡ true)
-      go true h ih = let w = any-at (q x) xs d h in (0, suc (w .0), omega arith, omega (arith, w .1), w .2)
+      go true h ih = let w = any-yes (q x) xs d h in (0, suc (w .0), omega arith, omega (arith, w .1), w .2)
       go false h ih = let w = ih (rw h at e) in (suc (w .0), suc (w .1), omega (arith, w .2), omega (arith, w .3), w .4)
 
 -- 7
@@ -80,7 +76,8 @@ formed-fault s e =
 
 formed-clear : (s : Stored) → formed s ≡ true → Misformed s → ⊥
 unfolding formed
-formed-clear s e (of-name x m n) = let a = and-eq-true-iff (all storedName (s .names)) (all (all urnOk) (s .signals)) .0 e in n (name-to x (all-mem storedName (s .names) x (a .0) m))
+formed-clear s e (of-name x m n) = let a = and-eq-true-iff (all storedName (s .names)) (all (all urnOk) (s .signals)) .0 e in
+    n (name-to x (all-mem storedName (s .names) x (a .0) m))
 formed-clear s e (of-urn sig m u k n) =
     let a = and-eq-true-iff (all storedName (s .names)) (all (all urnOk) (s .signals)) .0 e in
     n (urn-to u (all-mem urnOk sig u (all-mem (all urnOk) (s .signals) sig (a .1) m) k))
@@ -102,7 +99,8 @@ listed-fault s e =
     let a = all-not (λ x. any (uses x) (s .signals)) (s .names) g in
     unused (a .0) (a .1)
     (λ sig m u k. no-same (categoryOf u) (a .0) (any-none (λ v. sameName (categoryOf v) (a .0)) sig (any-none (uses (a .0)) (s .signals) (a .2) sig m) u k))))
-    (λ h. let w = two-not sameName (s .names) [] h in twice (w .0) (w .1) (w .2) (w .3) (name-exact .to (getD (s .names) (w .0) []) (getD (s .names) (w .1) []) (w .4)))
+    (λ h. let w = two-not sameName (s .names) [] h in
+    twice (w .0) (w .1) (w .2) (w .3) (name-exact .to (getD (s .names) (w .0) []) (getD (s .names) (w .1) []) (w .4)))
 
 listed-clear : (s : Stored) → listed s ≡ true → Mislisted s → ⊥
 unfolding listed uses isListed
@@ -121,7 +119,8 @@ listed-clear s e m = go m
         let d = any-mem (λ u. sameName (categoryOf u) x) (c .0) (c .2) in
         n (c .0) (c .1) (d .0) (d .1) (name-exact .to (categoryOf (d .0)) x (d .2))
     go (unlisted sig m u k n) =
-        n (member-to sameName name-exact (categoryOf u) (s .names) (all-mem (isListed (s .names)) sig u (all-mem (all (isListed (s .names))) (s .signals) sig (b .1) m) k))
+        n (member-to sameName name-exact (categoryOf u) (s .names)
+        (all-mem (isListed (s .names)) sig u (all-mem (all (isListed (s .names))) (s .signals) sig (b .1) m) k))
 
 -- 9 to 12
 module _ (T : Table) where
@@ -167,15 +166,15 @@ module _ (T : Table) where
 
   nodes-fault : fewNodes T ≡ false → ManyNodes T
   unfolding fewNodes
-  nodes-fault e = leb-false (length (nodes T)) 64 e
+  nodes-fault e = leb-false (length (nodes T)) mostNodes e
 
   nodes-clear : fewNodes T ≡ true → ManyNodes T → ⊥
   unfolding fewNodes
-  nodes-clear e h = omega (arith, leb-true (length (nodes T)) 64 e)
+  nodes-clear e h = omega (arith, leb-true (length (nodes T)) mostNodes e)
 
 -- what rules out the numbers below n
 record Clear (t : List ℕ) (n : ℕ) : Type 0 where
-  short : 4 < n → length t ≤ 8192
+  short : 4 < n → length t ≤ mostTableBytes
   stops : (k : ℕ) → k < n → TableStops k t → ⊥
   forms : 7 < n → (s : Stored) → Holding t s → Misformed s → ⊥
   lists : 8 < n → (s : Stored) → Holding t s → Mislisted s → ⊥
@@ -209,7 +208,7 @@ due-number t m (eleven e s h f) = omega arith
 due-number t m (twelve e s h f) = omega arith
 
 -- bytes of at most 8,192 that can be read
-module _ (t : List ℕ) (short : length t ≤ 8192) (s : Stored) (q : ℕ) (e : stored t ≡ got s q) where
+module _ (t : List ℕ) (short : length t ≤ mostTableBytes) (s : Stored) (q : ℕ) (e : stored t ≡ got s q) where
   held : Holding t s
   held = let b = stored-back t s q e in record { fits = b .0; bytes = sym (b .1) }
 
@@ -225,7 +224,8 @@ module _ (t : List ℕ) (short : length t ≤ 8192) (s : Stored) (q : ℕ) (e : 
   T = tableIn s
 
   -- the tests passed before n rule out the numbers below it
-  clear : (n : ℕ) → (7 < n → formed s ≡ true) → (8 < n → listed s ≡ true) → (9 < n → single T ≡ true) → (10 < n → zeroSilent T ≡ true) → (11 < n → distinct T ≡ true)
+  clear : (n : ℕ) → (7 < n → formed s ≡ true) → (8 < n → listed s ≡ true) → (9 < n → single T ≡ true) → (10 < n → zeroSilent T ≡ true)
+      → (11 < n → distinct T ≡ true)
       → (12 < n → fewNodes T ≡ true) → (m : ℕ) → m < n → Due t m → ⊥
   clear n x7 x8 x9 x10 x11 x12 =
       ruled t n
@@ -248,7 +248,8 @@ module _ (t : List ℕ) (short : length t ≤ 8192) (s : Stored) (q : ℕ) (e : 
       → TableGiven t (cond a (cond b (cond c (cond d (cond f (cond g 0 12) 11) 10) 9) 8) 7)
   by-tests false b c d f g a₁ b₁ c₁ d₁ f₁ g₁ =
       first (seven refl s held (formed-fault s a₁))
-      (clear 7 (off 7 7 (omega arith)) (off 7 8 (omega arith)) (off 7 9 (omega arith)) (off 7 10 (omega arith)) (off 7 11 (omega arith)) (off 7 12 (omega arith)))
+      (clear 7 (off 7 7 (omega arith)) (off 7 8 (omega arith)) (off 7 9 (omega arith)) (off 7 10 (omega arith)) (off 7 11 (omega arith))
+      (off 7 12 (omega arith)))
   by-tests true false c d f g a₁ b₁ c₁ d₁ f₁ g₁ =
       first (eight refl s held (listed-fault s b₁))
       (clear 8 (λ _. a₁) (off 8 8 (omega arith)) (off 8 9 (omega arith)) (off 8 10 (omega arith)) (off 8 11 (omega arith)) (off 8 12 (omega arith)))
@@ -275,12 +276,15 @@ module _ (t : List ℕ) (short : length t ≤ 8192) (s : Stored) (q : ℕ) (e : 
 is-given : (t : List ℕ) → TableGiven t (tableRefusal t)
 unfolding tableRefusal judgedRead
 is-given t =
-    byTest (ltb 8192 (length t))
-    (λ h. rw h (first (four refl (ltb-true 8192 (length t) h)) (early 4 (omega arith) (λ l. absurd (omega arith)) (λ m l x. omega (arith, stop-number t m x .0)))))
-    (λ h. rw h (go (ltb-false 8192 (length t) h) (stored t) refl))
+    byTest (ltb mostTableBytes (length t))
+    (λ h. rw h (first (four refl (ltb-true mostTableBytes (length t) h)) (early 4 (omega arith) (λ l. absurd (omega arith)) (λ m l x. omega (
+      arith,
+      stop-number t m x .0,
+    )))))
+    (λ h. rw h (go (ltb-false mostTableBytes (length t) h) (stored t) refl))
   where
     -- the reading stops with k, or before it
-    early : (k : ℕ) → k ≤ 6 → (4 < k → length t ≤ 8192) → ((m : ℕ) → m < k → TableStops m t → ⊥) → (m : ℕ) → m < k → Due t m → ⊥
+    early : (k : ℕ) → k ≤ 6 → (4 < k → length t ≤ mostTableBytes) → ((m : ℕ) → m < k → TableStops m t → ⊥) → (m : ℕ) → m < k → Due t m → ⊥
     early k h short stops =
         ruled t k
         (record {
@@ -294,8 +298,9 @@ is-given t =
           few = λ l. absurd (omega arith);
         })
 
-    go : length t ≤ 8192 → (r : Read Stored) → stored t ≡ r → TableGiven t (judgedRead r)
-    go short (fault k) e = first (five-six (table-of t k e)) (early k (stop-number t k (table-of t k e) .1) (λ _. short) (λ m l x. omega (arith, fault-number m k (sym (table-to t m x) ∙ e))))
+    go : length t ≤ mostTableBytes → (r : Read Stored) → stored t ≡ r → TableGiven t (judgedRead r)
+    go short (fault k) e = first (five-six (table-of t k e)) (early k (stop-number t k (table-of t k e) .1) (λ _. short)
+        (λ m l x. omega (arith, fault-number m k (sym (table-to t m x) ∙ e))))
     go short (got s q) e = read-given t short s q e
 
 -- and no other
@@ -303,7 +308,8 @@ one-given : (t : List ℕ) (m n : ℕ) → TableGiven t m → TableGiven t n →
 one-given t m n (accepted e s h x) (accepted f s₁ h₁ y) = e ∙ sym f
 one-given t m n (accepted e s h x) (first d y) = absurd (x n d)
 one-given t m n (first d x) (accepted f s₁ h₁ y) = absurd (y m d)
-one-given t m n (first d x) (first c y) = byTest (ltb m n) (λ h. absurd (y m (ltb-true m n h) d)) (λ h. byTest (ltb n m) (λ k. absurd (x n (ltb-true n m k) c)) (λ k. omega (arith, ltb-false m n h, ltb-false n m k)))
+one-given t m n (first d x) (first c y) = byTest (ltb m n) (λ h. absurd (y m (ltb-true m n h) d))
+    (λ h. byTest (ltb n m) (λ k. absurd (x n (ltb-true n m k) c)) (λ k. omega (arith, ltb-false m n h, ltb-false n m k)))
 
 pub refused-exactly : TableRefusedExactly
 refused-exactly t n = (λ e. subst (TableGiven t) e (is-given t), λ g. one-given t (tableRefusal t) n (is-given t) g)

@@ -1,31 +1,34 @@
 -- From what the functions answer to the refusal of the table: 4 to 8.
-use Prim.Native.Nat.{ℕ, suc, _<_}
+use Prim.Native.Nat.{ℕ, _<_}
 use mathlib.Core.Path.{_≡_, refl, ap, ap₂, sym, _∙_, subst}
 use mathlib.Core.Bool.{Bool, true, false, not, _&&_, and-false, and-eq-true-iff, false≢true}
 use mathlib.Core.List.{List, [], _∷_, map}
 use native.Mathlib.Omega.{arith}
-use lib.ListN.{length, getD}
+use lib.ListN.{length, getD, length-map}
 use lib.Dec.{eqb}
 use borrow.Author.Tests.{eq-eqb, eqb-true}
-use Rattle.base_text.specs.Text.{all, fields}
+use Rattle.base_numbers.specs.Numbers.{mostNodes, mostSignals}
+use Rattle.base_lists.specs.Cuts.{stretch}
+use Rattle.base_lists.proofs.Tests.{all-joined, any-joined, all-alike, any-alike}
+use Rattle.base_lists.proofs.Lists.{index-member, index-at, getD-all}
+use Rattle.base_lists.proofs.Tabulated.{tabulate-same, tabulate-length, tabulate-at, map-tab}
+use Rattle.base_lists.specs.Lists.{tabulate, memberBy, indexBy, Distinct, joined}
+use Rattle.base_lists.proofs.Bools.{byTest, same-test}
+use Rattle.base_lists.specs.Tests.{all, any, noTwo}
+use Rattle.base_text.specs.Text.{fields}
 use Rattle.urn_names.specs.Urn.{storedName, urnOk, categoryOf}
-use Rattle.base_text.proofs.Fields.{byTest}
-use Rattle.theory_resolution.specs.Lists.{tabulate, memberBy, indexBy, Distinct}
 use Rattle.theory_resolution.specs.Names.{Name, sameName}
 use Rattle.theory_resolution.specs.Table.{urn, Table}
-use Rattle.theory_resolution.proofs.Lists.{tabulate-same, tabulate-length, tabulate-at, index-member, index-at}
 use Rattle.theory_resolution.proofs.Names.{name-exact}
-use Rattle.node_search.specs.Arrays.{stretch}
-use Rattle.node_search.proofs.MarkLaws.{unmarked}
-use Rattle.table_sections.specs.Stored.{fault, got, Stored, sections}
-use Rattle.table_sections.specs.Held.{tag, taggedFrom, joined, urnAt, ReadAs}
+use Rattle.table_sections.specs.Stored.{fault, got, Stored, sections, Read, stored}
+use Rattle.table_sections.specs.Held.{tag, taggedFrom, urnAt, ReadAs}
 use Rattle.table_sections.specs.declared.Counts.{Counts}
 use Rattle.table_sections.proofs.Padding.{clear}
 use Rattle.table_sections.proofs.SectionLaws.{sections-read}
 use Rattle.table_places.specs.Slots.{urnOf}
-use Rattle.table_places.proofs.TestLaws.{same-test}
-use Rattle.table_places.proofs.Flat.{map-tab, whatOf, onWhat, tagged-what, tagged-map, all-joined, any-joined, all-alike, any-alike}
-use Rattle.table_decode.specs.Tables.{any, noTwo, formed, uses, isListed, listed, toUrn, tableIn, verdict, judged, judgedRead, tableRefusal, namesRead, categoryNames, tableRead, tableOf}
+use Rattle.table_places.proofs.Flat.{whatOf, onWhat, tagged-what, tagged-map}
+use Rattle.table_decode.specs.Tables.{formed, uses, isListed, listed, toUrn, tableIn, verdict, judged, judgedRead, tableRefusal, namesRead}
+use Rattle.table_decode.specs.Tables.{categoryNames, tableRead, tableOf}
 use Rattle.table_names.specs.Categories.{Indexed}
 use Rattle.table_decode.specs.Stages.{FormedAs, ListedAs}
 use Rattle.table_decode.specs.Decoded.{refusedTable, Past, Means}
@@ -35,11 +38,25 @@ use Rattle.table_names.proofs.Indexing.{index-below}
 -- a refused table
 past-none : (k : ℕ) → Past (refusedTable k)
 past-none k =
-    record { name-at = clear 8; name-len = clear 8; category = clear 64; parent = clear 64; at = clear 64; len = clear 64; inner = λ i _ _. unmarked 64 i; rows = clear 32 }
+    record {
+      name-at = clear 8;
+      name-len = clear 8;
+      category = clear mostNodes;
+      parent = clear mostNodes;
+      at = clear mostNodes;
+      len = clear mostNodes;
+      inner = λ i _ _. getD-all mostNodes i false;
+      rows = clear mostSignals;
+    }
 
 pub means-refused : (t : List ℕ) (k : ℕ) {r : Decoded} → r ≡ refusedTable k → tableRefusal t ≡ k → (k ≡ 0 → ⊥) → Means t r
 means-refused t k {r} e f n =
-    record { refusal = ap (λ (x : Decoded). x .refusal) e ∙ sym f; refused = λ _. e ∙ ap refusedTable (sym f); holds = λ z. absurd (n (sym f ∙ z)); past = subst Past (sym e) (past-none k) }
+    record {
+      refusal = ap (λ (x : Decoded). x .refusal) e ∙ sym f;
+      refused = λ _. e ∙ ap refusedTable (sym f);
+      holds = λ z. absurd (n (sym f ∙ z));
+      past = subst Past (sym e) (past-none k);
+    }
 
 pub refusal-fault : (t : List ℕ) (k : ℕ) → sections t ≡ fault k → tableRefusal t ≡ k
 unfolding tableRefusal judgedRead
@@ -86,12 +103,9 @@ module _ (t nameAt nameLen at len signal : List ℕ) (l : Counts) (R : ReadAs t 
   pub urns-unformed : {a b : Bool} → a ≡ all storedName names → b ≡ all urnOk (tabulate (stretch t at len) (l .urns)) → b ≡ false → tableRefusal t ≡ 7
   urns-unformed {a} {b} e f z = is-seven (formed-as e f ∙ ap (λ x. a && x) z ∙ and-false a)
 
-  pub all-formed : {a b : Bool} → a ≡ all storedName names → a ≡ true → b ≡ all urnOk (tabulate (stretch t at len) (l .urns)) → b ≡ true → FormedAs t nameAt nameLen at len signal l
+  pub all-formed : {a b : Bool} → a ≡ all storedName names → a ≡ true → b ≡ all urnOk (tabulate (stretch t at len) (l .urns)) → b ≡ true
+      → FormedAs t nameAt nameLen at len signal l
   all-formed e x f y = record { short = sections-read t it (R .next) (R .whole) .0; read = R; form = formed-as e f ∙ ap₂ _&&_ x y }
-
-pub map-length : {A B : Type 0} (f : A → B) (l : List A) → length (map f l) ≡ length l
-map-length f [] = refl
-map-length f (x ∷ l) = ap suc (map-length f l)
 
 -- names that no two are of, as the theory has it
 not-any : (x : Name) (l : List Name) → not (any (sameName x) l) ≡ true → memberBy sameName x l ≡ false
@@ -107,7 +121,8 @@ two-distinct (x ∷ l) e =
     (not-any x l (a .0), two-distinct l (a .1))
 
 -- a category's name is a URN's exactly where the URN's number is the category's
-same-index : (l : List Name) (x : Name) (c : ℕ) → Distinct sameName l → indexBy sameName x l < length l → c < length l → sameName x (getD l c []) ≡ eqb (indexBy sameName x l) c
+same-index : (l : List Name) (x : Name) (c : ℕ) → Distinct sameName l → indexBy sameName x l < length l → c < length l
+    → sameName x (getD l c []) ≡ eqb (indexBy sameName x l) c
 same-index l x c d h k =
     same-test (sameName x (getD l c [])) (eqb (indexBy sameName x l) c)
     (λ e. eq-eqb _ c (ap (λ (y : Name). indexBy sameName y l) (name-exact .to x (getD l c []) e) ∙ index-at sameName name-exact [] l d c k))
@@ -146,11 +161,14 @@ module _ (t nameAt nameLen at len signal : List ℕ) (l : Counts) (F : FormedAs 
       go true b = and-false b
       go false b = refl
 
-  module _ {category pathAt pathLen : List ℕ} (X : Indexed t ns at len (l .urns) category pathAt pathLen) {a : Bool} (e : a ≡ noTwo sameName ns) (x : a ≡ true) where
-    used-as : all (λ x. any (uses x) (F .read .signals)) ns ≡ all (λ c. any (λ y. eqb y c) (tabulate (λ j. getD category j 0) (l .urns))) (tabulate (λ c. c) (l .categories))
+  module _ {category pathAt pathLen : List ℕ} (X : Indexed t ns at len (l .urns) category pathAt pathLen) {a : Bool}
+      (e : a ≡ noTwo sameName ns) (x : a ≡ true) where
+    used-as : all (λ x. any (uses x) (F .read .signals)) ns ≡ all (λ c. any (λ y. eqb y c) (tabulate (λ j. getD category j 0) (l .urns)))
+        (tabulate (λ c. c) (l .categories))
     unfolding uses
     used-as =
-        all-alike (λ x. any (uses x) (F .read .signals)) (λ c. any (λ y. eqb y c) (tabulate (λ j. getD category j 0) (l .urns))) (stretch t nameAt nameLen) (λ c. c) (l .categories)
+        all-alike (λ x. any (uses x) (F .read .signals)) (λ c. any (λ y. eqb y c) (tabulate (λ j. getD category j 0) (l .urns)))
+        (stretch t nameAt nameLen) (λ c. c) (l .categories)
         (λ c h. any-joined (λ u. sameName (categoryOf u) (stretch t nameAt nameLen c)) (F .read .signals)
         ∙ ap (any (λ u. sameName (categoryOf u) (stretch t nameAt nameLen c))) (sym flat)
         ∙ any-alike (λ u. sameName (categoryOf u) (stretch t nameAt nameLen c)) (λ y. eqb y c) (stretch t at len) (λ j. getD category j 0) (l .urns)
@@ -188,7 +206,8 @@ module _ (t nameAt nameLen at len signal : List ℕ) (l : Counts) (F : FormedAs 
         urns-as =
             tabulate-same (urnOf signal category (λ i. fields 58 (stretch t pathAt pathLen i))) (λ i. onWhat (toUrn ns) (urnAt t signal at len i)) (l .urns)
             (λ i h. ap (tag (getD signal i 0)) (ap₂ urn (X .cat-at i h) (ap (fields 58) (X .path-at i h))))
-            ∙ sym (map-tab (onWhat (toUrn ns)) (urnAt t signal at len) (l .urns)) ∙ ap (map (onWhat (toUrn ns))) (F .read .urns) ∙ sym (tagged-map (toUrn ns) 0 (F .read .signals))
+            ∙ sym (map-tab (onWhat (toUrn ns)) (urnAt t signal at len) (l .urns)) ∙ ap (map (onWhat (toUrn ns))) (F .read .urns)
+            ∙ sym (tagged-map (toUrn ns) 0 (F .read .signals))
 
         pub listed-as : ListedAs t nameAt nameLen signal category pathAt pathLen l
         listed-as =
@@ -196,7 +215,7 @@ module _ (t nameAt nameLen at len signal : List ℕ) (l : Counts) (F : FormedAs 
               names = names-read t st (F .read .next) (F .read .whole);
               cats = cats;
               listing = record {
-                signals = ap (λ (T : Table). length (T .signals)) table ∙ map-length (map (toUrn ns)) (F .read .signals) ∙ F .read .all-signals;
+                signals = ap (λ (T : Table). length (T .signals)) table ∙ length-map (F .read .signals) (map (toUrn ns)) ∙ F .read .all-signals;
                 urns = urns-as ∙ ap (λ (T : Table). taggedFrom 0 (T .signals)) (sym table);
                 known = λ i h. omega (arith, X .cat-below i h, tabulate-length (stretch t nameAt nameLen) (l .categories), cats);
                 few-categories = omega (arith, F .read .few-categories, cats);
@@ -207,3 +226,17 @@ module _ (t nameAt nameLen at len signal : List ℕ) (l : Counts) (F : FormedAs 
               past-at = F .read .past-at;
               past-len = F .read .past-len;
             }
+
+-- there are as many names as categories
+pub names-count : (t : List ℕ) → length (categoryNames t) ≡ tableOf t .cats
+unfolding categoryNames namesRead tableOf tableRead
+names-count t = go (stored t)
+  where
+    go : (r : Read Stored) → length (namesRead r) ≡ tableRead r .cats
+    go (fault k) = refl
+    go (got s p) = refl
+
+-- the table of bytes is the table of what they say
+pub table-said : (t : List ℕ) (s : Stored) (p : ℕ) → stored t ≡ got s p → tableOf t ≡ tableIn s
+unfolding tableOf tableRead
+table-said t s p e = ap tableRead e

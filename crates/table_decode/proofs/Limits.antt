@@ -7,19 +7,21 @@ use native.Mathlib.Omega.{arith}
 use lib.Dec.{ltb}
 use lib.ListN.{length, getD}
 use borrow.Author.Tests.{ltb-false}
+use Rattle.base_lists.proofs.Tests.{all-mem}
+use Rattle.base_lists.proofs.Bools.{byTest}
+use Rattle.base_lists.specs.Cuts.{past, upTo}
 use Rattle.theory_resolution.specs.Names.{Name, Parts}
 use Rattle.theory_resolution.specs.Table.{Urn}
 use Rattle.theory_resolution.specs.Nodes.{nodes}
-use Rattle.base_text.specs.Text.{fields, onFirst, past, upTo, afterColons, textOf}
+use Rattle.base_text.specs.Text.{fields, onFirst, afterColons, textOf}
 use Rattle.urn_names.specs.Names.{nameOk}
-use Rattle.base_text.proofs.Fields.{byTest}
 use Rattle.urn_names.proofs.Labels.{label-length, name-labels}
 use Rattle.table_sections.specs.Stored.{andThen, byteIn, counted, stored, storedFrom, text, times}
 use Rattle.table_sections.proofs.FaultLaws.{Few, stored-lengths}
 use Rattle.table_decode.specs.Tables.{categoryNames, judgedRead, namesRead, tableOf, tableRead, tableRefusal}
 use Rattle.table_decode.specs.Limits.{Limits, PathOf, signalsRead, StoredSignal, NameOf, UrnOf, LabelOf}
 use Rattle.table_decode.specs.Examples.{least, fullest, label, name, longUrns, longest}
-use Rattle.table_decode.proofs.Accepting.{accepted, all-mem, fields-parts, judged-zero, refusal-zero, formed-urn}
+use Rattle.table_decode.proofs.Accepting.{accepted, fields-parts, judged-zero, refusal-zero, formed-urn}
 use Rattle.table_decode.proofs.Examples.{least-formed, fullest-formed, longest-formed, over-refused}
 
 -- a silent signal and one with a URN are two
@@ -98,7 +100,8 @@ module _ (t : List ℕ) (e : tableRefusal t ≡ 0) where
       → (l : List ℕ) → List·Memᴰ l (fields 64 x) → length l ≤ 27
   stored-label sig m u k x f l g =
       let a = refusal-zero t e in
-      let o = formed-urn t (a .0) (a .1) (a .2) (judged-zero (a .0) (a .3)) sig (subst (λ (r : List (List (List ℕ))). List·Memᴰ sig r) (ap signalsRead (a .2)) m) u k in
+      let o = formed-urn t (a .0) (a .1) (a .2) (judged-zero (a .0) (a .3)) sig (subst (λ (r : List (List (List ℕ))). List·Memᴰ sig r)
+      (ap signalsRead (a .2)) m) u k in
       label-length l (name-labels x (all-mem nameOk (fields 58 u) x (fields-parts u o .2) f) l g) .1
 
 -- the number at place i of two equal lists

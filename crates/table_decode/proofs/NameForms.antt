@@ -2,16 +2,21 @@
 use Prim.Native.Nat.{ℕ, suc, _-_, _≤_}
 use mathlib.Core.Path.{_≡_, refl, ap, ap₂, sym, _∙_, subst}
 use mathlib.Core.Logic.{_⊎_, inl, inr}
-use mathlib.Core.Bool.{Bool, true, false, cond, not, _&&_, and-false, and-eq-true-iff, false≢true}
+use mathlib.Core.Bool.{true, false, cond, not, _&&_, and-false, and-eq-true-iff, false≢true}
 use mathlib.Core.List.{List, [], _∷_, _++_, append-nil, List·Memᴰ, List·Memᴰ·head, List·Memᴰ·tail, List·Memᴰ·cases-cons, List·Memᴰ·append-cases}
 use native.Mathlib.Omega.{arith}
 use lib.ListN.{length, getD, take, length-append}
 use lib.Seq.{take-suc, take-length, getD-at}
 use lib.Dec.{leb, eqb}
-use borrow.Author.Tests.{le-leb, lt-leb, leb-true, eq-eqb, ne-eqb, eqb-true, eqb-false}
-use Rattle.base_ascii.specs.Ascii.{within}
-use Rattle.base_text.specs.Text.{all, upTo, past, onFirst, fields, afterColons, textOf}
-use Rattle.base_text.proofs.Fields.{byTest, fields-first, fields-join, text-fields}
+use borrow.Author.Tests.{le-leb, lt-leb, leb-true, eq-eqb, ne-eqb, eqb-true, eqb-false, not-true}
+use Rattle.base_numbers.specs.Numbers.{mostLabelBytes}
+use Rattle.base_lists.proofs.Tests.{all-mem, all-by, all-split, all-both}
+use Rattle.base_lists.proofs.Bools.{byTest}
+use Rattle.base_lists.specs.Cuts.{upTo, past}
+use Rattle.base_lists.specs.Tests.{all}
+use Rattle.base_lists.specs.Numbers.{within}
+use Rattle.base_text.specs.Text.{onFirst, fields, afterColons, textOf}
+use Rattle.base_text.proofs.Fields.{fields-first, fields-join, text-fields}
 use Rattle.urn_names.specs.Names.{labelByte, labelOk, nameOk}
 use Rattle.urn_names.specs.Urn.{notCapital, noCapital, storedName, urnOk, namesBy}
 use Rattle.urn_names.proofs.Capitals.{urn-names}
@@ -19,7 +24,6 @@ use Rattle.theory_resolution.specs.Names.{Name, Parts}
 use Rattle.table_decode.specs.Bytes.{Every, FitsByte}
 use Rattle.table_decode.specs.Forms.{LabelByte, Label, NameForm, UrnForm}
 use Rattle.table_decode.proofs.Writing.{every-cons}
-use Rattle.table_decode.proofs.Accepting.{all-mem, all-of}
 
 in-range : (lo hi b : ℕ) → within lo hi b ≡ true → FitsByte lo hi b
 in-range lo hi b e = let a = and-eq-true-iff (leb lo b) (leb b hi) .0 e in (leb-true lo b (a .0), leb-true b hi (a .1))
@@ -27,17 +31,13 @@ in-range lo hi b e = let a = and-eq-true-iff (leb lo b) (leb b hi) .0 e in (leb-
 to-range : (lo hi b : ℕ) → FitsByte lo hi b → within lo hi b ≡ true
 to-range lo hi b f = ap₂ _&&_ (le-leb lo b (f .0)) (le-leb b hi (f .1))
 
-not-to : (b : Bool) → not b ≡ true → b ≡ false
-not-to true e = absurd (false≢true e)
-not-to false e = refl
-
 -- a byte
 byte-to : (b : ℕ) → notCapital b ≡ true → labelByte b ≡ true → LabelByte b
 unfolding labelByte
 byte-to b n e =
     byTest (within 97 122 b) (λ w. inl (in-range 97 122 b w))
     (λ w. byTest (within 48 57 b) (λ d. inr (inl (in-range 48 57 b d)))
-    (λ d. inr (inr (eqb-true b 45 (rw (w, not-to (within 65 90 b) n, d) at e)))))
+    (λ d. inr (inr (eqb-true b 45 (rw (w, not-true (within 65 90 b) n, d) at e)))))
 
 byte-of : (b : ℕ) → LabelByte b → labelByte b ≡ true
 unfolding labelByte
@@ -72,47 +72,35 @@ last-not s l h e =
 label-to : (s : List ℕ) → noCapital s ≡ true → labelOk s ≡ true → Label s
 unfolding noCapital labelOk
 label-to s n e =
-    let a = and-eq-true-iff (within 1 27 (length s)) (not (eqb (getD s 0 0) 45) && (not (eqb (getD s (length s - 1) 0) 45) && all labelByte s)) .0 e in
+    let a = and-eq-true-iff (within 1 mostLabelBytes (length s)) (not (eqb (getD s 0 0) 45)
+    && (not (eqb (getD s (length s - 1) 0) 45) && all labelByte s)) .0 e in
     let b = and-eq-true-iff (not (eqb (getD s 0 0) 45)) (not (eqb (getD s (length s - 1) 0) 45) && all labelByte s) .0 (a .1) in
     let c = and-eq-true-iff (not (eqb (getD s (length s - 1) 0) 45)) (all labelByte s) .0 (b .1) in
-    let l = in-range 1 27 (length s) (a .0) in
+    let l = in-range 1 mostLabelBytes (length s) (a .0) in
     record {
       some = l .0;
       few = l .1;
       letters = λ x m. byte-to x (all-mem notCapital s x n m) (all-mem labelByte s x (c .1) m);
-      first = λ r z. eqb-false (getD s 0 0) 45 (not-to (eqb (getD s 0 0) 45) (b .0)) (ap (λ (x : List ℕ). getD x 0 0) z);
-      last = λ r z. eqb-false (getD s (length s - 1) 0) 45 (not-to (eqb (getD s (length s - 1) 0) 45) (c .0))
+      first = λ r z. eqb-false (getD s 0 0) 45 (not-true (eqb (getD s 0 0) 45) (b .0)) (ap (λ (x : List ℕ). getD x 0 0) z);
+      last = λ r z. eqb-false (getD s (length s - 1) 0) 45 (not-true (eqb (getD s (length s - 1) 0) 45) (c .0))
           (ap (λ (x : List ℕ). getD x (length s - 1) 0) z ∙ getD-at r 45 [] 0 (length s - 1) (omega (arith, ap length z, length-append r (45 ∷ []))));
     }
 
 label-of : (s : List ℕ) → Label s → labelOk s ≡ true
 unfolding labelOk
 label-of s l =
-    ap₂ _&&_ (to-range 1 27 (length s) (l .some, l .few))
+    ap₂ _&&_ (to-range 1 mostLabelBytes (length s) (l .some, l .few))
     (ap₂ _&&_ (ap not (ne-eqb (getD s 0 0) 45 (first-not s (l .first))))
-    (ap₂ _&&_ (ap not (ne-eqb (getD s (length s - 1) 0) 45 (last-not s (l .some) (l .last)))) (all-of labelByte s (λ x m. byte-of x (l .letters x m)))))
+    (ap₂ _&&_ (ap not (ne-eqb (getD s (length s - 1) 0) 45 (last-not s (l .some) (l .last)))) (all-by labelByte s (λ x m. byte-of x (l .letters x m)))))
 
 label-small : (s : List ℕ) → Label s → noCapital s ≡ true
 unfolding noCapital
-label-small s l = all-of notCapital s (λ x m. byte-small x (l .letters x m))
+label-small s l = all-by notCapital s (λ x m. byte-small x (l .letters x m))
 
 label-some : (s : List ℕ) → labelOk s ≡ true → 1 ≤ length s
 unfolding labelOk
-label-some s e = in-range 1 27 (length s) (and-eq-true-iff (within 1 27 (length s)) (not (eqb (getD s 0 0) 45) && (not (eqb (getD s (length s - 1) 0) 45) && all labelByte s)) .0 e .0) .0
-
--- two texts, one after the other
-all-split : {A : Type 0} (p : A → Bool) (a b : List A) → all p (a ++ b) ≡ true → (all p a ≡ true) × (all p b ≡ true)
-unfolding all
-all-split p [] b e = (refl, e)
-all-split p (x ∷ a) b e =
-    let c = and-eq-true-iff (p x) (all p (a ++ b)) .0 e in
-    let d = all-split p a b (c .1) in
-    (ap₂ _&&_ (c .0) (d .0), d .1)
-
-all-both : {A : Type 0} (p : A → Bool) (a b : List A) → all p a ≡ true → all p b ≡ true → all p (a ++ b) ≡ true
-unfolding all
-all-both p [] b e f = f
-all-both p (x ∷ a) b e f = let c = and-eq-true-iff (p x) (all p a) .0 e in ap₂ _&&_ (c .0) (all-both p a b (c .1) f)
+label-some s e = in-range 1 mostLabelBytes (length s) (and-eq-true-iff (within 1 mostLabelBytes (length s)) (not (eqb (getD s 0 0) 45)
+    && (not (eqb (getD s (length s - 1) 0) 45) && all labelByte s)) .0 e .0) .0
 
 parted : (c : ℕ) (s : List ℕ) → 1 ≤ length (past c s) → s ≡ upTo c s ++ c ∷ past c s
 unfolding upTo past
@@ -194,7 +182,8 @@ urn-to u e =
     byTest (all storedName (fields 58 u))
     (λ h.
     let l = in-range 2 9 (length (fields 58 u)) (rw h at w) in
-    let o : (x : Name) → List·Memᴰ x (upTo 58 u ∷ f .0) → NameForm x = λ x m. name-to x (all-mem storedName (fields 58 u) x h (subst (λ (z : List Name). List·Memᴰ x z) (sym (f .1)) m)) in
+    let o : (x : Name) → List·Memᴰ x (upTo 58 u ∷ f .0) → NameForm x =
+    λ x m. name-to x (all-mem storedName (fields 58 u) x h (subst (λ (z : List Name). List·Memᴰ x z) (sym (f .1)) m)) in
     record {
       category = upTo 58 u;
       parts = f .0;
@@ -209,6 +198,7 @@ pub urn-of : (u : List ℕ) → UrnForm u → urnOk u ≡ true
 unfolding namesBy
 urn-of u f =
     let e : fields 58 u ≡ f .category ∷ f .parts = ap (fields 58) (f .joined) ∙ fields-names (f .category) (f .parts) (f .category-name) (f .part-names) in
-    let a : all storedName (fields 58 u) ≡ true = ap (all storedName) e ∙ all-of storedName (f .category ∷ f .parts) (λ x m. name-of x (every-cons NameForm (f .category) (f .parts) (f .category-name) (f .part-names) x m)) in
+    let a : all storedName (fields 58 u) ≡ true = ap (all storedName) e ∙ all-by storedName (f .category ∷ f .parts)
+    (λ x m. name-of x (every-cons NameForm (f .category) (f .parts) (f .category-name) (f .part-names) x m)) in
     sym (urn-names u refl) ∙ ap (λ b. within 2 9 (cond b (length (fields 58 u)) 0)) a
     ∙ to-range 2 9 (length (fields 58 u)) (omega (arith, ap length e, f .few .0), omega (arith, ap length e, f .few .1))

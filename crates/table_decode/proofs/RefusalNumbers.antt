@@ -6,7 +6,8 @@ use mathlib.Core.Bool.{Bool, true, false, cond}
 use native.Mathlib.Omega.{arith}
 use Rattle.table_sections.specs.Stored.{Read, fault, got, Stored, sections}
 use Rattle.table_sections.proofs.FaultLaws.{fault-sections}
-use Rattle.table_decode.specs.Tables.{formed, listed, tableIn, single, zeroSilent, distinct, fewNodes, verdict, judged, judgedRead, tableRefusal, RefusalNumber, RefusalNumbers}
+use Rattle.table_decode.specs.Tables.{formed, listed, tableIn, single, zeroSilent, distinct, fewNodes, verdict, judged, judgedRead}
+use Rattle.table_decode.specs.Tables.{tableRefusal, RefusalNumber, RefusalNumbers}
 
 unless : (b : Bool) (x y : ℕ) → RefusalNumber x → RefusalNumber y → RefusalNumber (cond b x y)
 unless true x y p q = p

@@ -1,5 +1,5 @@
 -- Laws of writing: what is written is read again, and what was read is what stands there.
-use Prim.Native.Nat.{ℕ, zero, suc, _+_, _-_, _≤_, _<_}
+use Prim.Native.Nat.{ℕ, zero, suc, _+_, _-_, _≤_}
 use mathlib.Core.Path.{_≡_, refl, ap, ap₂, sym, _∙_}
 use mathlib.Core.Bool.{cond}
 use mathlib.Core.List.{List, [], _∷_, _++_, append-assoc, append-nil, List·Memᴰ, List·Memᴰ·head, List·Memᴰ·tail, List·Memᴰ·cases-cons, List·Memᴰ·not-nil}
@@ -8,14 +8,18 @@ use native.Mathlib.Nat.{add-zero}
 use native.Mathlib.Numerals.{add-one}
 use native.Mathlib.Omega.{arith}
 use lib.ListN.{length, getD, take, drop, length-append, length-drop, take-append-drop, drop-of-length-le}
-use lib.Seq.{drop-cons, drop-drop, drop-append-seam, take-append-seam, length-take-le}
+use lib.Seq.{drop-cons, drop-drop, take-append-seam, length-take-le}
 use lib.Dec.{leb, ltb}
 use borrow.Author.Tests.{le-ltb, leb-true, ltb-false}
-use Rattle.base_ascii.specs.Ascii.{within}
-use Rattle.base_text.proofs.Fields.{byTest}
+use Rattle.base_numbers.specs.Numbers.{mostNameBytes, mostSignals, mostUrnBytes}
+use Rattle.base_lists.proofs.Cuts.{drop-next, drop-inside, drop-here}
+use Rattle.base_lists.specs.Lists.{each}
+use Rattle.base_lists.proofs.Bools.{byTest}
+use Rattle.base_lists.specs.Numbers.{within}
 use Rattle.table_sections.specs.Stored.{Read, fault, got, andThen, byteIn, text, times, counted, Stored, storedFrom, stored}
 use Rattle.table_sections.proofs.Readings.{byte-good, byte-read, text-good, after-got}
-use Rattle.table_decode.specs.Bytes.{each, section, textBytes, numberBytes, storedBytes, Every, FitsByte, FitsText, FitsMany, FitsNames, FitsSignals, FitsStored}
+use Rattle.table_decode.specs.Bytes.{section, textBytes, numberBytes, storedBytes, Every, FitsByte, FitsText, FitsMany, FitsNames, FitsSignals}
+use Rattle.table_decode.specs.Bytes.{FitsStored}
 
 pub every-cons : {A : Type 0} (P : A → Type 0) (x : A) (xs : List A) → P x → Every P xs → Every P (x ∷ xs)
 every-cons P x xs p ps y m = go (List·Memᴰ·cases-cons m)
@@ -28,16 +32,6 @@ every-cons P x xs p ps y m = go (List·Memᴰ·cases-cons m)
 pub record Coded {A : Type 0} (t : List ℕ) (rd : ℕ → Read A) (w : A → List ℕ) (Fits : A → Type 0) : Type 0 where
   pub reads : (at : ℕ) (x : A) (r : List ℕ) → Fits x → drop at t ≡ w x ++ r → rd at ≡ got x (at + length (w x))
   pub back : (at : ℕ) (x : A) (q : ℕ) → rd at ≡ got x q → Fits x × (drop at t ≡ w x ++ drop q t) × (q ≡ at + length (w x))
-
--- after what stands at a position
-pub next : (t : List ℕ) (at : ℕ) (x r : List ℕ) → drop at t ≡ x ++ r → drop (at + length x) t ≡ r
-next t at x r e = sym (drop-drop (length x) at t) ∙ ap (drop (length x)) e ∙ drop-append-seam x r
-
-pub inside : (t : List ℕ) (at b : ℕ) (r : List ℕ) → drop at t ≡ b ∷ r → at < length t
-inside t at b r e = omega (arith, length-drop at t, ap length e)
-
-pub here : (t : List ℕ) (at b : ℕ) (r : List ℕ) → drop at t ≡ b ∷ r → b ≡ getD t at 0
-here t at b r e = let k = drop-cons t at 0 (inside t at b r e) in cc
 
 pub got-value : {A : Type 0} (x y : A) (p q : ℕ) → got x p ≡ got y q → x ≡ y
 got-value x y p q e = cc
@@ -58,7 +52,7 @@ byte-was lo hi t at n p e =
 pub byte-coded : (lo hi : ℕ) (t : List ℕ) → Coded t (byteIn lo hi t) numberBytes (FitsByte lo hi)
 byte-coded lo hi t =
     record {
-      reads = λ at b r f e. sym (byte-good lo hi t at b (inside t at b r e) (here t at b r e) (f .0) (f .1));
+      reads = λ at b r f e. sym (byte-good lo hi t at b (drop-inside t at b r e) (drop-here t at b r e) (f .0) (f .1));
       back = λ at b q e.
           let k = byte-read lo hi t at b q e in
           ((k .low, k .high), drop-cons t at 0 (k .here) ∙ ap₂ (λ x n. x ∷ drop n t) (byte-was lo hi t at b q e) (sym (add-one at) ∙ sym (k .next)), k .next);
@@ -68,7 +62,7 @@ module _ (hi : ℕ) (t : List ℕ) where
   text-reads : (at : ℕ) (x r : List ℕ) → FitsText hi x → drop at t ≡ textBytes x ++ r → text hi t at ≡ got x (at + length (textBytes x))
   text-reads at x r f e =
       let b = byte-coded 1 hi t .reads at (length x) (x ++ r) f e in
-      let d : drop (at + 1) t ≡ x ++ r = next t at (length x ∷ []) (x ++ r) e in
+      let d : drop (at + 1) t ≡ x ++ r = drop-next t at (length x ∷ []) (x ++ r) e in
       let h : length x ≤ length t - (at + 1) = omega (arith, length-drop (at + 1) t, ap length d, length-append x r) in
       let g = text-good hi t at (length x) (at + 1) b h in
       let k : at + 1 + length x - length x ≡ at + 1 = omega arith in
@@ -107,11 +101,12 @@ module _ {A : Type 0} (t : List ℕ) (rd : ℕ → Read A) (w : A → List ℕ) 
   times-reads at (x ∷ xs) r f e =
       let h : drop at t ≡ w x ++ (each w xs ++ r) = e ∙ append-assoc (w x) (each w xs) r in
       let a = code .reads at x (each w xs ++ r) (f x (List·Memᴰ·head refl)) h in
-      let b = times-reads (at + length (w x)) xs r (λ y m. f y (List·Memᴰ·tail m)) (next t at (w x) (each w xs ++ r) h) in
+      let b = times-reads (at + length (w x)) xs r (λ y m. f y (List·Memᴰ·tail m)) (drop-next t at (w x) (each w xs ++ r) h) in
       let n : at + length (w x) + length (each w xs) ≡ at + length (w x ++ each w xs) = omega (arith, length-append (w x) (each w xs)) in
       rw (a, b) (ap (got (x ∷ xs)) n)
 
-  times-back : (n at : ℕ) (xs : List A) (q : ℕ) → times rd n at ≡ got xs q → (length xs ≡ n) × Every Fits xs × (drop at t ≡ each w xs ++ drop q t) × (q ≡ at + length (each w xs))
+  times-back : (n at : ℕ) (xs : List A) (q : ℕ) → times rd n at ≡ got xs q → (length xs ≡ n) × Every Fits xs
+      × (drop at t ≡ each w xs ++ drop q t) × (q ≡ at + length (each w xs))
   unfolding times each
   times-back zero at xs q e =
       let v : [] ≡ xs = got-value [] xs at q e in
@@ -136,16 +131,18 @@ module _ {A : Type 0} (t : List ℕ) (rd : ℕ → Read A) (w : A → List ℕ) 
           )
 
 module _ {A : Type 0} (lo hi : ℕ) (t : List ℕ) (rd : ℕ → Read A) (w : A → List ℕ) (Fits : A → Type 0) (code : Coded t rd w Fits) where
-  counted-reads : (at : ℕ) (xs : List A) (r : List ℕ) → FitsMany lo hi Fits xs → drop at t ≡ section w xs ++ r → counted lo hi rd t at ≡ got xs (at + length (section w xs))
+  counted-reads : (at : ℕ) (xs : List A) (r : List ℕ) → FitsMany lo hi Fits xs → drop at t ≡ section w xs ++ r → counted lo hi rd t at
+      ≡ got xs (at + length (section w xs))
   unfolding counted andThen
   counted-reads at xs r f e =
       let b = byte-coded lo hi t .reads at (length xs) (each w xs ++ r) (f .0) e in
-      let d : drop (at + 1) t ≡ each w xs ++ r = next t at (length xs ∷ []) (each w xs ++ r) e in
+      let d : drop (at + 1) t ≡ each w xs ++ r = drop-next t at (length xs ∷ []) (each w xs ++ r) e in
       let k = times-reads t rd w Fits code (at + 1) xs r (f .1) d in
       let n : at + 1 + length (each w xs) ≡ at + length (section w xs) = omega arith in
       rw b (k ∙ ap (got xs) n)
 
-  counted-back : (at : ℕ) (xs : List A) (q : ℕ) → counted lo hi rd t at ≡ got xs q → FitsMany lo hi Fits xs × (drop at t ≡ section w xs ++ drop q t) × (q ≡ at + length (section w xs))
+  counted-back : (at : ℕ) (xs : List A) (q : ℕ) → counted lo hi rd t at ≡ got xs q → FitsMany lo hi Fits xs
+      × (drop at t ≡ section w xs ++ drop q t) × (q ≡ at + length (section w xs))
   unfolding counted
   counted-back at xs q e =
       let a = after-got (byteIn lo hi t at) (λ n p. times rd n p) xs q e in
@@ -160,12 +157,13 @@ module _ {A : Type 0} (lo hi : ℕ) (t : List ℕ) (rd : ℕ → Read A) (w : A 
   counted-coded = record { reads = counted-reads; back = counted-back }
 
 module _ (t : List ℕ) where
-  pub names-coded : Coded t (counted 1 8 (text 55 t) t) (section textBytes) FitsNames
-  names-coded = counted-coded 1 8 t (text 55 t) textBytes (FitsText 55) (text-coded 55 t)
+  pub names-coded : Coded t (counted 1 8 (text mostNameBytes t) t) (section textBytes) FitsNames
+  names-coded = counted-coded 1 8 t (text mostNameBytes t) textBytes (FitsText mostNameBytes) (text-coded mostNameBytes t)
 
-  pub urns-coded : Coded t (counted 1 32 (counted 0 8 (text 255 t) t) t) (section (section textBytes)) FitsSignals
+  pub urns-coded : Coded t (counted 1 mostSignals (counted 0 8 (text mostUrnBytes t) t) t) (section (section textBytes)) FitsSignals
   urns-coded =
-      counted-coded 1 32 t (counted 0 8 (text 255 t) t) (section textBytes) (FitsMany 0 8 (FitsText 255)) (counted-coded 0 8 t (text 255 t) textBytes (FitsText 255) (text-coded 255 t))
+      counted-coded 1 mostSignals t (counted 0 8 (text mostUrnBytes t) t) (section textBytes) (FitsMany 0 8 (FitsText mostUrnBytes))
+      (counted-coded 0 8 t (text mostUrnBytes t) textBytes (FitsText mostUrnBytes) (text-coded 255 t))
 
 -- nothing after the end
 pub at-end : {A : Type 0} (t : List ℕ) (p : ℕ) (x : A) → drop p t ≡ [] → cond (ltb p (length t)) (fault 5) (got x p) ≡ got x p
@@ -185,17 +183,24 @@ stored-reads s f =
     let t : List ℕ = section textBytes (s .names) ++ section (section textBytes) (s .signals) in
     let p : ℕ = 0 + length (section textBytes (s .names)) in
     let a = names-coded t .reads 0 (s .names) (section (section textBytes) (s .signals)) (f .names) refl in
-    let d : drop p t ≡ section (section textBytes) (s .signals) ++ [] = next t 0 (section textBytes (s .names)) (section (section textBytes) (s .signals)) refl ∙ sym (append-nil (section (section textBytes) (s .signals))) in
+    let d : drop p t ≡ section (section textBytes) (s .signals) ++ [] =
+    drop-next t 0 (section textBytes (s .names)) (section (section textBytes) (s .signals)) refl
+    ∙ sym (append-nil (section (section textBytes) (s .signals))) in
     let b = urns-coded t .reads p (s .signals) [] (f .signals) d in
     let q : ℕ = p + length (section (section textBytes) (s .signals)) in
-    (q, rw (a, b) (at-end t q s (next t p (section (section textBytes) (s .signals)) [] d)))
+    (q, rw (a, b) (at-end t q s (drop-next t p (section (section textBytes) (s .signals)) [] d)))
 
 pub stored-back : (t : List ℕ) (s : Stored) (q : ℕ) → stored t ≡ got s q → FitsStored s × (storedBytes s ≡ t)
 unfolding stored storedFrom storedBytes
 stored-back t s q e =
-    let a = after-got (counted 1 8 (text 55 t) t 0) (λ ns at. storedFrom t ns at) s q e in
-    let b = after-got (counted 1 32 (counted 0 8 (text 255 t) t) t (a .1)) (λ ss p. cond (ltb p (length t)) (fault 5) (got (record { names = a .0; signals = ss }) p)) s q (a .3) in
+    let a = after-got (counted 1 8 (text mostNameBytes t) t 0) (λ ns at. storedFrom t ns at) s q e in
+    let b = after-got (counted 1 mostSignals (counted 0 8 (text mostUrnBytes t) t) t (a .1))
+    (λ ss p. cond (ltb p (length t)) (fault 5) (got (record { names = a .0; signals = ss }) p)) s q (a .3) in
     let c = ended t (b .1) q (record { names = a .0; signals = b .0 }) s (b .3) in
     let m = names-coded t .back 0 (a .0) (a .1) (a .2) in
     let n = urns-coded t .back (a .1) (b .0) (b .1) (b .2) in
-    rw (← c .0) (record { names = m .0; signals = n .0 }, sym (m .1 ∙ ap (λ z. section textBytes (a .0) ++ z) (n .1 ∙ ap (λ z. section (section textBytes) (b .0) ++ z) (c .2) ∙ append-nil (section (section textBytes) (b .0)))))
+    rw (← c .0) (
+      record { names = m .0; signals = n .0 },
+      sym (m .1 ∙ ap (λ z. section textBytes (a .0) ++ z) (n .1 ∙ ap (λ z. section (section textBytes) (b .0) ++ z) (c .2)
+          ∙ append-nil (section (section textBytes) (b .0)))),
+    )

@@ -2,12 +2,9 @@
 use Prim.Native.Nat.{ℕ, _≤_}
 use mathlib.Core.List.{List, [], _∷_, _++_, List·Memᴰ}
 use lib.ListN.{length}
+use Rattle.base_numbers.specs.Numbers.{mostCategories, mostNameBytes, mostSignals, mostUrnBytes, mostUrns}
+use Rattle.base_lists.specs.Lists.{each}
 use Rattle.table_sections.specs.Stored.{Stored}
-
--- the bytes of things, one after the other
-unfoldable pub each : {A : Type 0} → (A → List ℕ) → List A → List ℕ
-each w [] = []
-each w (x ∷ xs) = w x ++ each w xs
 
 -- the same after their count
 abbrev pub section : {A : Type 0} → (A → List ℕ) → List A → List ℕ
@@ -43,11 +40,11 @@ FitsMany lo hi Fits xs = FitsByte lo hi (length xs) × Every Fits xs
 
 -- 1 to 8 names of 1 to 55 bytes
 abbrev pub FitsNames : List (List ℕ) → Type 0
-FitsNames = FitsMany 1 8 (FitsText 55)
+FitsNames = FitsMany 1 mostCategories (FitsText mostNameBytes)
 
 -- 1 to 32 signals, each of up to 8 URNs of 1 to 255 bytes
 abbrev pub FitsSignals : List (List (List ℕ)) → Type 0
-FitsSignals = FitsMany 1 32 (FitsMany 0 8 (FitsText 255))
+FitsSignals = FitsMany 1 mostSignals (FitsMany 0 mostUrns (FitsText mostUrnBytes))
 
 -- what a stored table can hold
 pub record FitsStored (s : Stored) : Type 0 where

@@ -5,13 +5,15 @@ use mathlib.Core.Path.{_≡_}
 use mathlib.Core.Logic.{_↔_}
 use mathlib.Core.List.{List, [], _∷_, _++_, List·Memᴰ}
 use lib.ListN.{length, getD}
+use Rattle.base_numbers.specs.Numbers.{mostCategories, mostNameBytes, mostNodes, mostSignals, mostTableBytes, mostUrnBytes, mostUrns}
+use Rattle.base_lists.specs.Lists.{each}
 use Rattle.theory_resolution.specs.Names.{Name}
 use Rattle.theory_resolution.specs.Table.{Urn, urn, Table, rowOf}
 use Rattle.theory_resolution.specs.Nodes.{nodes}
 use Rattle.urn_names.specs.Urn.{categoryOf}
 use Rattle.table_sections.specs.Stored.{Stored}
 use Rattle.table_decode.specs.Tables.{tableIn, tableRefusal}
-use Rattle.table_decode.specs.Bytes.{each, section, textBytes, storedBytes, Every, FitsByte, FitsText, FitsMany, FitsNames, FitsStored}
+use Rattle.table_decode.specs.Bytes.{section, textBytes, storedBytes, Every, FitsByte, FitsText, FitsMany, FitsNames, FitsStored}
 use Rattle.table_decode.specs.Forms.{NameForm, UrnForm}
 
 -- where a byte from lo to hi is due, the bytes end (5), or another stands there (6)
@@ -31,13 +33,13 @@ pub data ManyStops {A : Type 0} (lo hi : ℕ) (w : A → List ℕ) (Fits : A →
       → ManyStops lo hi w Fits Stops k s
 
 abbrev pub NamesStop : ℕ → List ℕ → Type 0
-NamesStop = ManyStops 1 8 textBytes (FitsText 55) (TextStops 55)
+NamesStop = ManyStops 1 mostCategories textBytes (FitsText mostNameBytes) (TextStops mostNameBytes)
 
 abbrev pub SignalStops : ℕ → List ℕ → Type 0
-SignalStops = ManyStops 0 8 textBytes (FitsText 255) (TextStops 255)
+SignalStops = ManyStops 0 mostUrns textBytes (FitsText mostUrnBytes) (TextStops mostUrnBytes)
 
 abbrev pub SignalsStop : ℕ → List ℕ → Type 0
-SignalsStop = ManyStops 1 32 (section textBytes) (FitsMany 0 8 (FitsText 255)) SignalStops
+SignalsStop = ManyStops 1 mostSignals (section textBytes) (FitsMany 0 mostUrns (FitsText mostUrnBytes)) SignalStops
 
 -- 5 and 6, from the left: the bytes stop at the categories, or at the signals after them; or they go on after a whole table (5)
 pub data TableStops (k : ℕ) (t : List ℕ) : Type 0 where
@@ -70,7 +72,7 @@ AlikePlaces T = (i j : ℕ) × (i < j) × (j < length (T .signals)) × (rowOf T 
 
 -- 12: there are over 64 nodes
 abbrev pub ManyNodes : Table → Type 0
-ManyNodes T = 64 < length (nodes T)
+ManyNodes T = mostNodes < length (nodes T)
 
 -- the bytes are those of a table that holds s, with every count and length in its range
 pub record Holding (t : List ℕ) (s : Stored) : Type 0 where
@@ -79,7 +81,7 @@ pub record Holding (t : List ℕ) (s : Stored) : Type 0 where
 
 -- what the number n says is so of the bytes t
 pub data Due (t : List ℕ) (n : ℕ) : Type 0 where
-  four : n ≡ 4 → 8192 < length t → Due t n
+  four : n ≡ 4 → mostTableBytes < length t → Due t n
   five-six : TableStops n t → Due t n
   seven : n ≡ 7 → (s : Stored) → Holding t s → Misformed s → Due t n
   eight : n ≡ 8 → (s : Stored) → Holding t s → Mislisted s → Due t n

@@ -4,6 +4,7 @@ use mathlib.Core.Path.{_≡_}
 use mathlib.Core.Bool.{false}
 use mathlib.Core.List.{List}
 use lib.ListN.{getD, replicate}
+use Rattle.base_numbers.specs.Numbers.{mostCategories, mostNodes, mostSignals}
 use Rattle.theory_resolution.specs.Table.{Table, WellFormed}
 use Rattle.node_search.specs.Arrays.{NamesIn, NodesIn, SharedIn, InnerIn}
 use Rattle.node_step.specs.Rows.{Numbers}
@@ -19,15 +20,15 @@ refusedTable k =
       categories = 0;
       signals = 0;
       nodes = 0;
-      «name_at» = replicate 8 0;
-      «name_len» = replicate 8 0;
-      category = replicate 64 0;
-      parent = replicate 64 0;
-      at = replicate 64 0;
-      len = replicate 64 0;
-      shared = replicate 64 0;
-      inner = replicate 64 false;
-      rows = replicate 32 0;
+      «name_at» = replicate mostCategories 0;
+      «name_len» = replicate mostCategories 0;
+      category = replicate mostNodes 0;
+      parent = replicate mostNodes 0;
+      at = replicate mostNodes 0;
+      len = replicate mostNodes 0;
+      shared = replicate mostNodes 0;
+      inner = replicate mostNodes false;
+      rows = replicate mostSignals 0;
     }
 
 -- the arrays hold the table T of the bytes t
@@ -42,14 +43,14 @@ pub record Holds (t : List ℕ) (T : Table) (r : Decoded) : Type 0 where
 
 -- past what the counts say, the arrays are 0, and no node is there that has nodes under it
 pub record Past (r : Decoded) : Type 0 where
-  pub name-at : Padded 8 (r .categories) (r .«name_at»)
-  pub name-len : Padded 8 (r .categories) (r .«name_len»)
-  pub category : Padded 64 (r .nodes) (r .category)
-  pub parent : Padded 64 (r .nodes) (r .parent)
-  pub at : Padded 64 (r .nodes) (r .at)
-  pub len : Padded 64 (r .nodes) (r .len)
-  pub inner : (k : ℕ) → r .nodes ≤ k → k < 64 → getD (r .inner) k false ≡ false
-  pub rows : Padded 32 (r .signals) (r .rows)
+  pub name-at : Padded mostCategories (r .categories) (r .«name_at»)
+  pub name-len : Padded mostCategories (r .categories) (r .«name_len»)
+  pub category : Padded mostNodes (r .nodes) (r .category)
+  pub parent : Padded mostNodes (r .nodes) (r .parent)
+  pub at : Padded mostNodes (r .nodes) (r .at)
+  pub len : Padded mostNodes (r .nodes) (r .len)
+  pub inner : (k : ℕ) → r .nodes ≤ k → k < mostNodes → getD (r .inner) k false ≡ false
+  pub rows : Padded mostSignals (r .signals) (r .rows)
 
 -- what `decode` answers
 pub record Means (t : List ℕ) (r : Decoded) : Type 0 where

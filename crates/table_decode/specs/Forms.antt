@@ -4,6 +4,7 @@ use mathlib.Core.Path.{_≡_}
 use mathlib.Core.Logic.{_⊎_}
 use mathlib.Core.List.{List, [], _∷_, _++_}
 use lib.ListN.{length}
+use Rattle.base_numbers.specs.Numbers.{mostLabelBytes, mostUrnParts}
 use Rattle.theory_resolution.specs.Names.{Name, Parts}
 use Rattle.base_text.specs.Text.{afterColons}
 use Rattle.table_decode.specs.Bytes.{Every, FitsByte}
@@ -15,7 +16,7 @@ LabelByte b = FitsByte 97 122 b ⊎ (FitsByte 48 57 b ⊎ (b ≡ 45))
 -- a label: 1 to 27 of them, of which neither the first nor the last is a hyphen
 pub record Label (s : List ℕ) : Type 0 where
   pub some : 1 ≤ length s
-  pub few : length s ≤ 27
+  pub few : length s ≤ mostLabelBytes
   pub letters : Every LabelByte s
   pub first : (r : List ℕ) → s ≡ 45 ∷ r → ⊥
   pub last : (r : List ℕ) → s ≡ r ++ 45 ∷ [] → ⊥
@@ -30,5 +31,5 @@ pub record UrnForm (u : List ℕ) : Type 0 where
   pub parts : Parts
   pub category-name : NameForm category
   pub part-names : Every NameForm parts
-  pub few : FitsByte 1 8 (length parts)
+  pub few : FitsByte 1 mostUrnParts (length parts)
   pub joined : u ≡ category ++ afterColons parts

@@ -5,13 +5,14 @@ use mathlib.Core.Logic.{_⊎_}
 use mathlib.Core.Bool.{Bool, cond, _&&_}
 use mathlib.Core.List.{List, [], map}
 use lib.ListN.{length}
-use Rattle.theory_resolution.specs.Lists.{indexBy}
+use Rattle.base_numbers.specs.Numbers.{tableBadCategory, tableBadForm}
+use Rattle.base_lists.specs.Tests.{all, any, noTwo}
+use Rattle.base_lists.specs.Lists.{indexBy}
 use Rattle.theory_resolution.specs.Names.{Name, sameName}
 use Rattle.theory_resolution.specs.Table.{Urn, urn, Table}
-use Rattle.base_text.specs.Text.{all, fields}
+use Rattle.base_text.specs.Text.{fields}
 use Rattle.urn_names.specs.Urn.{storedName, urnOk, categoryOf, pathOf}
 use Rattle.table_sections.specs.Stored.{Read, fault, got, Stored, stored, sections}
-unfoldable pub use Rattle.table_places.specs.Tests.{any, noTwo}
 unfoldable pub use Rattle.table_places.specs.Verdict.{single, zeroSilent, distinct, fewNodes, verdict}
 unfoldable pub use Rattle.table_names.specs.Categories.{isListed}
 
@@ -39,7 +40,7 @@ tableIn s = record { cats = length (s .names); signals = map (map (toUrn (s .nam
 
 -- the first of 7 to 12 that holds of what is stored, or 0
 unfoldable pub judged : Stored → ℕ
-judged s = cond (formed s) (cond (listed s) (verdict (tableIn s)) 8) 7
+judged s = cond (formed s) (cond (listed s) (verdict (tableIn s)) tableBadCategory) tableBadForm
 
 unfoldable pub judgedRead : Read Stored → ℕ
 judgedRead (fault k) = k

@@ -5,6 +5,12 @@
 //   forms.rt  the form of the URNs: 7
 mod forms;
 
+use base_numbers::MOST_CATEGORIES;
+use base_numbers::MOST_NODES;
+use base_numbers::MOST_SIGNALS;
+use base_numbers::MOST_TABLE_URNS;
+use base_numbers::TABLE_BAD_CATEGORY;
+use base_numbers::TABLE_BAD_FORM;
 use table_sections::Counts;
 ghost use mathlib.Core.Path.{_≡_};
 ghost use Rattle.table_sections.specs.Held.{ReadAs};
@@ -19,15 +25,15 @@ pub struct Decoded {
     pub categories: usize,
     pub signals: usize,
     pub nodes: usize,
-    pub name_at: [u16; 8],
-    pub name_len: [u8; 8],
-    pub category: [u8; 64],
-    pub parent: [u8; 64],
-    pub at: [u16; 64],
-    pub len: [u8; 64],
-    pub shared: [u8; 64],
-    pub inner: [bool; 64],
-    pub rows: [u64; 32],
+    pub name_at: [u16; MOST_CATEGORIES],
+    pub name_len: [u8; MOST_CATEGORIES],
+    pub category: [u8; MOST_NODES],
+    pub parent: [u8; MOST_NODES],
+    pub at: [u16; MOST_NODES],
+    pub len: [u8; MOST_NODES],
+    pub shared: [u8; MOST_NODES],
+    pub inner: [bool; MOST_NODES],
+    pub rows: [u64; MOST_SIGNALS],
 }
 
 // The answer to a refused table.
@@ -39,26 +45,26 @@ fn refused(k: u8) -> Decoded
         categories: 0,
         signals: 0,
         nodes: 0,
-        name_at: [0u16; 8],
-        name_len: [0u8; 8],
-        category: [0u8; 64],
-        parent: [0u8; 64],
-        at: [0u16; 64],
-        len: [0u8; 64],
-        shared: [0u8; 64],
-        inner: [false; 64],
-        rows: [0u64; 32],
+        name_at: [0u16; MOST_CATEGORIES],
+        name_len: [0u8; MOST_CATEGORIES],
+        category: [0u8; MOST_NODES],
+        parent: [0u8; MOST_NODES],
+        at: [0u16; MOST_NODES],
+        len: [0u8; MOST_NODES],
+        shared: [0u8; MOST_NODES],
+        inner: [false; MOST_NODES],
+        rows: [0u64; MOST_SIGNALS],
     }
 }
 
-// The answer to a table with too many nodes.
-fn crowded(
+// The refusal of a table with too many nodes: 9 to 12, by its texts.
+fn refuse_crowded(
     t: &[u8],
     l: Counts,
-    signal: &[u8; 256],
-    category: &[u8; 256],
-    path_at: &[u16; 256],
-    path_len: &[u8; 256],
+    signal: &[u8; MOST_TABLE_URNS],
+    category: &[u8; MOST_TABLE_URNS],
+    path_at: &[u16; MOST_TABLE_URNS],
+    path_len: &[u8; MOST_TABLE_URNS],
 ) -> Decoded
     requires { ⌜ CrowdedAs (now t) (now signal) (now category) (now «path_at») (now «path_len») l ⌝ }
     ensures { λ r. ⌜ Means (now (t .entry)) r ⌝ }
@@ -75,25 +81,25 @@ fn crowded(
     ))
 }
 
-// The nodes and the places, with refusals 9 to 12.
-fn placed(
+// The nodes are numbered and the signals placed, with refusals 9 to 12.
+fn place_signals(
     t: &[u8],
     l: Counts,
-    name_at: &[u16; 8],
-    name_len: &[u8; 8],
-    signal: &[u8; 256],
-    category: &[u8; 256],
-    path_at: &[u16; 256],
-    path_len: &[u8; 256],
+    name_at: &[u16; MOST_CATEGORIES],
+    name_len: &[u8; MOST_CATEGORIES],
+    signal: &[u8; MOST_TABLE_URNS],
+    category: &[u8; MOST_TABLE_URNS],
+    path_at: &[u16; MOST_TABLE_URNS],
+    path_len: &[u8; MOST_TABLE_URNS],
 ) -> Decoded
     requires { ⌜ ListedAs (now t) (now «name_at») (now «name_len») (now signal) (now category) (now «path_at») (now «path_len») l ⌝ }
     ensures { λ r. ⌜ Means (now (t .entry)) r ⌝ }
 {
-    let mut node = [0u8; 256];
-    let mut cats = [0u8; 64];
-    let mut parent = [0u8; 64];
-    let mut at = [0u16; 64];
-    let mut len = [0u8; 64];
+    let mut node = [0u8; MOST_TABLE_URNS];
+    let mut cats = [0u8; MOST_NODES];
+    let mut parent = [0u8; MOST_NODES];
+    let mut at = [0u16; MOST_NODES];
+    let mut len = [0u8; MOST_NODES];
     let n = table_nodes::add_all(
         t,
         l.urns,
@@ -106,10 +112,10 @@ fn placed(
         &mut at,
         &mut len,
     );
-    if 64 < n {
-        return crowded(t, l, signal, category, path_at, path_len);
+    if MOST_NODES < n {
+        return refuse_crowded(t, l, signal, category, path_at, path_len);
     }
-    let mut rows = [0u64; 32];
+    let mut rows = [0u64; MOST_SIGNALS];
     let k = table_places::by_nodes(l.signals, l.urns, signal, category, &node, &mut rows);
     if k == 0 {
         let m = node_search::marks::of_nodes(t, &cats, &parent, &at, &len, n);
@@ -134,20 +140,20 @@ fn placed(
     refused(k)
 }
 
-// Refusal 8.
-fn listed(
+// The names of the categories and of the URNs are compared: refusal 8, then the rest.
+fn judge_names(
     t: &[u8],
     l: Counts,
-    name_at: &[u16; 8],
-    name_len: &[u8; 8],
-    at: &mut [u16; 256],
-    len: &mut [u8; 256],
-    signal: &[u8; 256],
+    name_at: &[u16; MOST_CATEGORIES],
+    name_len: &[u8; MOST_CATEGORIES],
+    at: &mut [u16; MOST_TABLE_URNS],
+    len: &mut [u8; MOST_TABLE_URNS],
+    signal: &[u8; MOST_TABLE_URNS],
 ) -> Decoded
     requires { ⌜ FormedAs (now t) (now «name_at») (now «name_len») (now at) (now len) (now signal) l ⌝ }
     ensures { λ r. ⌜ Means (now (t .entry)) r ⌝ }
 {
-    let mut category = [0u8; 256];
+    let mut category = [0u8; MOST_TABLE_URNS];
     if table_names::names_distinct(t, l.categories, name_at, name_len) {
         if table_names::index_urns(
             t,
@@ -160,35 +166,35 @@ fn listed(
             &mut category,
         ) {
             if table_names::all_used(&category, l.urns, l.categories) {
-                return placed(t, l, name_at, name_len, signal, &category, at, len);
+                return place_signals(t, l, name_at, name_len, signal, &category, at, len);
             }
-            return refused(8);
+            return refused(TABLE_BAD_CATEGORY);
         }
-        return refused(8);
+        return refused(TABLE_BAD_CATEGORY);
     }
-    refused(8)
+    refused(TABLE_BAD_CATEGORY)
 }
 
-// Refusal 7.
-fn formed(
+// The names and URNs are looked through for their form: refusal 7, then the rest.
+fn judge_forms(
     t: &[u8],
     l: Counts,
-    name_at: &[u16; 8],
-    name_len: &[u8; 8],
-    at: &mut [u16; 256],
-    len: &mut [u8; 256],
-    signal: &[u8; 256],
+    name_at: &[u16; MOST_CATEGORIES],
+    name_len: &[u8; MOST_CATEGORIES],
+    at: &mut [u16; MOST_TABLE_URNS],
+    len: &mut [u8; MOST_TABLE_URNS],
+    signal: &[u8; MOST_TABLE_URNS],
 ) -> Decoded
     requires { ⌜ ReadAs (now t) (now «name_at») (now «name_len») (now at) (now len) (now signal) l ⌝ }
     ensures { λ r. ⌜ Means (now (t .entry)) r ⌝ }
 {
     if table_names::names_formed(t, l.categories, name_at, name_len) {
         if forms::urns_formed(t, l.urns, at, len) {
-            return listed(t, l, name_at, name_len, at, len, signal);
+            return judge_names(t, l, name_at, name_len, at, len, signal);
         }
-        return refused(7);
+        return refused(TABLE_BAD_FORM);
     }
-    refused(7)
+    refused(TABLE_BAD_FORM)
 }
 
 // A stored table, decoded. Open are: which of several equal texts of the table `name_at` and `at` name, and what `shared` has past
@@ -196,11 +202,11 @@ fn formed(
 pub fn decode(t: &[u8]) -> Decoded
     ensures { λ r. ⌜ Means (now (t .entry)) r ⌝ }
 {
-    let mut name_at = [0u16; 8];
-    let mut name_len = [0u8; 8];
-    let mut at = [0u16; 256];
-    let mut len = [0u8; 256];
-    let mut signal = [0u8; 256];
+    let mut name_at = [0u16; MOST_CATEGORIES];
+    let mut name_len = [0u8; MOST_CATEGORIES];
+    let mut at = [0u16; MOST_TABLE_URNS];
+    let mut len = [0u8; MOST_TABLE_URNS];
+    let mut signal = [0u8; MOST_TABLE_URNS];
     let l = table_sections::read(
         t,
         &mut name_at,
@@ -210,7 +216,7 @@ pub fn decode(t: &[u8]) -> Decoded
         &mut signal,
     );
     if l.ok {
-        return formed(t, l, &name_at, &name_len, &mut at, &mut len, &signal);
+        return judge_forms(t, l, &name_at, &name_len, &mut at, &mut len, &signal);
     }
     refused(l.fault)
 }

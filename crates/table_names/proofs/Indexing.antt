@@ -11,18 +11,18 @@ use lib.ListN.{length, getD, set, take, drop, length-take, length-drop, drop-of-
 use lib.Seq.{getD-set-same, getD-set-other, drop-drop, take-nil}
 use lib.Dec.{eqb, ltb}
 use borrow.Author.Tests.{eqb-true, eqb-false, ltb-true, ltb-false}
-use Rattle.base_text.specs.Text.{upTo}
+use Rattle.base_numbers.specs.Numbers.{mostTableBytes}
+use Rattle.base_lists.specs.Lists.{memberBy, indexBy}
+use Rattle.base_lists.proofs.Cuts.{upTo-take, past-drop}
+use Rattle.base_lists.proofs.Bools.{byTest}
+use Rattle.base_lists.specs.Cuts.{upTo, stretch}
 use Rattle.urn_names.specs.Urn.{categoryOf, pathOf}
-use Rattle.base_text.proofs.Fields.{byTest, upTo-take, past-drop}
-use Rattle.theory_resolution.specs.Lists.{memberBy, indexBy}
 use Rattle.theory_resolution.specs.Names.{sameName}
-use Rattle.node_search.specs.Arrays.{stretch}
-use Rattle.table_names.specs.Categories.{isListed}
-use Rattle.table_names.specs.Categories.{Indexed}
+use Rattle.table_names.specs.Categories.{isListed, Indexed}
 use Rattle.table_sections.proofs.Readings.{stretch-set, stretch-keep}
 
 -- a byte of the table before the end of a part is a byte of the table
-pub part-inside : (t : List ℕ) (a n e : ℕ) {u : List ℕ} → u ≡ take n (drop a t) → e ≤ length u → length t ≤ 8192 → a < 65536 → a + e < 65536
+pub part-inside : (t : List ℕ) (a n e : ℕ) {u : List ℕ} → u ≡ take n (drop a t) → e ≤ length u → length t ≤ mostTableBytes → a < 65536 → a + e < 65536
 part-inside t a n e g h k l =
     let x = length-take n (drop a t) in
     let y = length-drop a t in
@@ -44,7 +44,8 @@ pub path-part : (t : List ℕ) (a n e k : ℕ) {u : List ℕ} → u ≡ take n (
     → (k < length u → e ≡ k + 1) → (length u ≤ k → e ≡ length u) → take (length u - e) (drop (a + e) t) ≡ pathOf u
 path-part t a n e k {u} g f h p q =
     let x : take (length u - e) (drop (a + e) t) ≡ drop e u =
-    subst (λ (z : List ℕ). e ≤ length z → take (length z - e) (drop (a + e) t) ≡ drop e z) (sym g) (λ l. rw (← drop-drop e a t) (take-part n e (drop a t) l)) h in
+    subst (λ (z : List ℕ). e ≤ length z → take (length z - e) (drop (a + e) t) ≡ drop e z) (sym g)
+    (λ l. rw (← drop-drop e a t) (take-part n e (drop a t) l)) h in
     x ∙ byTest (ltb k (length u)) (λ b. let l = p (ltb-true k (length u) b) in rw (l, add-one, f) (past-drop 58 u))
     (λ b.
     let l = ltb-false k (length u) b in
@@ -80,7 +81,8 @@ indexed-start t names at len category pathAt pathLen =
     record { cat-at = λ j h. absurd (omega arith); cat-below = λ j h. absurd (omega arith); path-at = λ j h. absurd (omega arith) }
 
 -- one more URN in the arrays
-module _ (t : List ℕ) (names : List (List ℕ)) (at len : List ℕ) (i : ℕ) (category pathAt pathLen : List ℕ) (x : Indexed t names at len i category pathAt pathLen)
+module _ (t : List ℕ) (names : List (List ℕ)) (at len : List ℕ) (i : ℕ) (category pathAt pathLen : List ℕ)
+    (x : Indexed t names at len i category pathAt pathLen)
     (l₁ : i < length category) (l₂ : i < length pathAt) (l₃ : i < length pathLen) (c a n : ℕ) (e : c ≡ indexBy sameName (categoryOf (stretch t at len i)) names)
     (h : c < length names) (p : take n (drop a t) ≡ pathOf (stretch t at len i)) where
   below : (j : ℕ) → j < i + 1 → (j ≡ i) ⊎ (j < i)
@@ -104,7 +106,8 @@ module _ (t : List ℕ) (names : List (List ℕ)) (at len : List ℕ) (i : ℕ) 
   pub indexed-more : Indexed t names at len (i + 1) (set category i c) (set pathAt i a) (set pathLen i n)
   indexed-more = record { cat-at = λ j k. one j (below j k); cat-below = λ j k. two j (below j k); path-at = λ j k. three j (below j k) }
 
-pub indexed-end : {t : List ℕ} {names : List (List ℕ)} {at len : List ℕ} (i m : ℕ) {category pathAt pathLen : List ℕ} → Indexed t names at len i category pathAt pathLen → i ≤ m → m ≤ i
+pub indexed-end : {t : List ℕ} {names : List (List ℕ)} {at len : List ℕ} (i m : ℕ) {category pathAt pathLen : List ℕ}
+    → Indexed t names at len i category pathAt pathLen → i ≤ m → m ≤ i
     → Indexed t names at len m category pathAt pathLen
 indexed-end {t} {names} {at} {len} i m {category} {pathAt} {pathLen} x h k =
     record { cat-at = λ j l. x .cat-at j (omega arith); cat-below = λ j l. x .cat-below j (omega arith); path-at = λ j l. x .path-at j (omega arith) }
@@ -114,10 +117,12 @@ pub at-stretch : (t at len : List ℕ) (i : ℕ) {a : ℕ} → a ≡ getD at i 0
 at-stretch t at len i e = ap (λ a. take (getD len i 0) (drop a t)) (sym e)
 
 -- what the loop puts into the arrays for the i-th URN
-module _ (t : List ℕ) (names : List (List ℕ)) (at len : List ℕ) (i : ℕ) (category pathAt pathLen : List ℕ) (x : Indexed t names at len i category pathAt pathLen)
+module _ (t : List ℕ) (names : List (List ℕ)) (at len : List ℕ) (i : ℕ) (category pathAt pathLen : List ℕ)
+    (x : Indexed t names at len i category pathAt pathLen)
     (l₁ : i < length category) (l₂ : i < length pathAt) (l₃ : i < length pathLen) {u : List ℕ} {k r e w c a n : ℕ} (f : k ≡ length (upTo 58 u))
     (g : r ≡ indexBy sameName (take (k - 0) u) names) (d : u ≡ stretch t at len i) (h : r < length names)
-    (p : (e ≤ length u) × (k < length u → e ≡ k + 1) × (length u ≤ k → e ≡ length u)) (y : c ≡ r) (q : w ≡ getD at i 0) (z : a ≡ w + e) (o : n ≡ length u - e) where
+    (p : (e ≤ length u) × (k < length u → e ≡ k + 1) × (length u ≤ k → e ≡ length u)) (y : c ≡ r) (q : w ≡ getD at i 0) (z : a ≡ w + e)
+    (o : n ≡ length u - e) where
   pub urn-put : Indexed t names at len (i + 1) (set category i c) (set pathAt i a) (set pathLen i n)
   urn-put =
       indexed-more t names at len i category pathAt pathLen x l₁ l₂ l₃ c a n (y ∙ urn-category names f g d) (omega arith)

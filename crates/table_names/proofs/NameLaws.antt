@@ -5,13 +5,13 @@ use mathlib.Core.Bool.{true, false}
 use mathlib.Core.List.{List, [], _∷_}
 use native.Mathlib.Omega.{arith}
 use lib.ListN.{length}
-use Rattle.base_text.proofs.Fields.{byTest}
-use Rattle.theory_resolution.specs.Lists.{tabulate, indexBy}
+use Rattle.base_lists.proofs.Tests.{two-fails, two-next}
+use Rattle.base_lists.specs.Tests.{any, noTwo}
+use Rattle.base_lists.proofs.Tabulated.{tabulate-length}
+use Rattle.base_lists.specs.Lists.{tabulate, indexBy}
+use Rattle.base_lists.proofs.Bools.{byTest, same-test}
 use Rattle.theory_resolution.specs.Names.{sameName}
-use Rattle.theory_resolution.proofs.Lists.{tabulate-length}
 use Rattle.theory_resolution.proofs.Names.{name-exact}
-use Rattle.table_places.specs.Tests.{any, noTwo}
-use Rattle.table_places.proofs.TestLaws.{same-test, two-fails, two-next}
 
 pub same-sym : (x y : List ℕ) → sameName x y ≡ sameName y x
 same-sym x y = same-test (sameName x y) (sameName y x)

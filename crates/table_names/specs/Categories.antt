@@ -5,12 +5,13 @@ use mathlib.Core.Bool.{Bool, _&&_}
 use mathlib.Core.List.{List}
 use lib.ListN.{length, getD}
 use lib.Dec.{eqb, leb}
-use Rattle.theory_resolution.specs.Lists.{tabulate, memberBy, indexBy}
+use Rattle.base_numbers.specs.Numbers.{mostCategories, mostTableBytes, mostTableUrns}
+use Rattle.base_lists.specs.Cuts.{stretch}
+use Rattle.base_lists.specs.Tests.{all, any}
+use Rattle.base_lists.specs.Lists.{tabulate, memberBy, indexBy}
 use Rattle.theory_resolution.specs.Names.{Name, sameName}
 use Rattle.urn_names.specs.Urn.{categoryOf, pathOf}
-use Rattle.base_text.specs.Text.{all}
-use Rattle.node_search.specs.Arrays.{stretch, textIn}
-use Rattle.table_places.specs.Tests.{any}
+use Rattle.node_search.specs.Arrays.{textIn}
 
 -- the category of a URN is listed
 unfoldable pub isListed : List Name → List ℕ → Bool
@@ -18,19 +19,19 @@ isListed names u = memberBy sameName (categoryOf u) names
 
 -- the names of n categories; arrays have room for 8, past which they are empty
 abbrev pub namesIn : (t at len : List ℕ) → ℕ → List Name
-namesIn t at len n = tabulate (textIn 8 t at len) n
+namesIn t at len n = tabulate (textIn mostCategories t at len) n
 
 -- the category of each of m URNs is listed, and arrays have room for so many
 unfoldable pub allListed : List Name → (t at len : List ℕ) → ℕ → Bool
-allListed names t at len m = leb m 256 && all (isListed names) (tabulate (stretch t at len) m)
+allListed names t at len m = leb m mostTableUrns && all (isListed names) (tabulate (stretch t at len) m)
 
 -- each of n categories is that of one of m URNs, and an array has room for so many
 unfoldable pub allUsed : List ℕ → ℕ → ℕ → Bool
-allUsed category m n = leb m 256 && all (λ c. any (λ x. eqb x c) (tabulate (λ j. getD category j 0) m)) (tabulate (λ c. c) n)
+allUsed category m n = leb m mostTableUrns && all (λ c. any (λ x. eqb x c) (tabulate (λ j. getD category j 0) m)) (tabulate (λ c. c) n)
 
 -- n categories and m URNs such as a table can have, with an array for their categories
 abbrev pub Fits : (t : List ℕ) (n m : ℕ) (category : List ℕ) → Type 0
-Fits t n m category = (length t ≤ 8192) × (n ≤ 8) × (m ≤ 256) × (length category ≡ 256)
+Fits t n m category = (length t ≤ mostTableBytes) × (n ≤ mostCategories) × (m ≤ mostTableUrns) × (length category ≡ mostTableUrns)
 
 -- the arrays have the category's number and the path of every URN
 pub record Indexed (t : List ℕ) (names : List (List ℕ)) (at len : List ℕ) (m : ℕ) (category pathAt pathLen : List ℕ) : Type 0 where

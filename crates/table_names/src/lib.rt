@@ -1,26 +1,33 @@
 // The names of a table's categories: their form, that none is listed twice, and the category of each URN.
 //
 // In: the names and the URNs as places in the bytes. Out: 7 and 8 as two tests, and each URN's category.
-use base_text::cut::wide;
-use base_text::cut::wider;
+use base_bytes::numbers::short;
+use base_bytes::numbers::small;
+use base_bytes::numbers::wide;
+use base_bytes::numbers::wider;
+use base_numbers::MOST_CATEGORIES;
+use base_numbers::MOST_TABLE_URNS;
 use node_search::texts::name_text;
 use node_search::texts::urn_text;
-use table_sections::bytes::short;
-use table_sections::bytes::small;
 ghost use mathlib.Core.Path.{_≡_};
 ghost use mathlib.Core.Bool.{true};
 ghost use Prim.Native.Nat.{_≤_, _<_, _+_};
 ghost use lib.ListN.{length, getD};
 ghost use lib.Dec.{eqb};
-ghost use Rattle.theory_resolution.specs.Lists.{tabulate, indexBy};
+ghost use Rattle.base_numbers.specs.Numbers.{mostTableUrns};
+ghost use Rattle.base_lists.specs.Tests.{all, any, noTwo};
+ghost use Rattle.base_lists.specs.Lists.{tabulate, indexBy};
 ghost use Rattle.theory_resolution.specs.Names.{sameName};
-ghost use Rattle.base_text.specs.Text.{all};
 ghost use Rattle.urn_names.specs.Urn.{storedName};
-ghost use Rattle.table_places.specs.Tests.{any, noTwo};
 ghost use Rattle.table_names.specs.Categories.{namesIn, allListed, allUsed, Fits, Indexed};
 
 // Every name has its form. Past the 8 for which there is room a name is empty, here and below.
-pub fn names_formed(t: &[u8], n: usize, at: &[u16; 8], len: &[u8; 8]) -> bool
+pub fn names_formed(
+    t: &[u8],
+    n: usize,
+    at: &[u16; MOST_CATEGORIES],
+    len: &[u8; MOST_CATEGORIES],
+) -> bool
     ensures { λ r. ⌜ r ≡ all storedName (namesIn (now (t .entry)) (now (at .entry)) (now (len .entry)) n) ⌝ }
 {
     let mut i = 0;
@@ -35,7 +42,13 @@ pub fn names_formed(t: &[u8], n: usize, at: &[u16; 8], len: &[u8; 8]) -> bool
 }
 
 // The number of the first of n categories that has the name s, or n.
-fn name_index(t: &[u8], s: &[u8], n: usize, at: &[u16; 8], len: &[u8; 8]) -> usize
+fn name_index(
+    t: &[u8],
+    s: &[u8],
+    n: usize,
+    at: &[u16; MOST_CATEGORIES],
+    len: &[u8; MOST_CATEGORIES],
+) -> usize
     ensures { λ r. ⌜ r ≡ indexBy sameName (now (s .entry)) (namesIn (now (t .entry)) (now (at .entry)) (now (len .entry)) n) ⌝ }
     ensures few { λ r. ⌜ r ≤ n ⌝ }
 {
@@ -50,7 +63,12 @@ fn name_index(t: &[u8], s: &[u8], n: usize, at: &[u16; 8], len: &[u8; 8]) -> usi
 }
 
 // No category is listed twice.
-pub fn names_distinct(t: &[u8], n: usize, at: &[u16; 8], len: &[u8; 8]) -> bool
+pub fn names_distinct(
+    t: &[u8],
+    n: usize,
+    at: &[u16; MOST_CATEGORIES],
+    len: &[u8; MOST_CATEGORIES],
+) -> bool
     ensures { λ r. ⌜ r ≡ noTwo sameName (namesIn (now (t .entry)) (now (at .entry)) (now (len .entry)) n) ⌝ }
 {
     let mut i = 0;
@@ -74,12 +92,12 @@ fn path_start(n: usize, k: usize) -> usize
 }
 
 // For how many URNs both arrays have room. Their lengths are known only where they are lent as slices.
-fn room(at: &[u16; 256], len: &[u8; 256]) -> usize
-    ensures { λ r. ⌜ (r ≡ 256) × (length (now (at .entry)) ≡ 256) × (length (now (len .entry)) ≡ 256) ⌝ }
+fn room(at: &[u16; MOST_TABLE_URNS], len: &[u8; MOST_TABLE_URNS]) -> usize
+    ensures { λ r. ⌜ (r ≡ mostTableUrns) × (length (now (at .entry)) ≡ mostTableUrns) × (length (now (len .entry)) ≡ mostTableUrns) ⌝ }
 {
     let a: &[u16] = at;
     let n: &[u8] = len;
-    base_text::compare::at_most(a.len(), n.len())
+    base_bytes::numbers::at_most(a.len(), n.len())
 }
 
 // Whether the category of each of m URNs is listed; then it is put into the array, and the URN's text is cut down to its path.
@@ -88,12 +106,12 @@ fn room(at: &[u16; 256], len: &[u8; 256]) -> usize
 pub fn index_urns(
     t: &[u8],
     n: usize,
-    name_at: &[u16; 8],
-    name_len: &[u8; 8],
+    name_at: &[u16; MOST_CATEGORIES],
+    name_len: &[u8; MOST_CATEGORIES],
     m: usize,
-    at: &mut [u16; 256],
-    len: &mut [u8; 256],
-    category: &mut [u8; 256],
+    at: &mut [u16; MOST_TABLE_URNS],
+    len: &mut [u8; MOST_TABLE_URNS],
+    category: &mut [u8; MOST_TABLE_URNS],
 ) -> bool
     ensures { λ r. ⌜ r ≡ allListed (namesIn (now (t .entry)) (now («name_at» .entry)) (now («name_len» .entry)) n) (now (t .entry)) (now (at .entry)) (now (len .entry)) m ⌝ }
     ensures indexed { λ r. ⌜ (Fits (now (t .entry)) n m (now (category .entry)) → r ≡ true
@@ -123,8 +141,8 @@ pub fn index_urns(
 }
 
 // Some URN is of category c.
-fn has_category(category: &[u8; 256], m: usize, c: usize) -> bool
-    requires { ⌜ m ≤ 256 ⌝ }
+fn has_category(category: &[u8; MOST_TABLE_URNS], m: usize, c: usize) -> bool
+    requires { ⌜ m ≤ mostTableUrns ⌝ }
     ensures { λ r. ⌜ r ≡ any (λ x. eqb x c) (tabulate (λ j. getD (now (category .entry)) j 0) m) ⌝ }
 {
     let mut i = 0;
@@ -138,10 +156,10 @@ fn has_category(category: &[u8; 256], m: usize, c: usize) -> bool
 }
 
 // Every one of n categories has one of m URNs; false if there is no room for so many.
-pub fn all_used(category: &[u8; 256], m: usize, n: usize) -> bool
+pub fn all_used(category: &[u8; MOST_TABLE_URNS], m: usize, n: usize) -> bool
     ensures { λ r. ⌜ r ≡ allUsed (now (category .entry)) m n ⌝ }
 {
-    if 256 < m {
+    if MOST_TABLE_URNS < m {
         return false;
     }
     let mut c = 0;

@@ -7,12 +7,12 @@ use mathlib.Core.List.{List, [], _∷_, _++_, foldl, foldl-append, append-assoc}
 use native.Mathlib.Omega.{arith}
 use lib.ListN.{length, length-append}
 use lib.Dec.{eqb}
-use Rattle.base_text.proofs.Fields.{byTest}
-use Rattle.theory_resolution.specs.Lists.{addBy}
+use Rattle.base_lists.proofs.Lists.{not-last}
+use Rattle.base_lists.specs.Lists.{addBy}
+use Rattle.base_lists.proofs.Bools.{byTest}
 use Rattle.theory_resolution.specs.Names.{Name, Parts, sameParts}
 use Rattle.theory_resolution.specs.Table.{Urn, urn, Table}
 use Rattle.theory_resolution.specs.Nodes.{sameUrn, isNode, nodes, prefixes, addUrn, RootOrNode, past as begins}
-use Rattle.theory_resolution.proofs.Lists.{not-last}
 use Rattle.theory_resolution.proofs.Names.{parts-exact}
 use Rattle.theory_resolution.proofs.Nodes.{urn-exact}
 use Rattle.theory_resolution.proofs.Numbers.{ancestor-node}
@@ -48,7 +48,8 @@ module _ (us : List Urn) (c : ℕ) (p : Parts) where
 
   nothing : isNode (foldl addUrn [] us) c p ≡ true → (q r : Parts) → q ++ r ≡ p → foldl (adder c) (foldl addUrn [] us) (begins q r) ≡ foldl addUrn [] us
   nothing m q [] e = refl
-  nothing m q (x ∷ r) e = go (subst (λ (l : List Urn). RootOrNode l c (q ++ x ∷ [])) same (ancestor-node one c (q ++ x ∷ []) p (record { rest = r; joined = append-assoc q (x ∷ []) r ∙ e })
+  nothing m q (x ∷ r) e = go (subst (λ (l : List Urn). RootOrNode l c (q ++ x ∷ [])) same
+      (ancestor-node one c (q ++ x ∷ []) p (record { rest = r; joined = append-assoc q (x ∷ []) r ∙ e })
       (inr (subst (λ (l : List Urn). isNode l c p ≡ true) (sym same) m)))) (nothing m (q ++ x ∷ []) r (append-assoc q (x ∷ []) r ∙ e))
     where
       go : RootOrNode (foldl addUrn [] us) c (q ++ x ∷ []) → foldl (adder c) (foldl addUrn [] us) (begins (q ++ x ∷ []) r) ≡ foldl addUrn [] us
@@ -74,7 +75,8 @@ module _ (us : List Urn) (c : ℕ) (p : Parts) where
   bare s h x = other-absent (foldl addUrn [] us) c p (p ++ x ∷ []) (child-absent s h x) (longer-other p (p ++ x ∷ []) (omega (arith, length-append p (x ∷ []))))
 
   -- a path is added under a node as a URN is
-  pub added-last : RootOrNode (foldl addUrn [] us) c p → (x : Name) → adder c (foldl addUrn [] us) (p ++ x ∷ []) ≡ foldl addUrn [] (us ++ urn c (p ++ x ∷ []) ∷ [])
+  pub added-last : RootOrNode (foldl addUrn [] us) c p → (x : Name) → adder c (foldl addUrn [] us) (p ++ x ∷ [])
+      ≡ foldl addUrn [] (us ++ urn c (p ++ x ∷ []) ∷ [])
   added-last m x =
       sym (foldl-append addUrn [] us (urn c (p ++ x ∷ []) ∷ [])
       ∙ ap (foldl (adder c) (foldl addUrn [] us)) (past-snoc [] p x)

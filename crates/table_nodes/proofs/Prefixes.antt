@@ -5,9 +5,11 @@ use mathlib.Core.List.{List, [], _∷_, _++_}
 use native.Mathlib.Numerals.{add-one}
 use lib.ListN.{length, getD, take, drop, drop-of-length-le}
 use lib.Seq.{take-suc, take-add, drop-cons, drop-drop, append-snoc}
+use Rattle.base_lists.proofs.Cuts.{upTo-take}
+use Rattle.base_lists.specs.Cuts.{upTo}
 use Rattle.theory_resolution.specs.Nodes.{past as begins}
-use Rattle.base_text.specs.Text.{upTo, fields}
-use Rattle.base_text.proofs.Fields.{upTo-take, fields-first, fields-upTo, fields-join, fields-tail}
+use Rattle.base_text.specs.Text.{fields}
+use Rattle.base_text.proofs.Fields.{fields-first, fields-upTo, fields-join, fields-tail}
 
 -- the nodes of a URN's text that are still to come when the first i bytes are done
 abbrev pub coming : List ℕ → ℕ → List (List (List ℕ))

@@ -5,12 +5,13 @@ use mathlib.Core.Logic.{_⊎_}
 use mathlib.Core.Bool.{Bool, true, false}
 use mathlib.Core.List.{List, [], _∷_, _++_, foldl}
 use lib.ListN.{length, getD, take, drop}
-use Rattle.theory_resolution.specs.Lists.{tabulate, addBy}
+use Rattle.base_numbers.specs.Numbers.{mostNodes, mostTableUrns}
+use Rattle.base_lists.specs.Cuts.{stretch}
+use Rattle.base_lists.specs.Lists.{tabulate, addBy}
 use Rattle.theory_resolution.specs.Names.{Name, Parts}
 use Rattle.theory_resolution.specs.Table.{Urn, urn}
 use Rattle.theory_resolution.specs.Nodes.{sameUrn, nodeAt, isNode, addUrn}
 use Rattle.base_text.specs.Text.{fields}
-use Rattle.node_search.specs.Arrays.{stretch}
 use Rattle.table_sections.specs.Held.{Padded}
 use Rattle.table_nodes.specs.declared.Added.{Added}
 
@@ -26,14 +27,14 @@ Numbered ns c p k = ((k ≡ 0) × (p ≡ [])) ⊎ ((j : ℕ) × (k ≡ suc j) ×
 pub record Nodes (t cats parents at len : List ℕ) (n : ℕ) (ns : List Urn) : Type 0 where
   pub held : tabulate (nodeUrn t cats at len) n ≡ ns
   pub parent : (k : ℕ) → k < n → (p : Parts) × (x : Name) × (nodeAt ns k .path ≡ p ++ x ∷ []) × Numbered ns (nodeAt ns k .cat) p (getD parents k 0)
-  pub past-cats : Padded 64 n cats
-  pub past-parents : Padded 64 n parents
-  pub past-at : Padded 64 n at
-  pub past-len : Padded 64 n len
+  pub past-cats : Padded mostNodes n cats
+  pub past-parents : Padded mostNodes n parents
+  pub past-at : Padded mostNodes n at
+  pub past-len : Padded mostNodes n len
 
 -- the nodes have become `new`, and the path p of category c is one of them; or there are too many
 pub record AddedTo (t cats parents at len : List ℕ) (new : List Urn) (c : ℕ) (p : Parts) (r : Added) : Type 0 where
-  pub over : r .node ≡ 0 → 64 < length new
+  pub over : r .node ≡ 0 → mostNodes < length new
   pub kept : 0 < r .node → Nodes t cats parents at len (r .count) new × Numbered new c p (r .node)
 
 -- what adding a node promises, whatever nodes the arrays held: the path in k bytes is put under the node `parent`; it is called new only
@@ -59,10 +60,10 @@ AddsUrn t c from k n cats parents at len cats₁ parents₁ at₁ len₁ r =
 
 -- the nodes of m URNs, and the number of each URN's node; or there are too many
 pub record AllAdded (t : List ℕ) (f : ℕ → Urn) (m : ℕ) (node cats parents at len : List ℕ) (r : ℕ) : Type 0 where
-  pub over : 64 < r → 64 < length (foldl addUrn [] (tabulate f m))
-  pub kept : r ≤ 64 → Nodes t cats parents at len r (foldl addUrn [] (tabulate f m))
-  pub numbered : r ≤ 64 → (i : ℕ) → i < m → Numbered (foldl addUrn [] (tabulate f m)) (f i .cat) (f i .path) (getD node i 0)
+  pub over : mostNodes < r → mostNodes < length (foldl addUrn [] (tabulate f m))
+  pub kept : r ≤ mostNodes → Nodes t cats parents at len r (foldl addUrn [] (tabulate f m))
+  pub numbered : r ≤ mostNodes → (i : ℕ) → i < m → Numbered (foldl addUrn [] (tabulate f m)) (f i .cat) (f i .path) (getD node i 0)
 
 -- arrays with room for all, and nothing in them
 abbrev pub Clear : (node cats parents at len : List ℕ) → Type 0
-Clear node cats parents at len = (length node ≡ 256) × Padded 64 0 cats × Padded 64 0 parents × Padded 64 0 at × Padded 64 0 len
+Clear node cats parents at len = (length node ≡ mostTableUrns) × Padded mostNodes 0 cats × Padded mostNodes 0 parents × Padded mostNodes 0 at × Padded mostNodes 0 len

@@ -1,16 +1,20 @@
 // The nodes of a table, from the categories and paths of its URNs: each one's category, parent and path, and the node of every URN.
 //
 // In: the URNs' categories and paths as places in the bytes. Out: the nodes in their order, in arrays, or that there are over 64.
-use base_text::cut::wide;
-use base_text::cut::wider;
+use base_bytes::numbers::short;
+use base_bytes::numbers::small;
+use base_bytes::numbers::wide;
+use base_bytes::numbers::wider;
+use base_numbers::MOST_NODES;
+use base_numbers::MOST_TABLE_URNS;
+use base_numbers::OVER_NODES;
 use node_search::texts::node_text;
-use table_sections::bytes::short;
-use table_sections::bytes::small;
 ghost use mathlib.Core.Path.{_≡_};
 ghost use mathlib.Core.Bool.{true, false, _||_};
 ghost use Prim.Native.Nat.{_≤_, _<_};
 ghost use lib.Dec.{eqb};
-ghost use Rattle.theory_resolution.specs.Lists.{tabulate};
+ghost use Rattle.base_numbers.specs.Numbers.{mostNodes, mostTableUrns};
+ghost use Rattle.base_lists.specs.Lists.{tabulate};
 ghost use Rattle.theory_resolution.specs.Table.{urn};
 ghost use Rattle.theory_resolution.specs.Nodes.{sameUrn, isNode, number};
 ghost use Rattle.base_text.specs.Text.{fields};
@@ -22,11 +26,11 @@ fn node_is(
     c: u8,
     s: &[u8],
     i: usize,
-    cats: &[u8; 64],
-    at: &[u16; 64],
-    len: &[u8; 64],
+    cats: &[u8; MOST_NODES],
+    at: &[u16; MOST_NODES],
+    len: &[u8; MOST_NODES],
 ) -> bool
-    requires { ⌜ i < 64 ⌝ }
+    requires { ⌜ i < mostNodes ⌝ }
     ensures { λ r. ⌜ r ≡ sameUrn (urn c (fields 58 (now (s .entry)))) (nodeUrn (now (t .entry)) (now (cats .entry)) (now (at .entry)) (now (len .entry)) i) ⌝ }
 {
     let x = cats[i];
@@ -46,11 +50,11 @@ fn find_node(
     c: u8,
     s: &[u8],
     n: usize,
-    cats: &[u8; 64],
-    at: &[u16; 64],
-    len: &[u8; 64],
+    cats: &[u8; MOST_NODES],
+    at: &[u16; MOST_NODES],
+    len: &[u8; MOST_NODES],
 ) -> usize
-    requires { ⌜ n ≤ 64 ⌝ }
+    requires { ⌜ n ≤ mostNodes ⌝ }
     ensures { λ r. ⌜ (r ≡ number (tabulate (nodeUrn (now (t .entry)) (now (cats .entry)) (now (at .entry)) (now (len .entry))) n) c (fields 58 (now (s .entry)))) × (r ≤ n) ⌝ }
 {
     let mut i = 0;
@@ -70,11 +74,11 @@ fn find_unless(
     s: &[u8],
     n: usize,
     new: bool,
-    cats: &[u8; 64],
-    at: &[u16; 64],
-    len: &[u8; 64],
+    cats: &[u8; MOST_NODES],
+    at: &[u16; MOST_NODES],
+    len: &[u8; MOST_NODES],
 ) -> usize
-    requires { ⌜ n ≤ 64 ⌝ }
+    requires { ⌜ n ≤ mostNodes ⌝ }
     ensures { λ r. ⌜ ((new ≡ true → isNode (tabulate (nodeUrn (now (t .entry)) (now (cats .entry)) (now (at .entry)) (now (len .entry))) n) c (fields 58 (now (s .entry))) ≡ false)
         → r ≡ number (tabulate (nodeUrn (now (t .entry)) (now (cats .entry)) (now (at .entry)) (now (len .entry))) n) c (fields 58 (now (s .entry)))) × (r ≤ n) ⌝ }
 {
@@ -100,15 +104,15 @@ fn add_node(
     parent: usize,
     n: usize,
     new: bool,
-    cats: &mut [u8; 64],
-    parents: &mut [u8; 64],
-    at: &mut [u16; 64],
-    len: &mut [u8; 64],
+    cats: &mut [u8; MOST_NODES],
+    parents: &mut [u8; MOST_NODES],
+    at: &mut [u16; MOST_NODES],
+    len: &mut [u8; MOST_NODES],
 ) -> Added
-    requires { ⌜ (n ≤ 64) × (from < 65536) × (k < 256) × (parent ≤ 64) ⌝ }
+    requires { ⌜ (n ≤ mostNodes) × (from < 65536) × (k < 256) × (parent ≤ mostNodes) ⌝ }
     ensures { λ r. ⌜ AddsNode (now (t .entry)) c from k parent n new (now (cats .entry)) (now (parents .entry)) (now (at .entry)) (now (len .entry))
         (now (cats .exit)) (now (parents .exit)) (now (at .exit)) (now (len .exit)) r ⌝ }
-    ensures few { λ r. ⌜ (r .node ≤ 64) × (r .count ≤ 64) ⌝ }
+    ensures few { λ r. ⌜ (r .node ≤ mostNodes) × (r .count ≤ mostNodes) ⌝ }
 {
     let m = find_unless(
         t,
@@ -127,7 +131,7 @@ fn add_node(
             new: false,
         };
     }
-    if n < 64 {
+    if n < MOST_NODES {
         cats[n] = c;
         parents[n] = small(parent);
         at[n] = short(from);
@@ -163,15 +167,15 @@ fn add_path(
     from: usize,
     k: usize,
     n: usize,
-    cats: &mut [u8; 64],
-    parents: &mut [u8; 64],
-    at: &mut [u16; 64],
-    len: &mut [u8; 64],
+    cats: &mut [u8; MOST_NODES],
+    parents: &mut [u8; MOST_NODES],
+    at: &mut [u16; MOST_NODES],
+    len: &mut [u8; MOST_NODES],
 ) -> Added
-    requires { ⌜ (n ≤ 64) × (from < 65536) × (k < 256) ⌝ }
+    requires { ⌜ (n ≤ mostNodes) × (from < 65536) × (k < 256) ⌝ }
     ensures { λ r. ⌜ AddsPath (now (t .entry)) c from k n (now (cats .entry)) (now (parents .entry)) (now (at .entry)) (now (len .entry))
         (now (cats .exit)) (now (parents .exit)) (now (at .exit)) (now (len .exit)) r ⌝ }
-    ensures few { λ r. ⌜ (r .node ≤ 64) × (r .count ≤ 64) ⌝ }
+    ensures few { λ r. ⌜ (r .node ≤ mostNodes) × (r .count ≤ mostNodes) ⌝ }
 {
     let w = base_text::cut::part(t, from, k);
     let e = w.len();
@@ -197,15 +201,15 @@ fn add_urn(
     from: usize,
     k: usize,
     n: usize,
-    cats: &mut [u8; 64],
-    parents: &mut [u8; 64],
-    at: &mut [u16; 64],
-    len: &mut [u8; 64],
+    cats: &mut [u8; MOST_NODES],
+    parents: &mut [u8; MOST_NODES],
+    at: &mut [u16; MOST_NODES],
+    len: &mut [u8; MOST_NODES],
 ) -> Added
-    requires { ⌜ (n ≤ 64) × (from < 65536) × (k < 256) ⌝ }
+    requires { ⌜ (n ≤ mostNodes) × (from < 65536) × (k < 256) ⌝ }
     ensures { λ r. ⌜ AddsUrn (now (t .entry)) c from k n (now (cats .entry)) (now (parents .entry)) (now (at .entry)) (now (len .entry))
         (now (cats .exit)) (now (parents .exit)) (now (at .exit)) (now (len .exit)) r ⌝ }
-    ensures few { λ r. ⌜ (r .node ≤ 64) × (r .count ≤ 64) ⌝ }
+    ensures few { λ r. ⌜ (r .node ≤ mostNodes) × (r .count ≤ mostNodes) ⌝ }
 {
     let m = find_node(t, c, base_text::cut::part(t, from, k), n, cats, at, len);
     if 0 < m {
@@ -224,21 +228,21 @@ fn add_urn(
 pub fn add_all(
     t: &[u8],
     m: usize,
-    category: &[u8; 256],
-    path_at: &[u16; 256],
-    path_len: &[u8; 256],
-    node: &mut [u8; 256],
-    cats: &mut [u8; 64],
-    parents: &mut [u8; 64],
-    at: &mut [u16; 64],
-    len: &mut [u8; 64],
+    category: &[u8; MOST_TABLE_URNS],
+    path_at: &[u16; MOST_TABLE_URNS],
+    path_len: &[u8; MOST_TABLE_URNS],
+    node: &mut [u8; MOST_TABLE_URNS],
+    cats: &mut [u8; MOST_NODES],
+    parents: &mut [u8; MOST_NODES],
+    at: &mut [u16; MOST_NODES],
+    len: &mut [u8; MOST_NODES],
 ) -> usize
-    ensures { λ r. ⌜ (m ≤ 256 → Clear (now (node .entry)) (now (cats .entry)) (now (parents .entry)) (now (at .entry)) (now (len .entry))
+    ensures { λ r. ⌜ (m ≤ mostTableUrns → Clear (now (node .entry)) (now (cats .entry)) (now (parents .entry)) (now (at .entry)) (now (len .entry))
         → AllAdded (now (t .entry)) (nodeUrn (now (t .entry)) (now (category .entry)) (now («path_at» .entry)) (now («path_len» .entry))) m
         (now (node .exit)) (now (cats .exit)) (now (parents .exit)) (now (at .exit)) (now (len .exit)) r) ⌝ }
 {
-    if 256 < m {
-        return 65;
+    if MOST_TABLE_URNS < m {
+        return OVER_NODES;
     }
     let mut n: usize = 0;
     let mut i = 0;
@@ -247,7 +251,7 @@ pub fn add_all(
         let k = wide(path_len[i]);
         let r = add_urn(t, category[i], from, k, n, cats, parents, at, len);
         if r.node == 0 {
-            return 65;
+            return OVER_NODES;
         }
         node[i] = small(r.node);
         n = r.count;

@@ -9,11 +9,13 @@ use native.Mathlib.Omega.{arith}
 use lib.ListN.{getD, set, replicate}
 use lib.Dec.{eqb, ltb, leb}
 use borrow.Author.Tests.{lt-ltb, le-ltb, le-leb, lt-leb, eq-eqb, ne-eqb}
-use Rattle.theory_resolution.specs.Lists.{tabulate}
+use Rattle.base_numbers.specs.Numbers.{mostSignals, mostTableUrns}
+use Rattle.base_lists.specs.Tests.{noTwo}
+use Rattle.base_lists.specs.Lists.{tabulate}
 use Rattle.node_step.specs.Step.{placeIn, withPlace}
-use Rattle.table_places.specs.Tests.{noTwo}
 use Rattle.table_places.specs.Slots.{samePlacesAt}
-use Rattle.table_places.specs.Filled.{Filled, stopped, putRow, rowsFrom, putSlot, slotsFrom, firstSilent, numberBy, rowsBy, nodesNumber, slotsBy, textsNumber}
+use Rattle.table_places.specs.Filled.{Filled, stopped, putRow, rowsFrom, putSlot, slotsFrom, firstSilent, numberBy, rowsBy, nodesNumber}
+use Rattle.table_places.specs.Filled.{slotsBy, textsNumber}
 
 -- rows: the start, and i of m URNs put
 pub rows-start : (signal category node : List ℕ) (m : ℕ) (rows : List ℕ) → rowsFrom signal category node 0 m rows ≡ rowsFrom signal category node 0 (m - 0) rows
@@ -40,7 +42,8 @@ module _ (signal category node : List ℕ) (m : ℕ) (rows₀ : List ℕ) (i : �
   rows-taken h x y e g l n = rows-one h x y e g ∙ rw (le-ltb 31 x l, ne-eqb (placeIn (getD rows x 0) y) 0 n)
 
   pub rows-put : i < m → (x y : ℕ) {q : ℕ} → x ≡ getD signal i 0 → y ≡ getD category i 0 → x ≤ 31 → placeIn (getD rows x 0) y ≡ 0
-      → q ≡ withPlace (getD rows x 0) y (getD node i 0) → rowsFrom signal category node 0 m rows₀ ≡ rowsFrom signal category node (i + 1) (m - (i + 1)) (set rows x q)
+      → q ≡ withPlace (getD rows x 0) y (getD node i 0) → rowsFrom signal category node 0 m rows₀
+      ≡ rowsFrom signal category node (i + 1) (m - (i + 1)) (set rows x q)
   unfolding putRow
   rows-put h x y {q} e g l z f =
       rows-one h x y e g ∙ rw (le-ltb 31 x l, eq-eqb (placeIn (getD rows x 0) y) 0 z) (rw add-one (ap (λ r. next (set rows x r)) (sym f)))
@@ -77,7 +80,10 @@ module _ (signal category : List ℕ) (m : ℕ) (slots₀ : List ℕ) (i : ℕ) 
       → q ≡ i + 1 → slotsFrom signal category 0 m slots₀ ≡ slotsFrom signal category (i + 1) (m - (i + 1)) (set slots (8 * x + y) q)
   unfolding putSlot
   slots-put h x y {q} e g l z f =
-      slots-one h x y e g ∙ rw (le-ltb 255 (8 * x + y) l, eq-eqb (getD slots (8 * x + y) 0) 0 z) (rw add-one (ap (λ r. more (set slots (8 * x + y) r)) (sym (f ∙ add-one i))))
+      slots-one h x y e g ∙ rw (
+        le-ltb 255 (8 * x + y) l,
+        eq-eqb (getD slots (8 * x + y) 0) 0 z,
+      ) (rw add-one (ap (λ r. more (set slots (8 * x + y) r)) (sym (f ∙ add-one i))))
 
   pub slots-all : m ≤ i → slotsFrom signal category 0 m slots₀ ≡ record { ok = true; held = slots }
   unfolding slotsFrom
@@ -124,21 +130,27 @@ module _ (n m : ℕ) (signal category node rows : List ℕ) where
 
   without : rowsBy n m signal category node rows ≡ stopped rows → Numbered 9 rows
   unfolding nodesNumber
-  without e = (sym (ap (nodesNumber n m signal) e ∙ sym (number-nine (firstSilent m signal) (noTwo eqb (tabulate (λ s. getD rows s 0) n)) 0 refl)), sym (ap (λ (f : Filled). f .held) e))
+  without e = (
+    sym (ap (nodesNumber n m signal) e
+        ∙ sym (number-nine (firstSilent m signal) (noTwo eqb (tabulate (λ s. getD rows s 0) n)) 0 refl)),
+    sym (ap (λ (f : Filled). f .held) e),
+  )
 
-  pub many-signals : 32 < n → Numbered 9 rows
+  pub many-signals : mostSignals < n → Numbered 9 rows
   unfolding rowsBy
-  many-signals h = without (ap (λ b. cond (b && leb m 256) (rowsFrom signal category node 0 m rows) (stopped rows)) (lt-leb n 32 h))
+  many-signals h = without (ap (λ b. cond (b && leb m mostTableUrns) (rowsFrom signal category node 0 m rows) (stopped rows)) (lt-leb n mostSignals h))
 
-  pub many-urns : n ≤ 32 → 256 < m → Numbered 9 rows
+  pub many-urns : n ≤ mostSignals → mostTableUrns < m → Numbered 9 rows
   unfolding rowsBy
-  many-urns h k = without (ap₂ (λ a b. cond (a && b) (rowsFrom signal category node 0 m rows) (stopped rows)) (le-leb n 32 h) (lt-leb m 256 k))
+  many-urns h k = without (ap₂ (λ a b. cond (a && b) (rowsFrom signal category node 0 m rows) (stopped rows)) (le-leb n mostSignals h)
+      (lt-leb m mostTableUrns k))
 
-  pub by-rows : {b : Bool} {rows₁ : List ℕ} {r : ℕ} → n ≤ 32 → m ≤ 256 → rowsFrom signal category node 0 m rows ≡ record { ok = b; held = rows₁ }
+  pub by-rows : {b : Bool} {rows₁ : List ℕ} {r : ℕ} → n ≤ mostSignals → m ≤ mostTableUrns → rowsFrom signal category node 0 m rows
+      ≡ record { ok = b; held = rows₁ }
       → r ≡ numberBy b (firstSilent m signal) (noTwo eqb (tabulate (λ s. getD rows₁ s 0) n)) 0 → Numbered r rows₁
   unfolding rowsBy nodesNumber
   by-rows h k e f =
-      let z = ap₂ (λ a b. cond (a && b) (rowsFrom signal category node 0 m rows) (stopped rows)) (le-leb n 32 h) (le-leb m 256 k) ∙ e in
+      let z = ap₂ (λ a b. cond (a && b) (rowsFrom signal category node 0 m rows) (stopped rows)) (le-leb n mostSignals h) (le-leb m mostTableUrns k) ∙ e in
       (f ∙ sym (ap (nodesNumber n m signal) z), sym (ap (λ (f : Filled). f .held) z))
 
 -- by texts
@@ -151,23 +163,27 @@ module _ (t : List ℕ) (n categories m : ℕ) (signal category at len : List �
   shut e = sym (ap said e ∙ sym (number-nine (firstSilent m signal) (noTwo (samePlacesAt t [] at len categories) (tabulate (λ a. a) n)) 12 refl))
 
   abbrev tested : Bool → Bool → Bool → Filled
-  tested a b c = cond (a && (b && c)) (slotsFrom signal category 0 m (replicate 256 0)) (stopped [])
+  tested a b c = cond (a && (b && c)) (slotsFrom signal category 0 m (replicate mostTableUrns 0)) (stopped [])
 
-  pub texts-signals : 32 < n → 9 ≡ said (slotsBy n categories m signal category)
+  pub texts-signals : mostSignals < n → 9 ≡ said (slotsBy n categories m signal category)
   unfolding slotsBy
-  texts-signals h = shut (ap (λ a. tested a (leb m 256) (leb categories 8)) (lt-leb n 32 h))
+  texts-signals h = shut (ap (λ a. tested a (leb m mostTableUrns) (leb categories 8)) (lt-leb n mostSignals h))
 
-  pub texts-urns : n ≤ 32 → 256 < m → 9 ≡ said (slotsBy n categories m signal category)
+  pub texts-urns : n ≤ mostSignals → mostTableUrns < m → 9 ≡ said (slotsBy n categories m signal category)
   unfolding slotsBy
-  texts-urns h k = shut (ap₂ (λ a b. tested a b (leb categories 8)) (le-leb n 32 h) (lt-leb m 256 k))
+  texts-urns h k = shut (ap₂ (λ a b. tested a b (leb categories 8)) (le-leb n mostSignals h) (lt-leb m mostTableUrns k))
 
-  pub texts-categories : n ≤ 32 → m ≤ 256 → 8 < categories → 9 ≡ said (slotsBy n categories m signal category)
+  pub texts-categories : n ≤ mostSignals → m ≤ mostTableUrns → 8 < categories → 9 ≡ said (slotsBy n categories m signal category)
   unfolding slotsBy
-  texts-categories h k l = shut (ap₂ (λ a b. tested a b (leb categories 8)) (le-leb n 32 h) (le-leb m 256 k) ∙ ap (tested true true) (lt-leb categories 8 l))
+  texts-categories h k l = shut (ap₂ (λ a b. tested a b (leb categories 8)) (le-leb n mostSignals h) (le-leb m mostTableUrns k)
+      ∙ ap (tested true true) (lt-leb categories 8 l))
 
-  pub by-slots : {b : Bool} {slots : List ℕ} {r : ℕ} → n ≤ 32 → m ≤ 256 → categories ≤ 8 → slotsFrom signal category 0 m (replicate 256 0) ≡ record { ok = b; held = slots }
+  pub by-slots : {b : Bool} {slots : List ℕ} {r : ℕ} → n ≤ mostSignals → m ≤ mostTableUrns → categories ≤ 8
+      → slotsFrom signal category 0 m (replicate mostTableUrns 0)
+      ≡ record { ok = b; held = slots }
       → r ≡ numberBy b (firstSilent m signal) (noTwo (samePlacesAt t slots at len categories) (tabulate (λ a. a) n)) 12
       → r ≡ said (slotsBy n categories m signal category)
   unfolding slotsBy textsNumber
   by-slots h k l e f =
-      f ∙ sym (ap said (ap₂ (λ a b. tested a b (leb categories 8)) (le-leb n 32 h) (le-leb m 256 k) ∙ ap (tested true true) (le-leb categories 8 l) ∙ e))
+      f ∙ sym (ap said (ap₂ (λ a b. tested a b (leb categories 8)) (le-leb n mostSignals h) (le-leb m mostTableUrns k)
+      ∙ ap (tested true true) (le-leb categories 8 l) ∙ e))

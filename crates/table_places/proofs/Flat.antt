@@ -1,42 +1,24 @@
 -- Laws of what the signals have, one after the other.
 use Prim.Native.Nat.{ℕ, suc, zero, _+_, _≤_, _<_}
 use mathlib.Core.Path.{_≡_, refl, ap, ap₂, sym, _∙_, subst}
-use mathlib.Core.Logic.{_≢_}
-use mathlib.Core.Bool.{Bool, true, false, cond, not, _&&_, and-false, and-assoc, and-eq-true-iff, false≢true}
-use mathlib.Core.List.{List, [], _∷_, _++_, map, foldl, foldl-append}
+use mathlib.Core.Bool.{Bool, true, false, cond, not, _&&_, and-assoc, and-eq-true-iff}
+use mathlib.Core.List.{List, [], _∷_, _++_, map, foldl, foldl-append, map-append, map-map}
 use native.Mathlib.Omega.{arith}
 use lib.ListN.{length, getD}
 use lib.Dec.{eqb, ltb}
-use borrow.Author.Tests.{eq-eqb, ne-eqb, eqb-true, eqb-false, lt-ltb}
-use Rattle.base_text.specs.Text.{all}
-use Rattle.base_text.proofs.Fields.{byTest}
-use Rattle.theory_resolution.specs.Lists.{tabulate}
+use borrow.Author.Tests.{eq-eqb, ne-eqb, eqb-true, lt-ltb, not-true}
+use Rattle.base_lists.proofs.Numbers.{eqb-sym}
+use Rattle.base_lists.proofs.Tests.{any-join, two-snoc}
+use Rattle.base_lists.proofs.Tabulated.{tabulate-length, tabulate-at}
+use Rattle.base_lists.specs.Lists.{tabulate, joined}
+use Rattle.base_lists.proofs.Bools.{byTest}
+use Rattle.base_lists.specs.Tests.{all, any, noTwo}
 use Rattle.theory_resolution.specs.Names.{Parts}
 use Rattle.theory_resolution.specs.Table.{Urn, Table, placeIn}
 use Rattle.theory_resolution.specs.Nodes.{nodes, addUrn, addSignal}
-use Rattle.theory_resolution.proofs.Lists.{tabulate-length, tabulate-at}
-use Rattle.table_sections.specs.Held.{Tagged, tag, taggedFrom, joined}
-use Rattle.table_places.specs.Tests.{any, noTwo}
+use Rattle.table_sections.specs.Held.{Tagged, tag, taggedFrom}
 use Rattle.table_places.specs.Verdict.{sameCat, noUrn}
 use Rattle.table_places.specs.Slots.{sameKey, slotIn}
-use Rattle.table_places.proofs.TestLaws.{all-join, any-join}
-
-pub map-tab : {A B : Type 0} (g : A → B) (f : ℕ → A) (n : ℕ) → map g (tabulate f n) ≡ tabulate (λ i. g (f i)) n
-unfolding tabulate
-map-tab g f zero = refl
-map-tab g f (suc n) = map-join g (tabulate f n) (f n ∷ []) ∙ ap (λ l. l ++ g (f n) ∷ []) (map-tab g f n)
-  where
-    map-join : {A B : Type 0} (g : A → B) (l r : List A) → map g (l ++ r) ≡ map g l ++ map g r
-    map-join g [] r = refl
-    map-join g (x ∷ l) r = ap (λ z. g x ∷ z) (map-join g l r)
-
-pub map-join : {A B : Type 0} (g : A → B) (l r : List A) → map g (l ++ r) ≡ map g l ++ map g r
-map-join g [] r = refl
-map-join g (x ∷ l) r = ap (λ z. g x ∷ z) (map-join g l r)
-
-map-map : {A B C : Type 0} (g : B → C) (f : A → B) (l : List A) → map g (map f l) ≡ map (λ x. g (f x)) l
-map-map g f [] = refl
-map-map g f (x ∷ l) = ap (λ z. g (f x) ∷ z) (map-map g f l)
 
 -- what stands in the arrays, without the signals' numbers
 abbrev pub whatOf : {A : Type 0} → Tagged A → A
@@ -49,19 +31,7 @@ what-map s (x ∷ l) = ap (λ z. x ∷ z) (what-map s l)
 pub tagged-what : {A : Type 0} (s : ℕ) (ss : List (List A)) → map whatOf (taggedFrom s ss) ≡ joined ss
 unfolding taggedFrom joined
 tagged-what s [] = refl
-tagged-what s (sig ∷ ss) = map-join whatOf (map (tag s) sig) (taggedFrom (suc s) ss) ∙ ap₂ _++_ (what-map s sig) (tagged-what (suc s) ss)
-
-pub all-joined : {A : Type 0} (p : A → Bool) (ss : List (List A)) → all (all p) ss ≡ all p (joined ss)
-unfolding all joined
-all-joined p [] = refl
-all-joined p (sig ∷ ss) = ap (λ b. all p sig && b) (all-joined p ss) ∙ sym (all-join p sig (joined ss))
-
-pub any-joined : {A : Type 0} (p : A → Bool) (ss : List (List A)) → any (any p) ss ≡ any p (joined ss)
-unfolding any joined
-any-joined p [] = refl
-any-joined p (sig ∷ ss) = byTest (any p sig)
-    (λ e. rw e (sym (any-join p sig (joined ss) ∙ rw e)))
-    (λ e. rw e (any-joined p ss ∙ sym (any-join p sig (joined ss) ∙ rw e)))
+tagged-what s (sig ∷ ss) = map-append whatOf (map (tag s) sig) (taggedFrom (suc s) ss) ∙ ap₂ _++_ (what-map s sig) (tagged-what (suc s) ss)
 
 pub nodes-joined : (T : Table) → nodes T ≡ foldl addUrn [] (joined (T .signals))
 unfolding nodes joined
@@ -79,52 +49,8 @@ pub tagged-map : {A B : Type 0} (g : A → B) (s : ℕ) (ss : List (List A)) →
 unfolding taggedFrom
 tagged-map g s [] = refl
 tagged-map g s (sig ∷ ss) =
-    ap₂ _++_ (map-map (tag s) g sig ∙ sym (map-map (onWhat g) (tag s) sig)) (tagged-map g (suc s) ss) ∙ sym (map-join (onWhat g) (map (tag s) sig) (taggedFrom (suc s) ss))
-
--- tests of two lists whose elements test alike
-pub all-alike : {A B : Type 0} (p : A → Bool) (q : B → Bool) (f : ℕ → A) (g : ℕ → B) (n : ℕ) → ((i : ℕ) → i < n → p (f i) ≡ q (g i)) → all p (tabulate f n) ≡ all q (tabulate g n)
-unfolding all tabulate
-all-alike p q f g zero h = refl
-all-alike p q f g (suc n) h =
-    all-join p (tabulate f n) (f n ∷ []) ∙ ap₂ (λ a b. a && (b && true)) (all-alike p q f g n (λ i l. h i (omega arith))) (h n (omega arith)) ∙ sym (all-join q (tabulate g n) (g n ∷ []))
-
-pub any-alike : {A B : Type 0} (p : A → Bool) (q : B → Bool) (f : ℕ → A) (g : ℕ → B) (n : ℕ) → ((i : ℕ) → i < n → p (f i) ≡ q (g i)) → any p (tabulate f n) ≡ any q (tabulate g n)
-unfolding any tabulate
-any-alike p q f g zero h = refl
-any-alike p q f g (suc n) h =
-    any-join p (tabulate f n) (f n ∷ []) ∙ ap₂ (λ a b. cond a true (cond b true false)) (any-alike p q f g n (λ i l. h i (omega arith))) (h n (omega arith)) ∙ sym (any-join q (tabulate g n) (g n ∷ []))
-
-two-snoc : {A : Type 0} (q : A → A → Bool) (l : List A) (x : A) → noTwo q (l ++ x ∷ []) ≡ (noTwo q l && not (any (λ y. q y x) l))
-unfolding noTwo any
-two-snoc q [] x = refl
-two-snoc q (y ∷ l) x =
-    ap₂ (λ a b. not a && b) (any-join (q y) l (x ∷ [])) (two-snoc q l x) ∙ go (any (q y) l) (q y x) (noTwo q l) (any (λ y. q y x) l)
-  where
-    go : (a b c d : Bool) → (not (cond a true (cond b true false)) && (c && not d)) ≡ ((not a && c) && not (cond b true d))
-    go true b c d = refl
-    go false true c d = sym (and-false c)
-    go false false c d = refl
-
-pub two-alike : {A B : Type 0} (p : A → A → Bool) (q : B → B → Bool) (f : ℕ → A) (g : ℕ → B) (n : ℕ)
-    → ((i j : ℕ) → i < j → j < n → p (f i) (f j) ≡ q (g i) (g j)) → noTwo p (tabulate f n) ≡ noTwo q (tabulate g n)
-unfolding noTwo tabulate
-two-alike p q f g zero h = refl
-two-alike p q f g (suc n) h =
-    two-snoc p (tabulate f n) (f n)
-    ∙ ap₂ (λ a b. a && not b) (two-alike p q f g n (λ i j k l. h i j k (omega arith)))
-    (any-alike (λ y. p y (f n)) (λ y. q y (g n)) f g n (λ i l. h i n l (omega arith)))
-    ∙ sym (two-snoc q (tabulate g n) (g n))
-
--- a list is what it has at each place
-pub tab-shift : {A : Type 0} (f : ℕ → A) (n : ℕ) → tabulate f (suc n) ≡ f 0 ∷ tabulate (λ i. f (suc i)) n
-unfolding tabulate
-tab-shift f zero = refl
-tab-shift f (suc n) = ap (λ l. l ++ f (suc n) ∷ []) (tab-shift f n)
-
-pub tab-list : {A : Type 0} (l : List A) (d : A) → tabulate (λ i. getD l i d) (length l) ≡ l
-unfolding tabulate
-tab-list [] d = refl
-tab-list (x ∷ l) d = tab-shift (λ i. getD (x ∷ l) i d) (length l) ∙ ap (λ z. x ∷ z) (tab-list l d)
+    ap₂ _++_ (map-map (tag s) g sig ∙ sym (map-map (onWhat g) (tag s) sig)) (tagged-map g (suc s) ss)
+    ∙ sym (map-append (onWhat g) (map (tag s) sig) (taggedFrom (suc s) ss))
 
 -- no two of one signal and category, over all signals
 abbrev pub sameTag : Tagged Urn → Tagged Urn → Bool
@@ -153,7 +79,10 @@ single-tags s (sig ∷ ss) = ap (λ b. noTwo sameCat sig && b) (single-tags (suc
     go [] = refl
     go (u ∷ sig) =
         let a : any (sameTag (tag s u)) (map (tag s) sig ++ taggedFrom (suc s) ss) ≡ any (sameCat u) sig =
-        any-join (sameTag (tag s u)) (map (tag s) sig) (taggedFrom (suc s) ss) ∙ rw (any-tags s u sig, any-later s (suc s) u ss (omega arith)) (keep (any (sameCat u) sig)) in
+        any-join (sameTag (tag s u)) (map (tag s) sig) (taggedFrom (suc s) ss) ∙ rw (
+          any-tags s u sig,
+          any-later s (suc s) u ss (omega arith),
+        ) (keep (any (sameCat u) sig)) in
         ap₂ (λ x y. not x && y) a (go sig) ∙ sym (and-assoc (not (any (sameCat u) sig)) (noTwo sameCat sig) (noTwo sameTag (taggedFrom (suc s) ss)))
       where
         keep : (b : Bool) → cond b true false ≡ b
@@ -209,13 +138,6 @@ unfolding firstPlace any
 first-none [] s c = refl
 first-none (y ∷ l) s c = byTest (eqb (y .signal) s && eqb (y .what .cat) c) (λ e. rw e) (λ e. rw e (first-none l s c))
 
-eqb-sym : (m n : ℕ) → eqb m n ≡ eqb n m
-eqb-sym m n = byTest (eqb m n) (λ e. e ∙ sym (eq-eqb n m (sym (eqb-true m n e)))) (λ e. e ∙ sym (ne-eqb n m (λ q. eqb-false m n e (sym q))))
-
-not-false : (b : Bool) → not b ≡ true → b ≡ false
-not-false true e = absurd (false≢true e)
-not-false false e = refl
-
 -- the last URN, where those before it have no clash with it
 slot-last : (l : List (Tagged Urn)) (x : Tagged Urn) (s c : ℕ) (p : Parts) → any (λ y. sameTag y x) l ≡ false → firstPlace l s c ≡ p
     → firstPlace (l ++ x ∷ []) s c ≡ cond (sameKey (tag s c) (keyOf x)) (x .what .path) p
@@ -227,7 +149,8 @@ slot-last l x s c p v ih =
     let o : x .signal ≡ s = sym (eqb-true s (x .signal) (a .0)) in
     let q : x .what .cat ≡ c = sym (eqb-true c (x .what .cat) (a .1)) in
     let w : any (λ y. eqb (y .signal) s && eqb (y .what .cat) c) l ≡ false =
-    subst (λ (k : ℕ). any (λ y. eqb (y .signal) s && eqb (y .what .cat) k) l ≡ false) q (subst (λ (k : ℕ). any (λ y. eqb (y .signal) k && eqb (y .what .cat) (x .what .cat)) l ≡ false) o v) in
+    subst (λ (k : ℕ). any (λ y. eqb (y .signal) s && eqb (y .what .cat) k) l ≡ false) q
+    (subst (λ (k : ℕ). any (λ y. eqb (y .signal) k && eqb (y .what .cat) (x .what .cat)) l ≡ false) o v) in
     let m : (eqb (x .signal) s && eqb (x .what .cat) c) ≡ true = ap₂ _&&_ (eq-eqb (x .signal) s o) (eq-eqb (x .what .cat) c q) in
     rw (w, m, b))
     (λ b.
@@ -238,15 +161,18 @@ path-cond : (f : ℕ → Tagged Urn) (n k : ℕ) (b : Bool) → cond b (f n .wha
 path-cond f n k true = refl
 path-cond f n k false = refl
 
-pub slot-place : (f : ℕ → Tagged Urn) (s c n : ℕ) → noTwo sameTag (tabulate f n) ≡ true → firstPlace (tabulate f n) s c ≡ pathIn f (slotIn (λ i. keyOf (f i)) s c n)
+pub slot-place : (f : ℕ → Tagged Urn) (s c n : ℕ) → noTwo sameTag (tabulate f n) ≡ true → firstPlace (tabulate f n) s c
+    ≡ pathIn f (slotIn (λ i. keyOf (f i)) s c n)
 unfolding tabulate slotIn firstPlace
 slot-place f s c zero v = first-nil s c
   where
     first-nil : (s c : ℕ) → firstPlace [] s c ≡ []
     first-nil s c = refl
 slot-place f s c (suc n) v =
-    let a = and-eq-true-iff (noTwo sameTag (tabulate f n)) (not (any (λ y. sameTag y (f n)) (tabulate f n))) .0 (sym (two-snoc sameTag (tabulate f n) (f n)) ∙ v) in
-    slot-last (tabulate f n) (f n) s c (pathIn f (slotIn (λ i. keyOf (f i)) s c n)) (not-false (any (λ y. sameTag y (f n)) (tabulate f n)) (a .1)) (slot-place f s c n (a .0))
+    let a = and-eq-true-iff (noTwo sameTag (tabulate f n)) (not (any (λ y. sameTag y (f n)) (tabulate f n))) .0
+    (sym (two-snoc sameTag (tabulate f n) (f n)) ∙ v) in
+    slot-last (tabulate f n) (f n) s c (pathIn f (slotIn (λ i. keyOf (f i)) s c n)) (not-true (any (λ y. sameTag y (f n)) (tabulate f n))
+    (a .1)) (slot-place f s c n (a .0))
     ∙ path-cond f n (slotIn (λ i. keyOf (f i)) s c n) (sameKey (tag s c) (keyOf (f n)))
 
 pub slot-le : (f : ℕ → Tagged ℕ) (s c n : ℕ) → slotIn f s c n ≤ n
@@ -267,7 +193,8 @@ all-below k [] d i h = absurd (omega arith)
 all-below k (sig ∷ ss) d i h =
     tags-below k (k + suc (length ss)) sig (taggedFrom (suc k) ss) i d (omega arith) (λ j l. omega (arith, all-below (suc k) ss d j l)) h
 
-pub tagged-below : {A : Type 0} (k : ℕ) (ss : List (List A)) (f : ℕ → Tagged A) (n : ℕ) → tabulate f n ≡ taggedFrom k ss → (i : ℕ) → i < n → f i .signal < k + length ss
+pub tagged-below : {A : Type 0} (k : ℕ) (ss : List (List A)) (f : ℕ → Tagged A) (n : ℕ) → tabulate f n ≡ taggedFrom k ss → (i : ℕ) → i < n
+    → f i .signal < k + length ss
 tagged-below {A} k ss f n e i h =
     let x : getD (taggedFrom k ss) i (f i) ≡ f i = ap (λ (l : List (Tagged A)). getD l i (f i)) (sym e) ∙ tabulate-at f n i (f i) h in
     let l : i < length (taggedFrom k ss) = omega (arith, ap length e, tabulate-length f n) in
@@ -291,7 +218,8 @@ above ss f n e h =
     omega (arith, least 1 ss (f 0) 0 l, ap (λ (y : Tagged Urn). y .signal) x)
 
 -- whether signal 0 has a URN
-pub plain-tags : (ss : List (List Urn)) (f : ℕ → Tagged Urn) (n : ℕ) {b : Bool} → tabulate f n ≡ taggedFrom 0 ss → (n ≡ 0 → b ≡ true) → (0 < n → b ≡ ltb 0 (f 0 .signal))
+pub plain-tags : (ss : List (List Urn)) (f : ℕ → Tagged Urn) (n : ℕ) {b : Bool} → tabulate f n ≡ taggedFrom 0 ss → (n ≡ 0 → b ≡ true)
+    → (0 < n → b ≡ ltb 0 (f 0 .signal))
     → b ≡ noUrn (getD ss 0 [])
 unfolding taggedFrom
 plain-tags [] f n e z p = z (sym (tabulate-length f n) ∙ ap length e)

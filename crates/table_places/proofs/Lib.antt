@@ -1,4 +1,3 @@
-pub mod TestLaws
 pub mod SlotLaws
 pub mod Flat
 pub mod RowLaws

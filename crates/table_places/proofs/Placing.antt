@@ -9,9 +9,15 @@ use native.Mathlib.Nat.{zero-add}
 use lib.ListN.{length, getD, List·getD-eq-default}
 use lib.Dec.{eqb, ltb}
 use borrow.Author.Tests.{eq-eqb, ne-eqb, eqb-true, le-leb, lt-leb, ltb-true, ltb-false}
-use Rattle.base_text.specs.Text.{all, fields}
-use Rattle.base_text.proofs.Fields.{byTest, same-fields, fields-first}
-use Rattle.theory_resolution.specs.Lists.{tabulate}
+use Rattle.base_numbers.specs.Numbers.{mostNodes, mostSignals}
+use Rattle.base_lists.specs.Cuts.{stretch}
+use Rattle.base_lists.proofs.Tabulated.{tab-list, tab-shift}
+use Rattle.base_lists.proofs.Tests.{all-alike, two-alike}
+use Rattle.base_lists.specs.Lists.{tabulate}
+use Rattle.base_lists.proofs.Bools.{byTest, same-test}
+use Rattle.base_lists.specs.Tests.{all, noTwo}
+use Rattle.base_text.specs.Text.{fields}
+use Rattle.base_text.proofs.Fields.{same-fields, fields-first}
 use Rattle.theory_resolution.specs.Names.{Parts, sameParts}
 use Rattle.theory_resolution.specs.Table.{Urn, Table, Row, placeIn, place, rowFrom, rowOf, sameRow}
 use Rattle.theory_resolution.specs.Nodes.{nodes, number, RootOrNode}
@@ -19,28 +25,28 @@ use Rattle.theory_resolution.proofs.Names.{row-exact}
 use Rattle.theory_resolution.proofs.Table.{row-place, row-length}
 use Rattle.theory_resolution.proofs.Nodes.{row-nodes}
 use Rattle.theory_resolution.proofs.Numbers.{root-number, number-le}
-use Rattle.node_search.specs.Arrays.{stretch}
 use Rattle.node_step.specs.Rows.{pack, numbersFrom}
 use Rattle.node_step.proofs.NumberLaws.{numbers-length, numbers-at, numbers-bytes, numbers-same, Anchored}
 use Rattle.node_step.proofs.PackedLaws.{pack-same}
 use Rattle.table_sections.specs.Held.{Tagged, Padded}
-use Rattle.table_places.specs.Tests.{noTwo}
 use Rattle.table_places.specs.Verdict.{samePlaces, single, zeroSilent, distinct, fewNodes, verdict}
-use Rattle.table_places.specs.Slots.{urnOf, Listing, Numbering, Placed, InRange, keyAt, sameKey, slotIn, nodeIn, rowIn, Fillable, sameSlots, samePlacesAt}
-use Rattle.table_places.proofs.TestLaws.{same-test}
+use Rattle.table_places.specs.Slots.{urnOf, Listing, Numbering, Placed, InRange, keyAt, sameKey, slotIn, nodeIn, rowIn, Fillable, sameSlots}
+use Rattle.table_places.specs.Slots.{samePlacesAt}
 use Rattle.table_places.proofs.SlotLaws.{slot-key}
 use Rattle.table_places.proofs.RowLaws.{node-none, node-some}
-use Rattle.table_places.proofs.Flat.{all-alike, two-alike, tab-list, tab-shift, sameTag, single-tags, plain-tags, tagged-below, firstPlace, first-place, pathIn, slot-place}
+use Rattle.table_places.proofs.Flat.{sameTag, single-tags, plain-tags, tagged-below, firstPlace, first-place, pathIn, slot-place}
 
 -- rows, place by place
-pub row-all : (a b : List Urn) (c n : ℕ) → sameRow (rowFrom a c n) (rowFrom b c n) ≡ all (λ i. sameParts (placeIn a (c + i)) (placeIn b (c + i))) (tabulate (λ i. i) n)
+pub row-all : (a b : List Urn) (c n : ℕ) → sameRow (rowFrom a c n) (rowFrom b c n)
+    ≡ all (λ i. sameParts (placeIn a (c + i)) (placeIn b (c + i))) (tabulate (λ i. i) n)
 unfolding all tabulate
 row-all a b c zero = refl
 row-all a b c (suc n) =
     let z : c + 0 ≡ c = omega arith in
     ap₂ _&&_ (ap (λ k. sameParts (placeIn a k) (placeIn b k)) (sym z))
     (row-all a b (suc c) n
-    ∙ all-alike (λ i. sameParts (placeIn a (suc c + i)) (placeIn b (suc c + i))) (λ i. sameParts (placeIn a (c + i)) (placeIn b (c + i))) (λ i. i) (λ i. suc i) n
+    ∙ all-alike (λ i. sameParts (placeIn a (suc c + i)) (placeIn b (suc c + i))) (λ i. sameParts (placeIn a (c + i)) (placeIn b (c + i)))
+    (λ i. i) (λ i. suc i) n
     (λ i h. let y : suc c + i ≡ c + suc i = omega arith in ap (λ k. sameParts (placeIn a k) (placeIn b k)) y))
     ∙ sym (ap (all (λ i. sameParts (placeIn a (c + i)) (placeIn b (c + i)))) (tab-shift (λ i. i) n))
 
@@ -65,7 +71,7 @@ module _ {T : Table} {signal category : List ℕ} {path : ℕ → Parts} {n m : 
   )
 
   -- rows without a place can be filled by the table's URNs
-  pub fillable : {node : List ℕ} (rows : List ℕ) → Numbering T category path node m → Padded 32 0 rows → Fillable signal category node rows m
+  pub fillable : {node : List ℕ} (rows : List ℕ) → Numbering T category path node m → Padded mostSignals 0 rows → Fillable signal category node rows m
   fillable rows N p = (
     in-range,
     λ i h. (N .no-root i h, omega (arith, N .numbers i h, number-le (nodes T) (getD category i 0) (path i), N .few-nodes)),
@@ -98,7 +104,8 @@ pub record Passed (T : Table) (signal category : List ℕ) (path : ℕ → Parts
   pub silent : zeroSilent T ≡ true
 
 pub passed : {T : Table} {signal category : List ℕ} {path : ℕ → Parts} {n m : ℕ} (L : Listing T signal category path n m) {a b : Bool}
-    → a ≡ noTwo sameKey (tabulate (keyAt signal category) m) → a ≡ true → (m ≡ 0 → b ≡ true) → (0 < m → b ≡ ltb 0 (getD signal 0 0)) → b ≡ true → Passed T signal category path n m
+    → a ≡ noTwo sameKey (tabulate (keyAt signal category) m) → a ≡ true → (m ≡ 0 → b ≡ true) → (0 < m → b ≡ ltb 0 (getD signal 0 0))
+    → b ≡ true → Passed T signal category path n m
 passed L e x f g y = record { listing = L; once = single-as L e ∙ x; silent = plain-as L f g ∙ y }
 
 module _ {T : Table} {signal category : List ℕ} {path : ℕ → Parts} {n m : ℕ} (S : Passed T signal category path n m) where
@@ -178,16 +185,16 @@ module _ {T : Table} {signal category : List ℕ} {path : ℕ → Parts} {n m : 
         let g = ltb-false c (T .cats) b in
         blank s c (slot s c) refl g ∙ sym (List·getD-eq-default (numbers s) 0 (omega (arith, wide s, g))))
 
-    module _ (rows : List ℕ) (v : (s : ℕ) → s < 32 → getD rows s 0 ≡ rowIn (keyAt signal category) node s m) where
+    module _ (rows : List ℕ) (v : (s : ℕ) → s < mostSignals → getD rows s 0 ≡ rowIn (keyAt signal category) node s m) where
       packed : (s : ℕ) → s < n → getD rows s 0 ≡ pack (numbers s)
       packed s k = v s (omega (arith, L .few-signals)) ∙ packed-is (numbers s) (node-at s) 8 (omega (arith, wide s, L .few-categories)) (λ j i. digit s j)
 
-      past : length rows ≡ 32 → Padded 32 n rows
+      past : length rows ≡ mostSignals → Padded mostSignals n rows
       past w = (
         w,
-        λ s h. byTest (ltb s 32)
-            (λ b. v s (ltb-true s 32 b) ∙ packed-is [] (node-at s) 8 (omega arith) (λ j i. absent s j (slot s j) refl h))
-            (λ b. List·getD-eq-default rows 0 (omega (arith, w, ltb-false s 32 b))),
+        λ s h. byTest (ltb s mostSignals)
+            (λ b. v s (ltb-true s mostSignals b) ∙ packed-is [] (node-at s) 8 (omega arith) (λ j i. absent s j (slot s j) refl h))
+            (λ b. List·getD-eq-default rows 0 (omega (arith, w, ltb-false s mostSignals b))),
       )
 
       anchored : (s : ℕ) → s < n → Anchored T 0 (rowOf T s)
@@ -200,9 +207,11 @@ module _ {T : Table} {signal category : List ℕ} {path : ℕ → Parts} {n m : 
           (λ e.
           let w : pack (numbers i) ≡ pack (numbers j) = sym (packed i a) ∙ eqb-true _ _ e ∙ packed j b in
           let s : numbers i ≡ numbers j =
-          pack-same (numbers i) (numbers j) (wide i ∙ sym (wide j)) (numbers-bytes (nodes T) (N .few-nodes) 0 (rowOf T i)) (numbers-bytes (nodes T) (N .few-nodes) 0 (rowOf T j)) w in
+          pack-same (numbers i) (numbers j) (wide i ∙ sym (wide j)) (numbers-bytes (nodes T) (N .few-nodes) 0 (rowOf T i))
+          (numbers-bytes (nodes T) (N .few-nodes) 0 (rowOf T j)) w in
           let u : rowOf T i ≡ rowOf T j =
-          numbers-same T 0 (rowOf T i) (rowOf T j) (anchored i a) (anchored j b) (row-length (getD (T .signals) i []) 0 (T .cats) ∙ sym (row-length (getD (T .signals) j []) 0 (T .cats))) s in
+          numbers-same T 0 (rowOf T i) (rowOf T j) (anchored i a) (anchored j b) (row-length (getD (T .signals) i []) 0 (T .cats)
+          ∙ sym (row-length (getD (T .signals) j []) 0 (T .cats))) s in
           subst (λ (r : Row). sameRow (rowOf T i) r ≡ true) u (row-exact .self (rowOf T i)))
 
       by-rows : {b : Bool} → b ≡ noTwo eqb (tabulate (λ s. getD rows s 0) n) → distinct T ≡ b
@@ -212,9 +221,9 @@ module _ {T : Table} {signal category : List ℕ} {path : ℕ → Parts} {n m : 
 
       accepted : {b : Bool} → b ≡ noTwo eqb (tabulate (λ s. getD rows s 0) n) → b ≡ true → 0 ≡ verdict T
       unfolding verdict fewNodes
-      accepted e z = sym (rw (S .once, S .silent, by-rows e ∙ z, le-leb (length (nodes T)) 64 (N .few-nodes)))
+      accepted e z = sym (rw (S .once, S .silent, by-rows e ∙ z, le-leb (length (nodes T)) mostNodes (N .few-nodes)))
 
-      pub rows-good : {b : Bool} → b ≡ noTwo eqb (tabulate (λ s. getD rows s 0) n) → b ≡ true → length rows ≡ 32 → Placed T rows n 0
+      pub rows-good : {b : Bool} → b ≡ noTwo eqb (tabulate (λ s. getD rows s 0) n) → b ≡ true → length rows ≡ mostSignals → Placed T rows n 0
       rows-good e z w = record { refusal = accepted e z; packed = λ _. packed; past = λ _. past w }
 
       pub rows-eleven : {b : Bool} → b ≡ noTwo eqb (tabulate (λ s. getD rows s 0) n) → b ≡ false → 11 ≡ verdict T
@@ -245,7 +254,8 @@ module _ (t at len : List ℕ) {T : Table} {signal category : List ℕ} {n m : �
     rows-texts a b =
         ap (λ n. samePlaces n (getD (T .signals) a []) (getD (T .signals) b [])) g
         ∙ row-all (getD (T .signals) a []) (getD (T .signals) b []) 0 k
-        ∙ all-alike (λ i. sameParts (place T a (0 + i)) (place T b (0 + i))) (λ c. sameSlots t at len (getD slots (8 * a + c) 0) (getD slots (8 * b + c) 0)) (λ i. i) (λ c. c) k
+        ∙ all-alike (λ i. sameParts (place T a (0 + i)) (place T b (0 + i))) (λ c. sameSlots t at len (getD slots (8 * a + c) 0)
+        (getD slots (8 * b + c) 0)) (λ i. i) (λ c. c) k
         (λ c h.
         let l : c < 8 = omega arith in
         ap (λ i. sameParts (place T a i) (place T b i)) (zero-add c) ∙ ap₂ sameParts (place-slot S a c) (place-slot S b c) ∙ same-slot (slot S a c) (slot S b c)
@@ -257,11 +267,11 @@ module _ (t at len : List ℕ) {T : Table} {signal category : List ℕ} {n m : �
     by-texts : distinct T ≡ test
     by-texts = distinct-by S (samePlacesAt t slots at len k) (λ i j h l. rows-texts i j)
 
-    twelve : 64 < length (nodes T) → test ≡ true → 12 ≡ verdict T
+    twelve : mostNodes < length (nodes T) → test ≡ true → 12 ≡ verdict T
     unfolding verdict fewNodes
-    twelve h z = sym (rw (S .once, S .silent, by-texts ∙ z, lt-leb (length (nodes T)) 64 h))
+    twelve h z = sym (rw (S .once, S .silent, by-texts ∙ z, lt-leb (length (nodes T)) mostNodes h))
 
-    pub crowded-right : {r : ℕ} → 64 < length (nodes T) → r ≡ cond test 12 11 → r ≡ verdict T
+    pub crowded-right : {r : ℕ} → mostNodes < length (nodes T) → r ≡ cond test 12 11 → r ≡ verdict T
     crowded-right h e =
         byTest test
         (λ q. e ∙ ap (λ b. cond b 12 11) q ∙ twelve h q)

@@ -9,20 +9,20 @@ use lib.ListN.{length, getD, set, length-set, List·getD-eq-default}
 use lib.Seq.{getD-set-same, getD-set-other}
 use lib.Dec.{eqb, ltb}
 use borrow.Author.Tests.{eq-eqb, ne-eqb, eqb-true, eqb-false, ltb-true, ltb-false}
-use Rattle.base_text.proofs.Fields.{byTest}
-use Rattle.theory_resolution.specs.Lists.{tabulate}
+use Rattle.base_numbers.specs.Numbers.{mostSignals}
+use Rattle.base_lists.specs.Cuts.{stretch}
+use Rattle.base_lists.proofs.Tests.{two-fails, two-next}
+use Rattle.base_lists.specs.Tests.{noTwo}
+use Rattle.base_lists.proofs.Tabulated.{tabulate-length, tabulate-at, tabulate-same, tab-list}
+use Rattle.base_lists.specs.Lists.{tabulate}
+use Rattle.base_lists.proofs.Bools.{byTest}
 use Rattle.theory_resolution.specs.Names.{sameName}
-use Rattle.theory_resolution.proofs.Lists.{tabulate-length, tabulate-at, tabulate-same}
-use Rattle.node_search.specs.Arrays.{stretch}
 use Rattle.node_step.specs.Step.{digit, put}
 use Rattle.node_step.specs.Rows.{pack}
 use Rattle.node_step.proofs.PackedLaws.{Bytes, pack-digit, pack-set}
 use Rattle.table_sections.specs.Held.{Tagged, tag}
-use Rattle.table_places.specs.Tests.{noTwo}
 use Rattle.table_places.specs.Slots.{keyAt, sameKey, slotIn, nodeIn, rowIn, sameSlots}
-use Rattle.table_places.proofs.TestLaws.{two-fails, two-next}
 use Rattle.table_places.proofs.SlotLaws.{slot-none, slot-some, slot-key}
-use Rattle.table_places.proofs.Flat.{tab-list}
 
 module _ (f : ℕ → Tagged ℕ) (node : List ℕ) (s c : ℕ) where
   -- the node of a slot: its URN's, or none
@@ -68,7 +68,7 @@ bytes-start f node s c = omega arith
 -- the i-th URN, of signal x and category y, is put into its row
 module _ (signal category node rows : List ℕ) (i x y : ℕ) (e : x ≡ getD signal i 0) (g : y ≡ getD category i 0) (h : y < 8)
     (small : (s c : ℕ) → nodeIn (keyAt signal category) node s c i < 256)
-    (v : (s : ℕ) → s < 32 → getD rows s 0 ≡ rowIn (keyAt signal category) node s i) (k : x < 32) where
+    (v : (s : ℕ) → s < mostSignals → getD rows s 0 ≡ rowIn (keyAt signal category) node s i) (k : x < mostSignals) where
   abbrev f : ℕ → Tagged ℕ
   f = keyAt signal category
 
@@ -78,7 +78,11 @@ module _ (signal category node rows : List ℕ) (i x y : ℕ) (e : x ≡ getD si
   list-bytes : (s : ℕ) → Bytes (list s)
   list-bytes s c = byTest (ltb c 8)
       (λ b. omega (arith, tabulate-at (λ c. nodeIn f node s c i) 8 c 0 (ltb-true c 8 b), small s c))
-      (λ b. let z : getD (list s) c 0 ≡ 0 = List·getD-eq-default (list s) 0 (omega (arith, tabulate-length (λ c. nodeIn f node s c i) 8, ltb-false c 8 b)) in omega (arith, z))
+      (λ b. let z : getD (list s) c 0 ≡ 0 = List·getD-eq-default (list s) 0 (omega (
+        arith,
+        tabulate-length (λ c. nodeIn f node s c i) 8,
+        ltb-false c 8 b,
+      )) in omega (arith, z))
 
   place-at : digit (getD rows x 0) y ≡ nodeIn f node (getD signal i 0) (getD category i 0) i
   place-at =
@@ -87,11 +91,14 @@ module _ (signal category node rows : List ℕ) (i x y : ℕ) (e : x ≡ getD si
 
   pub row-twice : (m : ℕ) → i < m → (digit (getD rows x 0) y ≡ 0 → ⊥) → false ≡ noTwo sameKey (tabulate f m)
   row-twice m l n =
-      two-fails sameKey f i m l (slot-some f (getD signal i 0) (getD category i 0) i (λ z. n (place-at ∙ node-none f node (getD signal i 0) (getD category i 0) i z)))
+      two-fails sameKey f i m l (slot-some f (getD signal i 0) (getD category i 0) i
+      (λ z. n (place-at ∙ node-none f node (getD signal i 0) (getD category i 0) i z)))
 
-  pub row-once : ((j : ℕ) → j < i → 0 < getD node j 0) → noTwo sameKey (tabulate f i) ≡ true → digit (getD rows x 0) y ≡ 0 → noTwo sameKey (tabulate f (i + 1)) ≡ true
+  pub row-once : ((j : ℕ) → j < i → 0 < getD node j 0) → noTwo sameKey (tabulate f i) ≡ true → digit (getD rows x 0) y ≡ 0
+      → noTwo sameKey (tabulate f (i + 1)) ≡ true
   row-once u w n =
-      two-next sameKey f i i w (slot-none f (getD signal i 0) (getD category i 0) i (no-slot f node (getD signal i 0) (getD category i 0) i u (sym place-at ∙ n)))
+      two-next sameKey f i i w (slot-none f (getD signal i 0) (getD category i 0) i (no-slot f node (getD signal i 0) (getD category i 0) i
+      u (sym place-at ∙ n)))
 
   is-key : (s c : ℕ) → sameKey (tag s c) (f i) ≡ true → (s ≡ x) × (c ≡ y)
   is-key s c b =
@@ -123,8 +130,8 @@ module _ (signal category node rows : List ℕ) (i x y : ℕ) (e : x ≡ getD si
       let z = eqb-false c y b in
       getD-set-other (list x) y c p 0 z ∙ tabulate-at (λ c. nodeIn f node x c i) 8 c 0 l ∙ stays x c (λ o. z (o .1))))
 
-  pub row-put : (r p : ℕ) → r ≡ put (getD rows x 0) y p → p ≡ getD node i 0 → length rows ≡ 32
-      → (s : ℕ) → s < 32 → getD (set rows x r) s 0 ≡ rowIn f node s (i + 1)
+  pub row-put : (r p : ℕ) → r ≡ put (getD rows x 0) y p → p ≡ getD node i 0 → length rows ≡ mostSignals
+      → (s : ℕ) → s < mostSignals → getD (set rows x r) s 0 ≡ rowIn f node s (i + 1)
   row-put r p q o w s l = byTest (eqb s x)
       (λ b.
       let z = eqb-true s x b in
@@ -145,6 +152,7 @@ module _ (t at len : List ℕ) (x y : ℕ) where
   unfolding sameSlots
   slot-second n e = sym (rw (ne-eqb x 0 n, eq-eqb y 0 e))
 
-  pub slot-both : {u v : List ℕ} {b : Bool} → (x ≡ 0 → ⊥) → (y ≡ 0 → ⊥) → b ≡ sameName u v → u ≡ stretch t at len (x - 1) → v ≡ stretch t at len (y - 1) → b ≡ sameSlots t at len x y
+  pub slot-both : {u v : List ℕ} {b : Bool} → (x ≡ 0 → ⊥) → (y ≡ 0 → ⊥) → b ≡ sameName u v → u ≡ stretch t at len (x - 1)
+      → v ≡ stretch t at len (y - 1) → b ≡ sameSlots t at len x y
   unfolding sameSlots
   slot-both n m e f g = e ∙ ap₂ sameName f g ∙ sym (rw (ne-eqb x 0 n, ne-eqb y 0 m))

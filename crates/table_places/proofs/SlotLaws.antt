@@ -9,12 +9,12 @@ use lib.ListN.{length, getD, set}
 use lib.Seq.{getD-set-same, getD-set-other}
 use lib.Dec.{eqb}
 use borrow.Author.Tests.{eq-eqb, eqb-true, eqb-false, ne-eqb}
-use Rattle.base_text.proofs.Fields.{byTest}
-use Rattle.theory_resolution.specs.Lists.{tabulate}
+use Rattle.base_lists.proofs.Tests.{two-fails, two-next}
+use Rattle.base_lists.specs.Tests.{any, noTwo}
+use Rattle.base_lists.specs.Lists.{tabulate}
+use Rattle.base_lists.proofs.Bools.{byTest}
 use Rattle.table_sections.specs.Held.{Tagged, tag}
-use Rattle.table_places.specs.Tests.{any, noTwo}
 use Rattle.table_places.specs.Slots.{keyAt, sameKey, slotIn}
-use Rattle.table_places.proofs.TestLaws.{two-fails, two-next}
 
 any-tab : {A : Type 0} (p : A → Bool) (l : List A) (x : A) → any p (l ++ x ∷ []) ≡ cond (any p l) true (p x)
 unfolding any
@@ -62,9 +62,11 @@ module _ (signal category slots : List ℕ) (i m x y : ℕ) (e : x ≡ getD sign
   here = v x y h ∙ ap₂ (λ s c. slotIn (keyAt signal category) s c i) e g
 
   pub slot-twice : i < m → (getD slots (8 * x + y) 0 ≡ 0 → ⊥) → false ≡ noTwo sameKey (tabulate (keyAt signal category) m)
-  slot-twice l n = two-fails sameKey (keyAt signal category) i m l (slot-some (keyAt signal category) (getD signal i 0) (getD category i 0) i (λ z. n (here ∙ z)))
+  slot-twice l n = two-fails sameKey (keyAt signal category) i m l (slot-some (keyAt signal category) (getD signal i 0) (getD category i 0)
+      i (λ z. n (here ∙ z)))
 
-  pub slot-once : noTwo sameKey (tabulate (keyAt signal category) i) ≡ true → getD slots (8 * x + y) 0 ≡ 0 → noTwo sameKey (tabulate (keyAt signal category) (i + 1)) ≡ true
+  pub slot-once : noTwo sameKey (tabulate (keyAt signal category) i) ≡ true → getD slots (8 * x + y) 0 ≡ 0
+      → noTwo sameKey (tabulate (keyAt signal category) (i + 1)) ≡ true
   slot-once w n = two-next sameKey (keyAt signal category) i m w (slot-none (keyAt signal category) (getD signal i 0) (getD category i 0) i (sym here ∙ n))
 
   pub slot-put : (r : ℕ) → r ≡ i + 1 → 8 * x + y < length slots
@@ -84,7 +86,8 @@ module _ (signal category slots : List ℕ) (i m x y : ℕ) (e : x ≡ getD sign
       true≢false (sym w ∙ b))
       ∙ v s c k)))
 
-pub slot-start : (signal category slots : List ℕ) → ((k : ℕ) → getD slots k 0 ≡ 0) → (s c : ℕ) → c < 8 → getD slots (8 * s + c) 0 ≡ slotIn (keyAt signal category) s c 0
+pub slot-start : (signal category slots : List ℕ) → ((k : ℕ) → getD slots k 0 ≡ 0) → (s c : ℕ) → c < 8 → getD slots (8 * s + c) 0
+    ≡ slotIn (keyAt signal category) s c 0
 unfolding slotIn
 slot-start signal category slots z s c h = z (8 * s + c)
 

@@ -1,5 +1,4 @@
 -- what a reader has to believe
-pub mod Tests
 pub mod Verdict
 -- what only the code's inner promises use
 pub mod Slots

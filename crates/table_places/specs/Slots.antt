@@ -5,12 +5,13 @@ use mathlib.Core.Bool.{Bool, false, cond, _&&_}
 use mathlib.Core.List.{List}
 use lib.ListN.{length, getD}
 use lib.Dec.{eqb}
-use Rattle.theory_resolution.specs.Lists.{tabulate}
+use Rattle.base_numbers.specs.Numbers.{mostCategories, mostNodes, mostSignals, mostTableUrns}
+use Rattle.base_lists.specs.Cuts.{stretch}
+use Rattle.base_lists.specs.Tests.{all}
+use Rattle.base_lists.specs.Lists.{tabulate}
 use Rattle.theory_resolution.specs.Names.{Parts, sameName}
 use Rattle.theory_resolution.specs.Table.{Urn, urn, Table, rowOf}
 use Rattle.theory_resolution.specs.Nodes.{nodes, number}
-use Rattle.base_text.specs.Text.{all}
-use Rattle.node_search.specs.Arrays.{stretch}
 use Rattle.node_step.specs.Rows.{pack, numbersFrom}
 use Rattle.table_sections.specs.Held.{Tagged, tag, taggedFrom, Padded}
 use Rattle.table_places.specs.Verdict.{verdict}
@@ -24,25 +25,25 @@ pub record Listing (T : Table) (signal category : List ℕ) (path : ℕ → Part
   pub signals : length (T .signals) ≡ n
   pub urns : tabulate (urnOf signal category path) m ≡ taggedFrom 0 (T .signals)
   pub known : (i : ℕ) → i < m → getD category i 0 < T .cats
-  pub few-categories : T .cats ≤ 8
-  pub few-signals : n ≤ 32
-  pub few-urns : m ≤ 256
+  pub few-categories : T .cats ≤ mostCategories
+  pub few-signals : n ≤ mostSignals
+  pub few-urns : m ≤ mostTableUrns
 
 -- each URN has a node, with its number, and there are not too many
 pub record Numbering (T : Table) (category : List ℕ) (path : ℕ → Parts) (node : List ℕ) (m : ℕ) : Type 0 where
   pub no-root : (i : ℕ) → i < m → 0 < getD node i 0
   pub numbers : (i : ℕ) → i < m → getD node i 0 ≡ number (nodes T) (getD category i 0) (path i)
-  pub few-nodes : length (nodes T) ≤ 64
+  pub few-nodes : length (nodes T) ≤ mostNodes
 
 -- the answer for a table: its number; and if it is not refused, the places of its n signals, and nothing after them
 pub record Placed (T : Table) (rows : List ℕ) (n : ℕ) (r : ℕ) : Type 0 where
   pub refusal : r ≡ verdict T
   pub packed : r ≡ 0 → (s : ℕ) → s < n → getD rows s 0 ≡ pack (numbersFrom (nodes T) 0 (rowOf T s))
-  pub past : r ≡ 0 → Padded 32 n rows
+  pub past : r ≡ 0 → Padded mostSignals n rows
 
 -- the m signals and categories are such as a table can have
 abbrev pub InRange : List ℕ → List ℕ → ℕ → Type 0
-InRange signal category m = ((i : ℕ) → i < m → getD signal i 0 < 32) × ((i : ℕ) → i < m → getD category i 0 < 8)
+InRange signal category m = ((i : ℕ) → i < m → getD signal i 0 < mostSignals) × ((i : ℕ) → i < m → getD category i 0 < mostCategories)
 
 -- the signal and the category of the i-th URN
 abbrev pub keyAt : List ℕ → List ℕ → ℕ → Tagged ℕ
@@ -63,11 +64,11 @@ nodeIn f node s c (suc n) = cond (sameKey (tag s c) (f n)) (getD node n 0) (node
 
 -- the places of signal s by n URNs, in one number
 abbrev pub rowIn : (ℕ → Tagged ℕ) → List ℕ → ℕ → ℕ → ℕ
-rowIn f node s n = pack (tabulate (λ c. nodeIn f node s c n) 8)
+rowIn f node s n = pack (tabulate (λ c. nodeIn f node s c n) mostCategories)
 
 -- rows without a place, to be filled by m URNs that each have a node, as a table can have them
 abbrev pub Fillable : (signal category node rows : List ℕ) (m : ℕ) → Type 0
-Fillable signal category node rows m = InRange signal category m × ((i : ℕ) → i < m → (0 < getD node i 0) × (getD node i 0 ≤ 64)) × Padded 32 0 rows
+Fillable signal category node rows m = InRange signal category m × ((i : ℕ) → i < m → (0 < getD node i 0) × (getD node i 0 ≤ mostNodes)) × Padded mostSignals 0 rows
 
 -- the paths of two slots are the same, or both are empty
 unfoldable pub sameSlots : List ℕ → List ℕ → List ℕ → ℕ → ℕ → Bool

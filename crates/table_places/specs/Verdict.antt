@@ -4,10 +4,10 @@ use mathlib.Core.Bool.{Bool, true, false, cond}
 use mathlib.Core.List.{List, [], _∷_}
 use lib.ListN.{length, getD}
 use lib.Dec.{leb, eqb}
+use Rattle.base_numbers.specs.Numbers.{mostNodes, tableBadDefault, tableSamePlaces, tableTooManyNodes, tableTwoOfCategory}
+use Rattle.base_lists.specs.Tests.{all, noTwo}
 use Rattle.theory_resolution.specs.Table.{Urn, Table, rowFrom, sameRow}
 use Rattle.theory_resolution.specs.Nodes.{nodes}
-use Rattle.base_text.specs.Text.{all}
-use Rattle.table_places.specs.Tests.{noTwo}
 
 -- 9: no signal has two URNs of one category
 abbrev pub sameCat : Urn → Urn → Bool
@@ -33,8 +33,8 @@ distinct T = noTwo (samePlaces (T .cats)) (T .signals)
 
 -- 12: at most 64 nodes
 unfoldable pub fewNodes : Table → Bool
-fewNodes T = leb (length (nodes T)) 64
+fewNodes T = leb (length (nodes T)) mostNodes
 
 -- the first of 9 to 12 that holds of a table, or 0
 unfoldable pub verdict : Table → ℕ
-verdict T = cond (single T) (cond (zeroSilent T) (cond (distinct T) (cond (fewNodes T) 0 12) 11) 10) 9
+verdict T = cond (single T) (cond (zeroSilent T) (cond (distinct T) (cond (fewNodes T) 0 tableTooManyNodes) tableSamePlaces) tableBadDefault) tableTwoOfCategory

@@ -1,5 +1,11 @@
-use base_text::cut::wide;
-use base_text::cut::wider;
+// The places of the signals as rows of nodes, and whether two signals have the same: refusals 9, 11 and 12.
+use base_bytes::numbers::wide;
+use base_bytes::numbers::wider;
+use base_numbers::LAST_SIGNAL;
+use base_numbers::MOST_SIGNALS;
+use base_numbers::MOST_TABLE_URNS;
+use base_numbers::TABLE_SAME_PLACES;
+use base_numbers::TABLE_TOO_MANY_NODES;
 use node_search::texts::urn_text;
 use node_step::rows::place_in;
 use node_step::rows::with_place;
@@ -8,30 +14,30 @@ ghost use mathlib.Core.Bool.{true, cond};
 ghost use Prim.Native.Nat.{ℕ, _≤_, _<_, _+_, _*_, _-_};
 ghost use lib.ListN.{length, getD};
 ghost use lib.Dec.{eqb};
-ghost use Rattle.theory_resolution.specs.Lists.{tabulate};
-ghost use Rattle.base_text.specs.Text.{all};
-ghost use Rattle.table_places.specs.Tests.{any, noTwo};
+ghost use Rattle.base_numbers.specs.Numbers.{mostCategories, mostSignals, mostTableUrns};
+ghost use Rattle.base_lists.specs.Tests.{all, any, noTwo};
+ghost use Rattle.base_lists.specs.Lists.{tabulate};
 ghost use Rattle.table_places.specs.Slots.{keyAt, sameKey, rowIn, Fillable, sameSlots, samePlacesAt};
 ghost use Rattle.table_places.specs.Filled.{rowsFrom};
 
 // The places of the signals: each of m URNs gives its signal a node in its category; false if a signal has two of one.
 pub(crate) fn fill_rows(
     m: usize,
-    signal: &[u8; 256],
-    category: &[u8; 256],
-    node: &[u8; 256],
-    rows: &mut [u64; 32],
+    signal: &[u8; MOST_TABLE_URNS],
+    category: &[u8; MOST_TABLE_URNS],
+    node: &[u8; MOST_TABLE_URNS],
+    rows: &mut [u64; MOST_SIGNALS],
 ) -> bool
-    requires { ⌜ m ≤ 256 ⌝ }
+    requires { ⌜ m ≤ mostTableUrns ⌝ }
     ensures { λ r. ⌜ (Fillable (now (signal .entry)) (now (category .entry)) (now (node .entry)) (now (rows .entry)) m → r ≡ noTwo sameKey (tabulate (keyAt (now (signal .entry)) (now (category .entry))) m)) ⌝ }
     ensures filled { λ r. ⌜ (Fillable (now (signal .entry)) (now (category .entry)) (now (node .entry)) (now (rows .entry)) m → r ≡ true
-        → (length (now (rows .exit)) ≡ 32) × ((s : ℕ) → s < 32 → getD (now (rows .exit)) s 0 ≡ rowIn (keyAt (now (signal .entry)) (now (category .entry))) (now (node .entry)) s m)) ⌝ }
+        → (length (now (rows .exit)) ≡ mostSignals) × ((s : ℕ) → s < mostSignals → getD (now (rows .exit)) s 0 ≡ rowIn (keyAt (now (signal .entry)) (now (category .entry))) (now (node .entry)) s m)) ⌝ }
     ensures all { λ r. ⌜ rowsFrom (now (signal .entry)) (now (category .entry)) (now (node .entry)) 0 m (now (rows .entry)) ≡ record { ok = r; held = now (rows .exit) } ⌝ }
 {
     let mut i = 0;
     while i < m {
         let s = wide(signal[i]);
-        if 31 < s {
+        if LAST_SIGNAL < s {
             return false;
         }
         let c = wide(category[i]);
@@ -47,8 +53,8 @@ pub(crate) fn fill_rows(
 }
 
 // Some row before row i is the same.
-fn row_again(rows: &[u64; 32], i: usize) -> bool
-    requires { ⌜ i < 32 ⌝ }
+fn row_again(rows: &[u64; MOST_SIGNALS], i: usize) -> bool
+    requires { ⌜ i < mostSignals ⌝ }
     ensures { λ r. ⌜ r ≡ any (λ x. eqb x (getD (now (rows .entry)) i 0)) (tabulate (λ s. getD (now (rows .entry)) s 0) i) ⌝ }
 {
     let x = rows[i];
@@ -64,8 +70,8 @@ fn row_again(rows: &[u64; 32], i: usize) -> bool
 }
 
 // No two of n rows are the same.
-pub(crate) fn rows_distinct(n: usize, rows: &[u64; 32]) -> bool
-    requires { ⌜ n ≤ 32 ⌝ }
+pub(crate) fn rows_distinct(n: usize, rows: &[u64; MOST_SIGNALS]) -> bool
+    requires { ⌜ n ≤ mostSignals ⌝ }
     ensures { λ r. ⌜ r ≡ noTwo eqb (tabulate (λ s. getD (now (rows .entry)) s 0) n) ⌝ }
 {
     let mut i = 0;
@@ -79,8 +85,14 @@ pub(crate) fn rows_distinct(n: usize, rows: &[u64; 32]) -> bool
 }
 
 // Two slots have the same path, or none.
-fn same_slot(t: &[u8], x: usize, y: usize, at: &[u16; 256], len: &[u8; 256]) -> bool
-    requires { ⌜ (x ≤ 256) × (y ≤ 256) ⌝ }
+fn same_slot(
+    t: &[u8],
+    x: usize,
+    y: usize,
+    at: &[u16; MOST_TABLE_URNS],
+    len: &[u8; MOST_TABLE_URNS],
+) -> bool
+    requires { ⌜ (x ≤ mostTableUrns) × (y ≤ mostTableUrns) ⌝ }
     ensures { λ r. ⌜ r ≡ sameSlots (now (t .entry)) (now (at .entry)) (now (len .entry)) x y ⌝ }
 {
     if x == 0 {
@@ -100,11 +112,11 @@ fn same_places(
     a: usize,
     b: usize,
     n: usize,
-    slots: &[u16; 256],
-    at: &[u16; 256],
-    len: &[u8; 256],
+    slots: &[u16; MOST_TABLE_URNS],
+    at: &[u16; MOST_TABLE_URNS],
+    len: &[u8; MOST_TABLE_URNS],
 ) -> bool
-    requires { ⌜ (a < 32) × (b < 32) × (n ≤ 8) × ((j : ℕ) → getD (now slots) j 0 ≤ 256) ⌝ }
+    requires { ⌜ (a < mostSignals) × (b < mostSignals) × (n ≤ mostCategories) × ((j : ℕ) → getD (now slots) j 0 ≤ mostTableUrns) ⌝ }
     ensures { λ r. ⌜ r ≡ samePlacesAt (now (t .entry)) (now (slots .entry)) (now (at .entry)) (now (len .entry)) n a b ⌝ }
 {
     let mut c = 0;
@@ -125,11 +137,11 @@ fn places_again(
     t: &[u8],
     b: usize,
     n: usize,
-    slots: &[u16; 256],
-    at: &[u16; 256],
-    len: &[u8; 256],
+    slots: &[u16; MOST_TABLE_URNS],
+    at: &[u16; MOST_TABLE_URNS],
+    len: &[u8; MOST_TABLE_URNS],
 ) -> bool
-    requires { ⌜ (b < 32) × (n ≤ 8) × ((j : ℕ) → getD (now slots) j 0 ≤ 256) ⌝ }
+    requires { ⌜ (b < mostSignals) × (n ≤ mostCategories) × ((j : ℕ) → getD (now slots) j 0 ≤ mostTableUrns) ⌝ }
     ensures { λ r. ⌜ r ≡ any (λ a. samePlacesAt (now (t .entry)) (now (slots .entry)) (now (at .entry)) (now (len .entry)) n a b) (tabulate (λ a. a) b) ⌝ }
 {
     let mut a = 0;
@@ -147,11 +159,11 @@ fn texts_distinct(
     t: &[u8],
     count: usize,
     n: usize,
-    slots: &[u16; 256],
-    at: &[u16; 256],
-    len: &[u8; 256],
+    slots: &[u16; MOST_TABLE_URNS],
+    at: &[u16; MOST_TABLE_URNS],
+    len: &[u8; MOST_TABLE_URNS],
 ) -> bool
-    requires { ⌜ (count ≤ 32) × (n ≤ 8) × ((j : ℕ) → getD (now slots) j 0 ≤ 256) ⌝ }
+    requires { ⌜ (count ≤ mostSignals) × (n ≤ mostCategories) × ((j : ℕ) → getD (now slots) j 0 ≤ mostTableUrns) ⌝ }
     ensures { λ r. ⌜ r ≡ noTwo (samePlacesAt (now (t .entry)) (now (slots .entry)) (now (at .entry)) (now (len .entry)) n) (tabulate (λ a. a) count) ⌝ }
 {
     let mut b = 0;
@@ -169,15 +181,15 @@ pub(crate) fn crowded(
     t: &[u8],
     count: usize,
     n: usize,
-    slots: &[u16; 256],
-    at: &[u16; 256],
-    len: &[u8; 256],
+    slots: &[u16; MOST_TABLE_URNS],
+    at: &[u16; MOST_TABLE_URNS],
+    len: &[u8; MOST_TABLE_URNS],
 ) -> u8
-    requires { ⌜ (count ≤ 32) × (n ≤ 8) × ((j : ℕ) → getD (now slots) j 0 ≤ 256) ⌝ }
+    requires { ⌜ (count ≤ mostSignals) × (n ≤ mostCategories) × ((j : ℕ) → getD (now slots) j 0 ≤ mostTableUrns) ⌝ }
     ensures { λ r. ⌜ r ≡ cond (noTwo (samePlacesAt (now (t .entry)) (now (slots .entry)) (now (at .entry)) (now (len .entry)) n) (tabulate (λ a. a) count)) 12 11 ⌝ }
 {
     if texts_distinct(t, count, n, slots, at, len) {
-        return 12;
+        return TABLE_TOO_MANY_NODES;
     }
-    11
+    TABLE_SAME_PLACES
 }

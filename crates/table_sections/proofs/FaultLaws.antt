@@ -7,9 +7,10 @@ use mathlib.Core.List.{List, [], _∷_, List·Memᴰ, List·Memᴰ·cases-cons, 
 use native.Mathlib.Omega.{arith}
 use lib.ListN.{length, getD, take, drop, length-take}
 use lib.Dec.{leb, ltb}
-use Rattle.base_ascii.specs.Ascii.{within}
+use Rattle.base_numbers.specs.Numbers.{mostNameBytes, mostSignals, mostTableBytes, mostUrnBytes}
+use Rattle.base_lists.proofs.Bools.{byTest}
+use Rattle.base_lists.specs.Numbers.{within}
 use Rattle.table_sections.specs.Stored.{Read, fault, got, andThen, byteIn, text, times, counted, signal, storedFrom, Stored, stored, sections}
-use Rattle.base_text.proofs.Fields.{byTest}
 use Rattle.table_sections.proofs.Readings.{after-got, byte-read, got-list, times-length}
 
 -- a fault's number is 4, 5 or 6
@@ -34,11 +35,13 @@ fault-if false x y f g = g
 pub fault-byte : (lo hi : ℕ) (t : List ℕ) (at : ℕ) → Faulty (byteIn lo hi t at)
 unfolding byteIn
 fault-byte lo hi t at =
-    fault-if (ltb at (length t)) _ _ (fault-if (within lo hi (getD t at 0)) _ _ (fault-got (getD t at 0) (at + 1)) (fault-some 6 (omega arith, omega arith))) (fault-some 5 (omega arith, omega arith))
+    fault-if (ltb at (length t)) _ _ (fault-if (within lo hi (getD t at 0)) _ _ (fault-got (getD t at 0) (at + 1))
+    (fault-some 6 (omega arith, omega arith))) (fault-some 5 (omega arith, omega arith))
 
 pub fault-text : (hi : ℕ) (t : List ℕ) (at : ℕ) → Faulty (text hi t at)
 unfolding text
-fault-text hi t at = fault-then (byteIn 1 hi t at) _ (fault-byte 1 hi t at) (λ n p. fault-if (leb n (length t - p)) _ _ (fault-got _ (p + n)) (fault-some 5 (omega arith, omega arith)))
+fault-text hi t at = fault-then (byteIn 1 hi t at) _ (fault-byte 1 hi t at)
+    (λ n p. fault-if (leb n (length t - p)) _ _ (fault-got _ (p + n)) (fault-some 5 (omega arith, omega arith)))
 
 fault-times : {A : Type 0} (rd : ℕ → Read A) → ((at : ℕ) → Faulty (rd at)) → (n at : ℕ) → Faulty (times rd n at)
 unfolding times
@@ -52,18 +55,20 @@ fault-counted lo hi rd t f at = fault-then (byteIn lo hi t at) _ (fault-byte lo 
 fault-stored : (t : List ℕ) → Faulty (stored t)
 unfolding stored storedFrom
 fault-stored t =
-    fault-then (counted 1 8 (text 55 t) t 0) _ (fault-counted 1 8 (text 55 t) t (fault-text 55 t) 0)
-    (λ ns p. fault-then (counted 1 32 (signal t) t p) _ (fault-counted 1 32 (signal t) t (fault-counted 0 8 (text 255 t) t (fault-text 255 t)) p)
+    fault-then (counted 1 8 (text mostNameBytes t) t 0) _ (fault-counted 1 8 (text mostNameBytes t) t (fault-text mostNameBytes t) 0)
+    (λ ns p. fault-then (counted 1 mostSignals (signal t) t p) _
+    (fault-counted 1 mostSignals (signal t) t (fault-counted 0 8 (text mostUrnBytes t) t (fault-text mostUrnBytes t)) p)
     (λ ss q. fault-if (ltb q (length t)) _ _ (fault-some 5 (omega arith, omega arith)) (fault-got _ q)))
 
 pub fault-sections : (t : List ℕ) → Faulty (sections t)
-fault-sections t = fault-if (ltb 8192 (length t)) _ _ (fault-some 4 (omega arith, omega arith)) (fault-stored t)
+fault-sections t = fault-if (ltb mostTableBytes (length t)) _ _ (fault-some 4 (omega arith, omega arith)) (fault-stored t)
 
 pub fault-some-number : (t : List ℕ) (k : ℕ) → sections t ≡ fault k → k ≢ 0
 fault-some-number t k e z = omega (arith, z, fault-sections t k e .0)
 
 -- the counts
-counted-length : {A : Type 0} (lo hi : ℕ) (rd : ℕ → Read A) (t : List ℕ) (at : ℕ) (xs : List A) (q : ℕ) → counted lo hi rd t at ≡ got xs q → (lo ≤ length xs) × (length xs ≤ hi)
+counted-length : {A : Type 0} (lo hi : ℕ) (rd : ℕ → Read A) (t : List ℕ) (at : ℕ) (xs : List A) (q : ℕ) → counted lo hi rd t at ≡ got xs q
+    → (lo ≤ length xs) × (length xs ≤ hi)
 unfolding counted
 counted-length lo hi rd t at xs q e =
     let a = after-got (byteIn lo hi t at) (λ n p. times rd n p) xs q e in
@@ -71,17 +76,20 @@ counted-length lo hi rd t at xs q e =
     let l = times-length rd (a .0) (a .1) xs q (a .3) in
     (omega (arith, l, b .low), omega (arith, l, b .high))
 
-ended : (ns : List (List ℕ)) (ss : List (List (List ℕ))) (b : Bool) (p q : ℕ) (s : Stored) → cond b (fault 5) (got (record { names = ns; signals = ss }) p) ≡ got s q → record { names = ns; signals = ss } ≡ s
+ended : (ns : List (List ℕ)) (ss : List (List (List ℕ))) (b : Bool) (p q : ℕ) (s : Stored)
+    → cond b (fault 5) (got (record { names = ns; signals = ss }) p) ≡ got s q → record { names = ns; signals = ss } ≡ s
 ended ns ss true p q s e = let z : _≡_ {A = ℕ} 0 1 = cc in absurd (omega arith)
 ended ns ss false p q s e = cc
 
-pub stored-counts : (t : List ℕ) (s : Stored) (q : ℕ) → stored t ≡ got s q → (1 ≤ length (s .names)) × (length (s .names) ≤ 8) × (1 ≤ length (s .signals)) × (length (s .signals) ≤ 32)
+pub stored-counts : (t : List ℕ) (s : Stored) (q : ℕ) → stored t ≡ got s q → (1 ≤ length (s .names)) × (length (s .names) ≤ 8)
+    × (1 ≤ length (s .signals)) × (length (s .signals) ≤ mostSignals)
 unfolding stored storedFrom
 stored-counts t s q e =
-    let a = after-got (counted 1 8 (text 55 t) t 0) (λ ns at. storedFrom t ns at) s q e in
-    let c = counted-length 1 8 (text 55 t) t 0 (a .0) (a .1) (a .2) in
-    let b = after-got (counted 1 32 (signal t) t (a .1)) (λ ss p. cond (ltb p (length t)) (fault 5) (got (record { names = a .0; signals = ss }) p)) s q (a .3) in
-    let d = counted-length 1 32 (signal t) t (a .1) (b .0) (b .1) (b .2) in
+    let a = after-got (counted 1 8 (text mostNameBytes t) t 0) (λ ns at. storedFrom t ns at) s q e in
+    let c = counted-length 1 8 (text mostNameBytes t) t 0 (a .0) (a .1) (a .2) in
+    let b = after-got (counted 1 mostSignals (signal t) t (a .1))
+    (λ ss p. cond (ltb p (length t)) (fault 5) (got (record { names = a .0; signals = ss }) p)) s q (a .3) in
+    let d = counted-length 1 mostSignals (signal t) t (a .1) (b .0) (b .1) (b .2) in
     let z = ended (a .0) (b .0) (ltb (b .1) (length t)) (b .1) q s (b .3) in (
       omega (arith, c .0, ap (λ (x : Stored). length (x .names)) z),
       omega (arith, c .1, ap (λ (x : Stored). length (x .names)) z),
@@ -127,16 +135,19 @@ Few sig = (length sig ≤ 8) × ((u : List ℕ) → List·Memᴰ u sig → lengt
 
 signal-few : (t : List ℕ) (at p : ℕ) (sig : List (List ℕ)) → signal t at ≡ got sig p → Few sig
 signal-few t at p sig e =
-    (counted-length 0 8 (text 255 t) t at sig p e .1, counted-each (λ u. length u ≤ 255) 0 8 (text 255 t) t (text-length 255 t) at sig p e)
+    (counted-length 0 8 (text mostUrnBytes t) t at sig p e .1, counted-each (λ u. length u ≤ 255) 0 8 (text mostUrnBytes t) t (text-length 255 t) at sig p e)
 
 -- the lengths of what is stored
 pub stored-lengths : (t : List ℕ) (s : Stored) (q : ℕ) → stored t ≡ got s q
-    → ((x : List ℕ) → List·Memᴰ x (s .names) → length x ≤ 55) × ((sig : List (List ℕ)) → List·Memᴰ sig (s .signals) → Few sig)
+    → ((x : List ℕ) → List·Memᴰ x (s .names) → length x ≤ mostNameBytes) × ((sig : List (List ℕ)) → List·Memᴰ sig (s .signals) → Few sig)
 unfolding stored storedFrom
 stored-lengths t s q e =
-    let a = after-got (counted 1 8 (text 55 t) t 0) (λ ns at. storedFrom t ns at) s q e in
-    let b = after-got (counted 1 32 (signal t) t (a .1)) (λ ss p. cond (ltb p (length t)) (fault 5) (got (record { names = a .0; signals = ss }) p)) s q (a .3) in
+    let a = after-got (counted 1 8 (text mostNameBytes t) t 0) (λ ns at. storedFrom t ns at) s q e in
+    let b = after-got (counted 1 mostSignals (signal t) t (a .1))
+    (λ ss p. cond (ltb p (length t)) (fault 5) (got (record { names = a .0; signals = ss }) p)) s q (a .3) in
     let z = ended (a .0) (b .0) (ltb (b .1) (length t)) (b .1) q s (b .3) in (
-      (λ x m. counted-each (λ y. length y ≤ 55) 1 8 (text 55 t) t (text-length 55 t) 0 (a .0) (a .1) (a .2) x (subst (λ (r : Stored). List·Memᴰ x (r .names)) (sym z) m)),
-      λ sig m. counted-each Few 1 32 (signal t) t (signal-few t) (a .1) (b .0) (b .1) (b .2) sig (subst (λ (r : Stored). List·Memᴰ sig (r .signals)) (sym z) m),
+      (λ x m. counted-each (λ y. length y ≤ mostNameBytes) 1 8 (text mostNameBytes t) t (text-length mostNameBytes t) 0 (a .0) (a .1) (a .2) x
+          (subst (λ (r : Stored). List·Memᴰ x (r .names)) (sym z) m)),
+      λ sig m. counted-each Few 1 mostSignals (signal t) t (signal-few t) (a .1) (b .0) (b .1) (b .2) sig
+          (subst (λ (r : Stored). List·Memᴰ sig (r .signals)) (sym z) m),
     )

@@ -8,13 +8,13 @@ use native.Mathlib.Numerals.{add-one}
 use native.Mathlib.Omega.{arith}
 use lib.ListN.{length, getD, take, drop, set}
 use lib.Seq.{getD-set-same, getD-set-other}
-use Rattle.node_search.specs.Arrays.{stretch}
+use Rattle.base_lists.specs.Cuts.{stretch}
+use Rattle.base_lists.proofs.Tabulated.{tabulate-same}
+use Rattle.base_lists.specs.Lists.{tabulate}
+use Rattle.base_lists.proofs.Bools.{byTest}
+use Rattle.base_lists.specs.Numbers.{within}
 use lib.Dec.{leb, ltb}
 use borrow.Author.Tests.{lt-leb, le-leb, lt-ltb, le-ltb, leb-true, ltb-true}
-use Rattle.base_ascii.specs.Ascii.{within}
-use Rattle.base_text.proofs.Fields.{byTest}
-use Rattle.theory_resolution.specs.Lists.{tabulate}
-use Rattle.theory_resolution.proofs.Lists.{tabulate-same}
 use Rattle.table_sections.specs.Stored.{Read, fault, got, andThen, byteIn, text, times, signal}
 use Rattle.table_sections.specs.Held.{tag, urnAt, mapRead, numberRead, textRead, textInside}
 use Rattle.table_sections.specs.declared.bytes.Reading.{Reading}
@@ -55,7 +55,12 @@ byte-read lo hi t at n p e =
     let v : getD t at 0 ≡ n = cc in
     let y : at + 1 ≡ p = cc in
     let b = and-eq-true-iff (leb lo (getD t at 0)) (leb (getD t at 0) hi) .0 w in
-    record { low = omega (arith, leb-true lo (getD t at 0) (b .0)); high = omega (arith, leb-true (getD t at 0) hi (b .1)); next = sym y; here = ltb-true _ _ h })
+    record {
+      low = omega (arith, leb-true lo (getD t at 0) (b .0));
+      high = omega (arith, leb-true (getD t at 0) hi (b .1));
+      next = sym y;
+      here = ltb-true _ _ h;
+    })
     (λ w. let q : fault 6 ≡ got n p = simp (h, w) at e in let z : _≡_ {A = ℕ} 0 1 = cc in absurd (omega arith)))
     (λ h. let q : fault 5 ≡ got n p = simp h at e in let z : _≡_ {A = ℕ} 0 1 = cc in absurd (omega arith))
 

@@ -7,12 +7,14 @@ use native.Mathlib.Nat.{sub-zero}
 use native.Mathlib.Numerals.{add-one}
 use native.Mathlib.Omega.{arith}
 use lib.ListN.{length}
-use Rattle.node_search.specs.Arrays.{stretch}
+use Rattle.base_numbers.specs.Numbers.{mostNameBytes, mostSignals, mostTableBytes, mostUrnBytes}
+use Rattle.base_lists.specs.Cuts.{stretch}
+use Rattle.base_lists.specs.Lists.{tabulate}
+use Rattle.base_lists.proofs.Bools.{byTest}
 use lib.Dec.{ltb}
 use borrow.Author.Tests.{lt-ltb, le-ltb, ltb-false}
-use Rattle.base_text.proofs.Fields.{byTest}
-use Rattle.theory_resolution.specs.Lists.{tabulate}
-use Rattle.table_sections.specs.Stored.{Read, fault, got, andThen, byteIn, text, times, counted, categories, signal, storedFrom, Stored, stored, sections}
+use Rattle.table_sections.specs.Stored.{Read, fault, got, andThen, byteIn, text, times, counted, categories, signal, storedFrom, Stored, stored}
+use Rattle.table_sections.specs.Stored.{sections}
 use Rattle.table_sections.specs.Held.{Padded, paddedRead, Tagged, tag, taggedFrom, mapRead, heldRead, readUpTo, readAtMost, ReadFrom, Reads}
 use Rattle.table_sections.specs.declared.bytes.Reading.{Reading}
 use Rattle.table_sections.specs.declared.bytes.Reading.the-variants.{Fault, Got}
@@ -20,12 +22,13 @@ use Rattle.table_sections.specs.declared.Counts.{Counts}
 use Rattle.table_sections.proofs.Readings.{times-length}
 
 -- one signal
-pub signal-fault : {B : Type 0} (g : List (List ℕ) → B) (t : List ℕ) (at : ℕ) (k : ℕ) → byteIn 0 8 t at ≡ fault k → fault k ≡ mapRead g (counted 0 8 (text 255 t) t at)
+pub signal-fault : {B : Type 0} (g : List (List ℕ) → B) (t : List ℕ) (at : ℕ) (k : ℕ) → byteIn 0 8 t at ≡ fault k
+    → fault k ≡ mapRead g (counted 0 8 (text mostUrnBytes t) t at)
 unfolding counted andThen mapRead
 signal-fault g t at k e = simp e
 
 pub signal-more : {B : Type 0} (g : List (List ℕ) → B) (t : List ℕ) (at k p a : ℕ) {w : Read B} → byteIn 0 8 t at ≡ got k p
-    → w ≡ mapRead g (times (text 255 t) (a + k - a) p) → w ≡ mapRead g (counted 0 8 (text 255 t) t at)
+    → w ≡ mapRead g (times (text mostUrnBytes t) (a + k - a) p) → w ≡ mapRead g (counted 0 8 (text mostUrnBytes t) t at)
 unfolding counted andThen
 signal-more g t at k p a e v = let q : a + k - a ≡ k = omega arith in (rw q at v) ∙ sym (simp e)
 
@@ -56,7 +59,8 @@ tagged-cons l s us (got xs q) = ap (λ z. got z q) (sym (append-assoc l (map (ta
 -- the signals, one further: i URNs of the first s signals stand in the arrays
 module _ {A : Type 0} (rd : ℕ → Read (List A)) (f : ℕ → Tagged A) (n s i at : ℕ) (w : Read (List (Tagged A)))
     (v : w ≡ mapRead (λ ss. tabulate f i ++ taggedFrom s ss) (times rd (n - s) at)) where
-  next-signal : (us : List A) (p : ℕ) → s < n → rd at ≡ got us p → w ≡ mapRead (λ ss. tabulate f i ++ map (tag s) us ++ taggedFrom (s + 1) ss) (times rd (n - (s + 1)) p)
+  next-signal : (us : List A) (p : ℕ) → s < n → rd at ≡ got us p
+      → w ≡ mapRead (λ ss. tabulate f i ++ map (tag s) us ++ taggedFrom (s + 1) ss) (times rd (n - (s + 1)) p)
   unfolding times andThen
   next-signal us p h e =
       let m : n - s ≡ suc (n - (s + 1)) = omega arith in
@@ -93,7 +97,8 @@ pub categories-fault : (t : List ℕ) (at k : ℕ) → byteIn 1 8 t at ≡ fault
 unfolding counted andThen
 categories-fault t at k e = simp e
 
-pub categories-more : (t : List ℕ) (at n p : ℕ) {w : Read (List (List ℕ))} → byteIn 1 8 t at ≡ got n p → w ≡ times (text 55 t) n p → w ≡ categories t at
+pub categories-more : (t : List ℕ) (at n p : ℕ) {w : Read (List (List ℕ))} → byteIn 1 8 t at ≡ got n p
+    → w ≡ times (text mostNameBytes t) n p → w ≡ categories t at
 unfolding counted andThen
 categories-more t at n p e v = v ∙ sym (simp e)
 
@@ -102,15 +107,21 @@ at-most-up (Fault k) n m e h = tt
 at-most-up (Got x p) n m e h = omega arith
 
 -- the section of the signals
-pub rest-fault : (t : List ℕ) (from k : ℕ) → byteIn 1 32 t from ≡ fault k → (names : List (List ℕ)) → storedFrom t names from ≡ fault k
+pub rest-fault : (t : List ℕ) (from k : ℕ) → byteIn 1 mostSignals t from ≡ fault k → (names : List (List ℕ)) → storedFrom t names from ≡ fault k
 unfolding storedFrom counted andThen
 rest-fault t from k e names = simp e
 
-pub rest-at-fault : {R : Type 0} {t at len signal : List ℕ} {from k n : ℕ} {r : Counts} → r ≡ record { ok = false; fault = k; categories = 0; signals = 0; urns = 0 }
+pub rest-at-fault : {R : Type 0} {t at len signal : List ℕ} {from k n : ℕ} {r : Counts} → r ≡ record {
+  ok = false;
+  fault = k;
+  categories = 0;
+  signals = 0;
+  urns = 0;
+}
     → (R → (names : List (List ℕ)) → storedFrom t names from ≡ fault k) → (R → ReadFrom t at len signal from r) × (r .ok ≡ true → r .categories ≡ n)
 rest-at-fault e f = rw e (λ a. record { faulty = λ _. f a; holds = λ z. absurd (false≢true z) }, λ z. absurd (false≢true z))
 
-module _ (t : List ℕ) (from n p : ℕ) (e : byteIn 1 32 t from ≡ got n p) where
+module _ (t : List ℕ) (from n p : ℕ) (e : byteIn 1 mostSignals t from ≡ got n p) where
   bad : (k : ℕ) → times (signal t) n p ≡ fault k → (names : List (List ℕ)) → storedFrom t names from ≡ fault k
   unfolding storedFrom counted andThen
   bad k f names = simp (e, f)
@@ -135,26 +146,40 @@ module _ (t : List ℕ) (from n p : ℕ) (e : byteIn 1 32 t from ≡ got n p) wh
       pub rest-more : q < length t → (names : List (List ℕ)) → storedFrom t names from ≡ fault 5
       rest-more h = more (was .0) q (was .1) h
 
-      pub rest-good : length t ≤ q → (ss : List (List (List ℕ))) × ((names : List (List ℕ)) → storedFrom t names from ≡ got (record { names = names; signals = ss }) q)
+      pub rest-good : length t ≤ q → (ss : List (List (List ℕ)))
+          × ((names : List (List ℕ)) → storedFrom t names from ≡ got (record { names = names; signals = ss }) q)
           × (tabulate f m ≡ taggedFrom 0 ss) × (length ss ≡ n)
       rest-good h = (was .0, good (was .0) q (was .1) h, sym (was .2), times-length (signal t) n p (was .0) q (was .1))
 
 -- the whole table
-sections-short : (t : List ℕ) → length t ≤ 8192 → sections t ≡ stored t
-sections-short t h = rw (le-ltb 8192 (length t) h)
+sections-short : (t : List ℕ) → length t ≤ mostTableBytes → sections t ≡ stored t
+sections-short t h = rw (le-ltb mostTableBytes (length t) h)
 
-sections-long : (t : List ℕ) → 8192 < length t → sections t ≡ fault 4
-sections-long t h = rw (lt-ltb 8192 (length t) h)
+sections-long : (t : List ℕ) → mostTableBytes < length t → sections t ≡ fault 4
+sections-long t h = rw (lt-ltb mostTableBytes (length t) h)
 
-read-fault : {t nameAt nameLen at len signal : List ℕ} {k : ℕ} {s : Counts} → s ≡ record { ok = false; fault = k; categories = 0; signals = 0; urns = 0 } → sections t ≡ fault k
+read-fault : {t nameAt nameLen at len signal : List ℕ} {k : ℕ} {s : Counts} → s ≡ record {
+  ok = false;
+  fault = k;
+  categories = 0;
+  signals = 0;
+  urns = 0;
+} → sections t ≡ fault k
     → Reads t nameAt nameLen at len signal s
 read-fault e f = rw e (record { faulty = λ _. f; holds = λ z. absurd (false≢true z) })
 
-pub read-long : {t nameAt nameLen at len signal : List ℕ} {s : Counts} → s ≡ record { ok = false; fault = 4; categories = 0; signals = 0; urns = 0 } → 8192 < length t
+pub read-long : {t nameAt nameLen at len signal : List ℕ} {s : Counts} → s ≡ record {
+  ok = false;
+  fault = 4;
+  categories = 0;
+  signals = 0;
+  urns = 0;
+} → mostTableBytes < length t
     → Reads t nameAt nameLen at len signal s
 read-long {t} e h = read-fault e (sections-long t h)
 
-module _ (t : List ℕ) (h : length t ≤ 8192) (nameAt nameLen : List ℕ) {r : Reading} (v : (heldRead (stretch t nameAt nameLen) r ≡ categories t 0) × paddedRead nameAt r × paddedRead nameLen r) where
+module _ (t : List ℕ) (h : length t ≤ mostTableBytes) (nameAt nameLen : List ℕ) {r : Reading}
+    (v : (heldRead (stretch t nameAt nameLen) r ≡ categories t 0) × paddedRead nameAt r × paddedRead nameLen r) where
   first-fault : (k : ℕ) → r ≡ Fault k → stored t ≡ fault k
   unfolding stored andThen
   first-fault k g = let e : categories t 0 ≡ fault k = sym (v .0) ∙ ap (heldRead (stretch t nameAt nameLen)) g in simp e
@@ -171,7 +196,8 @@ module _ (t : List ℕ) (h : length t ≤ 8192) (nameAt nameLen : List ℕ) {r :
     padded : (a : List ℕ) → paddedRead a r → Padded 8 n a
     padded a q = subst (λ (z : Reading). paddedRead a z) g q
 
-    pub both-read : {at len signal : List ℕ} {x : Counts} → ReadFrom t at len signal p x → (x .ok ≡ true → x .categories ≡ n) → n ≤ 8 → Reads t nameAt nameLen at len signal x
+    pub both-read : {at len signal : List ℕ} {x : Counts} → ReadFrom t at len signal p x → (x .ok ≡ true → x .categories ≡ n) → n ≤ 8
+        → Reads t nameAt nameLen at len signal x
     both-read {at} {len} {signal} {x} f c l =
         record {
           faulty = λ e. sections-short t h ∙ second ∙ f .faulty e _;
@@ -194,8 +220,8 @@ module _ (t : List ℕ) (h : length t ≤ 8192) (nameAt nameLen : List ℕ) {r :
         }
 
 -- a table that could be read is not too long
-pub sections-read : (t : List ℕ) (s : Stored) (p : ℕ) → sections t ≡ got s p → (length t ≤ 8192) × (stored t ≡ got s p)
+pub sections-read : (t : List ℕ) (s : Stored) (p : ℕ) → sections t ≡ got s p → (length t ≤ mostTableBytes) × (stored t ≡ got s p)
 sections-read t s p e =
-    byTest (ltb 8192 (length t))
+    byTest (ltb mostTableBytes (length t))
     (λ b. let q : fault 4 ≡ got s p = rw b at e in let z : _≡_ {A = ℕ} 0 1 = cc in absurd (omega arith))
-    (λ b. (ltb-false 8192 (length t) b, rw b at e))
+    (λ b. (ltb-false mostTableBytes (length t) b, rw b at e))

@@ -4,8 +4,9 @@ use mathlib.Core.Path.{_≡_}
 use mathlib.Core.Bool.{true, false}
 use mathlib.Core.List.{List, [], _∷_, _++_, map}
 use lib.ListN.{length, getD, take, drop}
-use Rattle.theory_resolution.specs.Lists.{tabulate}
-use Rattle.node_search.specs.Arrays.{stretch}
+use Rattle.base_numbers.specs.Numbers.{mostCategories, mostSignals, mostTableBytes, mostTableUrns}
+use Rattle.base_lists.specs.Cuts.{stretch}
+use Rattle.base_lists.specs.Lists.{tabulate}
 use Rattle.table_sections.specs.Stored.{Read, fault, got, storedFrom, sections}
 use Rattle.table_sections.specs.declared.bytes.Reading.{Reading}
 use Rattle.table_sections.specs.declared.bytes.Reading.the-variants.{Fault, Got}
@@ -28,18 +29,13 @@ taggedFrom s (sig ∷ sigs) = map (tag s) sig ++ taggedFrom (suc s) sigs
 abbrev pub urnAt : List ℕ → List ℕ → List ℕ → List ℕ → ℕ → Tagged (List ℕ)
 urnAt t signal at len i = tag (getD signal i 0) (stretch t at len i)
 
--- what the signals have, one after the other
-unfoldable pub joined : {A : Type 0} → List (List A) → List A
-joined [] = []
-joined (sig ∷ sigs) = sig ++ joined sigs
-
 -- an array of so many numbers; from the n-th on they are 0
 abbrev pub Padded : ℕ → ℕ → List ℕ → Type 0
 Padded size n a = (length a ≡ size) × ((k : ℕ) → n ≤ k → getD a k 0 ≡ 0)
 
 -- three arrays with room for every URN
 abbrev pub Room : List ℕ → List ℕ → List ℕ → Type 0
-Room at len signal = (length at ≡ 256) × (length len ≡ 256) × (length signal ≡ 256)
+Room at len signal = (length at ≡ mostTableUrns) × (length len ≡ mostTableUrns) × (length signal ≡ mostTableUrns)
 
 -- a reading's value, changed
 unfoldable pub mapRead : {A B : Type 0} → (A → B) → Read A → Read B
@@ -79,12 +75,12 @@ readAtMost (Got m p) n = m ≤ n
 -- past the names that were read there is nothing
 abbrev pub paddedRead : List ℕ → Reading → Type 0
 paddedRead a (Fault k) = Unit {0}
-paddedRead a (Got n p) = Padded 8 n a
+paddedRead a (Got n p) = Padded mostCategories n a
 
 -- what the reading w of names promises, if the table is not too long and the arrays are clear
 abbrev pub NamesRead : (t at len at₁ len₁ : List ℕ) → Read (List (List ℕ)) → Reading → Type 0
 NamesRead t at len at₁ len₁ w r =
-    length t ≤ 8192 → Padded 8 0 at → Padded 8 0 len → (heldRead (stretch t at₁ len₁) r ≡ w) × paddedRead at₁ r × paddedRead len₁ r
+    length t ≤ mostTableBytes → Padded mostCategories 0 at → Padded mostCategories 0 len → (heldRead (stretch t at₁ len₁) r ≡ w) × paddedRead at₁ r × paddedRead len₁ r
 
 -- the arrays hold the signals that were read from a position on
 pub record SignalsRead (t at len signal : List ℕ) (from : ℕ) (r : Counts) : Type 0 where
@@ -93,8 +89,8 @@ pub record SignalsRead (t at len signal : List ℕ) (from : ℕ) (r : Counts) : 
   pub whole : (names : List (List ℕ)) → storedFrom t names from ≡ got (record { names = names; signals = signals }) next
   pub urns : tabulate (urnAt t signal at len) (r .urns) ≡ taggedFrom 0 signals
   pub all-signals : length signals ≡ r .signals
-  pub few-signals : r .signals ≤ 32
-  pub few-urns : r .urns ≤ 256
+  pub few-signals : r .signals ≤ mostSignals
+  pub few-urns : r .urns ≤ mostTableUrns
 
 -- the answer of the reading of the signals
 pub record ReadFrom (t at len signal : List ℕ) (from : ℕ) (r : Counts) : Type 0 where
@@ -108,11 +104,11 @@ pub record ReadAs (t nameAt nameLen at len signal : List ℕ) (r : Counts) : Typ
   pub whole : sections t ≡ got (record { names = tabulate (stretch t nameAt nameLen) (r .categories); signals = signals }) next
   pub urns : tabulate (urnAt t signal at len) (r .urns) ≡ taggedFrom 0 signals
   pub all-signals : length signals ≡ r .signals
-  pub few-categories : r .categories ≤ 8
-  pub few-signals : r .signals ≤ 32
-  pub few-urns : r .urns ≤ 256
-  pub past-at : Padded 8 (r .categories) nameAt
-  pub past-len : Padded 8 (r .categories) nameLen
+  pub few-categories : r .categories ≤ mostCategories
+  pub few-signals : r .signals ≤ mostSignals
+  pub few-urns : r .urns ≤ mostTableUrns
+  pub past-at : Padded mostCategories (r .categories) nameAt
+  pub past-len : Padded mostCategories (r .categories) nameLen
 
 -- the answer of the reading
 pub record Reads (t nameAt nameLen at len signal : List ℕ) (r : Counts) : Type 0 where

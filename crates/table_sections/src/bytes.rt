@@ -1,6 +1,9 @@
-use base_text::cut::wide;
+// Single pieces of a stored table: a byte within bounds, a text after its length; numbers cut to one byte or two.
+use base_bytes::numbers::wide;
+use base_numbers::TABLE_OUT_OF_RANGE;
+use base_numbers::TABLE_WRONG_END;
 ghost use mathlib.Core.Path.{_≡_};
-ghost use Prim.Native.Nat.{_<_, _%_};
+ghost use Prim.Native.Nat.{_<_};
 ghost use Rattle.table_sections.specs.Stored.{byteIn, text};
 ghost use Rattle.table_sections.specs.Held.{numberRead, textRead, textInside};
 
@@ -10,19 +13,6 @@ pub enum Reading {
     Got(usize, usize),
 }
 
-// A number in its last byte, or its last two.
-pub fn small(x: usize) -> u8
-    ensures { λ r. ⌜ r ≡ x % 256 ⌝ }
-{
-    (x % 256) as u8
-}
-
-pub fn short(x: usize) -> u16
-    ensures { λ r. ⌜ r ≡ x % 65536 ⌝ }
-{
-    (x % 65536) as u16
-}
-
 // A byte from lo to hi.
 pub fn byte_in(t: &[u8], at: usize, lo: usize, hi: usize) -> Reading
     ensures { λ r. ⌜ numberRead r ≡ byteIn lo hi (now (t .entry)) at ⌝ }
@@ -30,14 +20,14 @@ pub fn byte_in(t: &[u8], at: usize, lo: usize, hi: usize) -> Reading
     if at < t.len() {
         let b = wide(t[at]);
         if b < lo {
-            return Reading::Fault(6);
+            return Reading::Fault(TABLE_OUT_OF_RANGE);
         }
         if hi < b {
-            return Reading::Fault(6);
+            return Reading::Fault(TABLE_OUT_OF_RANGE);
         }
         return Reading::Got(b, at + 1);
     }
-    Reading::Fault(5)
+    Reading::Fault(TABLE_WRONG_END)
 }
 
 // A length byte from 1 to hi and so many bytes: their number, and the position after them.
@@ -52,7 +42,7 @@ pub fn read_text(t: &[u8], at: usize, hi: usize) -> Reading
             if n <= t.len() - p {
                 Reading::Got(n, p + n)
             } else {
-                Reading::Fault(5)
+                Reading::Fault(TABLE_WRONG_END)
             }
         }
     }

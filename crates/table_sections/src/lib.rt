@@ -11,10 +11,17 @@ mod signals;
 
 use crate::bytes::Reading;
 use crate::bytes::byte_in;
+use base_numbers::MOST_CATEGORIES;
+use base_numbers::MOST_SIGNALS;
+use base_numbers::MOST_TABLE_BYTES;
+use base_numbers::MOST_TABLE_URNS;
+use base_numbers::TABLE_TOO_LONG;
+use base_numbers::TABLE_WRONG_END;
 ghost use mathlib.Core.Path.{_≡_};
 ghost use mathlib.Core.Bool.{true, false};
 ghost use Prim.Native.Nat.{_≤_};
 ghost use lib.ListN.{length};
+ghost use Rattle.base_numbers.specs.Numbers.{mostCategories, mostTableBytes};
 ghost use Rattle.table_sections.specs.Held.{Padded, Room, ReadFrom, Reads};
 
 // The fault met, 4 to 6; or how many categories, signals and URNs there are.
@@ -43,15 +50,15 @@ fn read_rest(
     t: &[u8],
     from: usize,
     categories: usize,
-    at: &mut [u16; 256],
-    len: &mut [u8; 256],
-    signal: &mut [u8; 256],
+    at: &mut [u16; MOST_TABLE_URNS],
+    len: &mut [u8; MOST_TABLE_URNS],
+    signal: &mut [u8; MOST_TABLE_URNS],
 ) -> Counts
-    requires { ⌜ length (now t) ≤ 8192 ⌝ }
+    requires { ⌜ length (now t) ≤ mostTableBytes ⌝ }
     ensures { λ r. ⌜ (Room (now (at .entry)) (now (len .entry)) (now (signal .entry)) → ReadFrom (now (t .entry)) (now (at .exit)) (now (len .exit)) (now (signal .exit)) from r) ⌝ }
     ensures names { λ r. ⌜ (r .ok ≡ true → r .categories ≡ categories) ⌝ }
 {
-    let first = byte_in(t, from, 1, 32);
+    let first = byte_in(t, from, 1, MOST_SIGNALS);
     match first {
         Reading::Fault(k) => at_fault(k),
         Reading::Got(n, p) => {
@@ -60,7 +67,7 @@ fn read_rest(
                 Reading::Fault(k) => at_fault(k),
                 Reading::Got(m, q) => {
                     if q < t.len() {
-                        return at_fault(5);
+                        return at_fault(TABLE_WRONG_END);
                     }
                     Counts {
                         ok: true,
@@ -80,17 +87,17 @@ fn read_rest(
 // a fault is met is left open: they are filled up to it.
 pub fn read(
     t: &[u8],
-    name_at: &mut [u16; 8],
-    name_len: &mut [u8; 8],
-    at: &mut [u16; 256],
-    len: &mut [u8; 256],
-    signal: &mut [u8; 256],
+    name_at: &mut [u16; MOST_CATEGORIES],
+    name_len: &mut [u8; MOST_CATEGORIES],
+    at: &mut [u16; MOST_TABLE_URNS],
+    len: &mut [u8; MOST_TABLE_URNS],
+    signal: &mut [u8; MOST_TABLE_URNS],
 ) -> Counts
-    ensures { λ r. ⌜ (Padded 8 0 (now («name_at» .entry)) → Padded 8 0 (now («name_len» .entry)) → Room (now (at .entry)) (now (len .entry)) (now (signal .entry))
+    ensures { λ r. ⌜ (Padded mostCategories 0 (now («name_at» .entry)) → Padded mostCategories 0 (now («name_len» .entry)) → Room (now (at .entry)) (now (len .entry)) (now (signal .entry))
         → Reads (now (t .entry)) (now («name_at» .exit)) (now («name_len» .exit)) (now (at .exit)) (now (len .exit)) (now (signal .exit)) r) ⌝ }
 {
-    if 8192 < t.len() {
-        return at_fault(4);
+    if MOST_TABLE_BYTES < t.len() {
+        return at_fault(TABLE_TOO_LONG);
     }
     let got = categories::read_categories(t, name_at, name_len);
     match got {

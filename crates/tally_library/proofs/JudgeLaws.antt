@@ -72,7 +72,8 @@ pub judges-few : (t : List ℕ) (n : ℕ) (c v : List ℕ) (a : Resolution) → 
 unfolding judgedOf judgedCounts
 judges-few t n c v a e h = (e ∙ simp h, simp h)
 
-pub judges-plain : (t : List ℕ) (n : ℕ) (c v : List ℕ) (r a : Resolution) (c′ : List ℕ) → tooFew t n (length c) ≡ false → r ≡ plainOf t v → Counts c r a c′ → Judges t n c v a c′
+pub judges-plain : (t : List ℕ) (n : ℕ) (c v : List ℕ) (r a : Resolution) (c′ : List ℕ) → tooFew t n (length c) ≡ false → r ≡ plainOf t v
+    → Counts c r a c′ → Judges t n c v a c′
 unfolding judgedOf judgedCounts
 judges-plain t n c v r a c′ h e k =
     subst (λ (z : Resolution). Counts c z a c′ → Judges t n c v a c′) (sym e)

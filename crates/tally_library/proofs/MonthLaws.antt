@@ -8,14 +8,17 @@ use lib.Dec.{ltb, leb, eqb}
 use lib.ListN.{length, getD, set, replicate, length-set, length-replicate, length-append}
 use lib.Seq.{getD-set-same, getD-set-other}
 use borrow.Author.Tests.{lt-ltb, le-ltb, eq-eqb, ne-eqb, eqb-true, eqb-false, leb-true, leb-false}
+use Rattle.base_lists.proofs.Lists.{getD-all}
+use Rattle.base_lists.proofs.Bools.{byTest}
 use Rattle.resolve_run.specs.declared.Resolution.{Resolution}
 use Rattle.resolve_library.specs.Resolve.{refused, plainOf}
 use Rattle.tally_library.specs.declared.Tally.{Tally}
 use Rattle.tally_library.specs.Tally.{none, most, accepted, plus, fits, tooFew, full, gives20, answerOf}
-use Rattle.tally_library.specs.Month.{Lent, cleared, after, fed, sumOf, ifChosen, choice, usedFor, skippedFor, recordIn, refusal, refusedIn, alone, within, takes, more, counted, sumTo, chosenAt, countAt, Holds, MonthLaw}
-use Rattle.tally_library.proofs.ListLaws.{byTest, getD-all}
+use Rattle.tally_library.specs.Month.{Lent, cleared, after, fed, sumOf, ifChosen, choice, usedFor, skippedFor, recordIn, refusal, refusedIn}
+use Rattle.tally_library.specs.Month.{alone, within, takes, more, counted, sumTo, chosenAt, countAt, Holds, MonthLaw}
 use Rattle.tally_library.proofs.PlainLaws.{plain-accepted, plain-few}
-use Rattle.tally_library.proofs.TallyLaws.{add-accepted, add-refused, count-accepted, count-refused, full-accepted, full-refused, twelve, for-each, twenty, plainly, gives-few, gives-full}
+use Rattle.tally_library.proofs.TallyLaws.{add-accepted, add-refused, count-accepted, count-refused, full-accepted, full-refused, twelve}
+use Rattle.tally_library.proofs.TallyLaws.{for-each, twenty, plainly, gives-few, gives-full}
 
 -- one resolution more at the end of a list
 sum-last : (f : Resolution → ℕ) (rs : List Resolution) (r : Resolution) → sumOf f (rs ++ r ∷ []) ≡ sumOf f rs + f r
@@ -100,7 +103,8 @@ holds-cleared t n m = record {
   all-counts = length-replicate m 0;
   records = λ s h. getD-all n s none;
   counts = λ i a. getD-all {A = ℕ} m i 0;
-  together = ap₂ (λ (a b : ℕ). a + b) (sum-zero (chosenAt (replicate n none)) (length (replicate n none)) (λ i. ap (λ (x : Tally). x .chosen) (getD-all n i none)))
+  together = ap₂ (λ (a b : ℕ). a + b) (sum-zero (chosenAt (replicate n none)) (length (replicate n none))
+      (λ i. ap (λ (x : Tally). x .chosen) (getD-all n i none)))
       (sum-zero (countAt (replicate m 0)) (length (replicate m 0)) (λ i. getD-all {A = ℕ} m i 0));
   in-range = λ s. ap fits (getD-all n s none);
   counts-in-range = λ i. let z = getD-all {A = ℕ} m i 0 in omega (arith, z);
@@ -200,7 +204,9 @@ module _ (t : List ℕ) (n m : ℕ) (ks : List (List ℕ)) (x : Lent) (h : Holds
 
       fits-new : fits (plus old p) ≡ true
       unfolding within
-      fits-new = ap fits (record-is (inverted .0) e) ∙ sym (ap (λ (b : Bool). cond b (fits (recordIn (p .signal) (rs ++ p ∷ []))) (leb (refusedIn (p .refusal) (rs ++ p ∷ [])) most)) (eq-eqb (p .refusal) 0 e)) ∙ inverted .1
+      fits-new = ap fits (record-is (inverted .0) e)
+          ∙ sym (ap (λ (b : Bool). cond b (fits (recordIn (p .signal) (rs ++ p ∷ []))) (leb (refusedIn (p .refusal) (rs ++ p ∷ [])) most))
+          (eq-eqb (p .refusal) 0 e)) ∙ inverted .1
 
       record-at : (s : ℕ) → s < n → getD new s none ≡ recordIn s (rs ++ p ∷ [])
       record-at s w = byTest (eqb s (p .signal))
@@ -258,7 +264,8 @@ module _ (t : List ℕ) (n m : ℕ) (ks : List (List ℕ)) (x : Lent) (h : Holds
       room : count + 1 ≤ most
       unfolding within
       room = leb-true (count + 1) most (ap (λ (k : ℕ). leb k most) (count-is (inverted .0) z)
-          ∙ sym (ap (λ (b : Bool). cond b (fits (recordIn (p .signal) (rs ++ p ∷ []))) (leb (refusedIn (p .refusal) (rs ++ p ∷ [])) most)) (ne-eqb (p .refusal) 0 z)) ∙ inverted .1)
+          ∙ sym (ap (λ (b : Bool). cond b (fits (recordIn (p .signal) (rs ++ p ∷ []))) (leb (refusedIn (p .refusal) (rs ++ p ∷ [])) most))
+          (ne-eqb (p .refusal) 0 z)) ∙ inverted .1)
 
       its-number : p .refusal ≡ suc place
       its-number = omega (arith, one)
@@ -294,10 +301,14 @@ module _ (t : List ℕ) (n m : ℕ) (ks : List (List ℕ)) (x : Lent) (h : Holds
         let k = plainly t (x .records) (x .counts) v (refused-is ∙ ap not q) in
         byTest (accepted p)
         (λ b. let e = eqb-true (p .refusal) 0 b in
-        subst (Holds t n m (ks ++ v ∷ [])) {x = record { records = set (x .records) (p .signal) (plus (getD (x .records) (p .signal) none) p); counts = x .counts }}
+        subst (Holds t n m (ks ++ v ∷ [])) {x =
+        record { records = set (x .records) (p .signal) (plus (getD (x .records) (p .signal) none) p); counts = x .counts }}
         (λ i. record { records = (sym (add-accepted (x .records) p e) ∙ k .1) i; counts = (sym (count-accepted (x .counts) p e) ∙ k .2) i }) (holds-accepted e))
         (λ b. let e = eqb-false (p .refusal) 0 b in
-        subst (Holds t n m (ks ++ v ∷ [])) {x = record { records = x .records; counts = set (x .counts) (p .refusal - 1) (getD (x .counts) (p .refusal - 1) 0 + 1) }}
+        subst (Holds t n m (ks ++ v ∷ [])) {x = record {
+          records = x .records;
+          counts = set (x .counts) (p .refusal - 1) (getD (x .counts) (p .refusal - 1) 0 + 1);
+        }}
         (λ i. record { records = (sym (add-refused (x .records) p e) ∙ k .1) i; counts = (sym (count-refused (x .counts) p e) ∙ k .2) i }) (holds-refused e))
 
   holds-next : Holds t n m (more t n m ks v) (after t x v)

@@ -8,6 +8,9 @@ use mathlib.Core.List.{List, [], _∷_}
 use lib.Dec.{ltb, leb, eqb}
 use lib.ListN.{length, replicate, length-replicate}
 use borrow.Author.Tests.{le-ltb, le-leb, eqb-true, eqb-false, leb-true, leb-false}
+use Rattle.base_numbers.specs.Numbers.{mostNodes}
+use Rattle.base_lists.proofs.Lists.{getD-all}
+use Rattle.base_lists.proofs.Bools.{byTest}
 use Rattle.value_reader.specs.Value.{refusalOf, urisOf}
 use Rattle.value_reader.proofs.Agree.{unique, refused-exactly, accepted-list}
 use Rattle.value_reader.proofs.Examples.{each-number as each-value}
@@ -21,7 +24,6 @@ use Rattle.resolve_library.specs.Resolve.{takenAs, directSignal, refused, answe
 use Rattle.tally_library.specs.declared.Tally.{Tally}
 use Rattle.tally_library.specs.Tally.{none, most, accepted, plus, fits, needed, tooFew, full, gives20, answerOf}
 use Rattle.tally_library.specs.Numbers.{TallyNumber, TallyNumbers, EachTallyNumber, TwelveCounts}
-use Rattle.tally_library.proofs.ListLaws.{byTest, getD-all}
 use Rattle.tally_library.proofs.PlainLaws.{plain-few}
 use Rattle.tally_library.proofs.JudgeLaws.{few-counts}
 use Rattle.tally_library.proofs.TallyLaws.{full-accepted, full-refused, twenty, plainly, gives-few, gives-full}
@@ -36,21 +38,21 @@ tally-numbers t l c v = go (gives20 t l c v)
     go false = inl (plain-few t v)
 
 -- an accepted value has at most 64 entries, used or skipped
-few-uris : (v : List ℕ) → refusalOf v ≡ 0 → length (urisOf v) ≤ 64
+few-uris : (v : List ℕ) → refusalOf v ≡ 0 → length (urisOf v) ≤ mostNodes
 few-uris v e =
     let g = refused-exactly v 0 .0 e in
-    subst (λ (us : List (List ℕ)). length us ≤ 64) (unique v (g .1) (urisOf v) (g .2) (accepted-list v e)) (g .3)
+    subst (λ (us : List (List ℕ)). length us ≤ mostNodes) (unique v (g .1) (urisOf v) (g .2) (accepted-list v e)) (g .3)
 
 taken-length : (t : List ℕ) (us : List (List ℕ)) → length (takenAs t us) ≡ length us
 taken-length t [] = refl
 taken-length t (u ∷ us) = ap suc (taken-length t us)
 
-few-entries : (t v : List ℕ) → plainOf t v .used + plainOf t v .skipped ≤ 64
+few-entries : (t v : List ℕ) → plainOf t v .used + plainOf t v .skipped ≤ mostNodes
 unfolding plainOf
 few-entries t v = value (eqb (refusalOf v) 0) refl
   where
     Few : Resolution → Type 0
-    Few r = r .used + r .skipped ≤ 64
+    Few r = r .used + r .skipped ≤ mostNodes
 
     table : refusalOf v ≡ 0 → (b : Bool) → Few (cond b (answered t (urisOf v) (directSignal t (urisOf v))) (refused (tableRefusal t)))
     table e true =
@@ -89,7 +91,8 @@ module _ (t v : List ℕ) where
   not-full : full l c p ≡ false
   not-full =
       byTest (accepted p)
-      (λ e. full-accepted l c p (eqb-true (p .refusal) 0 e) ∙ ap (λ (x : Tally). not (fits (plus x p))) (getD-all (needed t) (p .signal) none) ∙ ap not one-fits)
+      (λ e. full-accepted l c p (eqb-true (p .refusal) 0 e) ∙ ap (λ (x : Tally). not (fits (plus x p)))
+      (getD-all (needed t) (p .signal) none) ∙ ap not one-fits)
       (λ e. full-refused l c p (eqb-false (p .refusal) 0 e) ∙ ap (λ (n : ℕ). ltb most (n + 1)) (getD-all 12 (p .refusal - 1) 0))
 
   plain-answer : answerOf t l c v ≡ plainOf t v
@@ -107,24 +110,38 @@ value = each-value 0 (omega arith)
 
 plain-each : (n : ℕ) → n ≤ 12 → (t v : List ℕ) × (plainOf t v .refusal ≡ n)
 unfolding plainOf
-plain-each zero h =
-    (least, value .0, sym (ap (λ (x : Resolution). x .refusal) (none-refused least (value .0) (answered least (urisOf (value .0)) (directSignal least (urisOf (value .0)))) (value .1) least-formed)))
+plain-each zero h = (
+  least,
+  value .0,
+  sym (ap (λ (x : Resolution). x .refusal)
+      (none-refused least (value .0) (answered least (urisOf (value .0)) (directSignal least (urisOf (value .0)))) (value .1) least-formed)),
+)
 plain-each (suc n) h = byTest (leb (suc n) 3) (λ e. of-value (leb-true (suc n) 3 e)) (λ e. of-table (leb-false (suc n) 3 e))
   where
     of-value : suc n ≤ 3 → (t v : List ℕ) × (plainOf t v .refusal ≡ suc n)
     of-value few =
-        let v = each-value (suc n) few in
-        (least, v .0, sym (ap (λ (x : Resolution). x .refusal) (value-refused least (v .0) (answered least (urisOf (v .0)) (directSignal least (urisOf (v .0)))) (v .1) (omega arith))))
+        let v = each-value (suc n) few in (
+          least,
+          v .0,
+          sym (ap (λ (x : Resolution). x .refusal)
+              (value-refused least (v .0) (answered least (urisOf (v .0)) (directSignal least (urisOf (v .0)))) (v .1) (omega arith))),
+        )
 
     of-table : 3 < suc n → (t v : List ℕ) × (plainOf t v .refusal ≡ suc n)
     of-table more =
         let t = each-table (suc n) (inr (omega arith, h)) in
-        let e = table-refused (t .0) (value .0) (answered (t .0) (urisOf (value .0)) (directSignal (t .0) (urisOf (value .0)))) (value .1) (λ z. omega (arith, t .1, z)) in
+        let e = table-refused (t .0) (value .0) (answered (t .0) (urisOf (value .0)) (directSignal (t .0) (urisOf (value .0)))) (value .1)
+        (λ z. omega (arith, t .1, z)) in
         (t .0, value .0, sym (ap (λ (x : Resolution). x .refusal) e) ∙ t .1)
 
 pub each-tally-number : EachTallyNumber
 each-tally-number n (inl h) =
     let w = plain-each n h in
     (w .0, replicate (needed (w .0)) none, replicate 12 0, w .1, ap (λ (x : Resolution). x .refusal) (plain-answer (w .0) (w .1)) ∙ w .2)
-each-tally-number n (inr e) =
-    (least, replicate 0 none, replicate 0 0, value .0, ap (λ (x : Resolution). x .refusal) (twelve-counts .eleven least (replicate 0 none) (replicate 0 0) (value .0) (omega arith)) ∙ sym e)
+each-tally-number n (inr e) = (
+  least,
+  replicate 0 none,
+  replicate 0 0,
+  value .0,
+  ap (λ (x : Resolution). x .refusal) (twelve-counts .eleven least (replicate 0 none) (replicate 0 0) (value .0) (omega arith)) ∙ sym e,
+)

@@ -12,12 +12,12 @@ use Rattle.value_reader.specs.Value.{refusalOf, urisOf}
 use Rattle.theory_resolution.specs.Table.{Urn, Table, WellFormed}
 use Rattle.theory_resolution.specs.Direct.{State, start, step, envOf, StateOf, direct, usedOf}
 use Rattle.theory_resolution.proofs.TableStep.{state-start, state-step, state-signal}
-use Rattle.table_decode.specs.Tables.{tableRefusal, tableOf}
+use Rattle.table_decode.specs.Tables.{tableRefusal, tableOf, RefusalNumber}
 use Rattle.table_decode.proofs.Accepting as stored
 use Rattle.resolve_run.specs.declared.Resolution.{Resolution}
 use Rattle.resolve_library.specs.Resolve.{takenAs, directSignal, refused, answered, plainOf}
-use Rattle.claims_demands.specs.Demands.{PlainNumber}
-use Rattle.claims_demands.proofs.RefusalLaws.{plain-number}
+use Rattle.value_reader.proofs.Agree.{refusal-numbers as value-numbers}
+use Rattle.table_decode.proofs.RefusalNumbers.{refusal-numbers as table-numbers}
 
 -- direct resolution is always at a signal of the table
 state-after : (T : Table) → WellFormed T → (us : List Urn) (st : State) → StateOf T st → StateOf T (foldl (step (envOf T)) st us)
@@ -53,8 +53,19 @@ plain-accepted t v = λ e. record { formed = both e .0; listed = both e .1 }
 
 -- the number of a refused one
 pub plain-few : (t v : List ℕ) → plainOf t v .refusal ≤ 12
-plain-few t v = go (plain-number t v)
+unfolding plainOf
+plain-few t v = value (eqb (refusalOf v) 0)
   where
-    go : {n : ℕ} → PlainNumber n → n ≤ 12
-    go {n} (inl e) = omega (arith, e)
-    go {n} (inr h) = h .1
+    numbered : RefusalNumber (tableRefusal t) → tableRefusal t ≤ 12
+    numbered (inl e) = omega (arith, e)
+    numbered (inr h) = h .1
+
+    table : (b : Bool) → cond b (answered t (urisOf v) (directSignal t (urisOf v))) (refused (tableRefusal t)) .refusal ≤ 12
+    table true = omega arith
+    table false = numbered (table-numbers t)
+
+    value : (b : Bool)
+        → cond b (cond (eqb (tableRefusal t) 0) (answered t (urisOf v) (directSignal t (urisOf v))) (refused (tableRefusal t)))
+        (refused (refusalOf v)) .refusal ≤ 12
+    value true = table (eqb (tableRefusal t) 0)
+    value false = omega (arith, value-numbers v)

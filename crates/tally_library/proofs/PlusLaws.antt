@@ -7,13 +7,13 @@ use lib.Dec.{leb}
 use lib.ListN.{length, getD, set}
 use mathlib.Core.List.{List}
 use borrow.Author.Tests.{le-leb, lt-leb, lt-ltb, le-ltb, eq-eqb, ne-eqb}
+use lib.Seq.{set-out}
 use Rattle.resolve_run.specs.declared.Resolution.{Resolution}
 use Rattle.resolve_library.specs.Resolve.{refused}
 use Rattle.tally_library.specs.declared.Tally.{Tally}
 use Rattle.tally_library.specs.declared.records.Added.{Added}
 use Rattle.tally_library.specs.Tally.{none, most, plus, fits}
 use Rattle.tally_library.specs.Steps.{addedOf, placeOf, answerAt, recordsAt}
-use Rattle.tally_library.proofs.ListLaws.{set-past}
 
 -- all three counts are at most the highest
 pub fits-all : (x : Tally) → x .chosen ≤ most → x .used ≤ most → x .skipped ≤ most → fits x ≡ true
@@ -38,11 +38,13 @@ module _ (x : Tally) (r : Resolution) where
 
   pub used-full : most - x .used < r .used → fits (plus x r) ≡ false
   unfolding fits
-  used-full h = both-no (leb (x .chosen + 1) most) (leb (x .used + r .used) most) (leb (x .skipped + r .skipped) most) (lt-leb (x .used + r .used) most (omega (arith, h)))
+  used-full h = both-no (leb (x .chosen + 1) most) (leb (x .used + r .used) most) (leb (x .skipped + r .skipped) most)
+      (lt-leb (x .used + r .used) most (omega (arith, h)))
 
   pub skipped-full : most - x .skipped < r .skipped → fits (plus x r) ≡ false
   unfolding fits
-  skipped-full h = last-no (leb (x .chosen + 1) most) (leb (x .used + r .used) most) (leb (x .skipped + r .skipped) most) (lt-leb (x .skipped + r .skipped) most (omega (arith, h)))
+  skipped-full h = last-no (leb (x .chosen + 1) most) (leb (x .used + r .used) most) (leb (x .skipped + r .skipped) most)
+      (lt-leb (x .skipped + r .skipped) most (omega (arith, h)))
 
   -- the record stays and the answer is 20, or the record has the resolution
   pub added-no : (a : Resolution) → a ≡ refused 20 → fits (plus x r) ≡ false → record { answer = a; after = x } ≡ addedOf x r
@@ -66,7 +68,7 @@ place-refused r n h = sym (ap (λ (b : Bool). cond b (r .signal) n) (ne-eqb _ _ 
 -- what `add` answers and leaves: past the last record, and at one of them
 pub add-past : (l : List Tally) (s : ℕ) (r : Resolution) → length l ≤ s → (r ≡ answerAt l s r) × (l ≡ recordsAt l s r)
 unfolding answerAt recordsAt
-add-past l s r h = (sym (ap (λ (b : Bool). cond b (addedOf (getD l s none) r .answer) r) (le-ltb s (length l) h)), sym (set-past l s _ h))
+add-past l s r h = (sym (ap (λ (b : Bool). cond b (addedOf (getD l s none) r .answer) r) (le-ltb s (length l) h)), sym (set-out l s _ h))
 
 pub add-within : (l : List Tally) (s : ℕ) (r : Resolution) → s < length l → (a : Added) → a ≡ addedOf (getD l s none) r
     → (a .answer ≡ answerAt l s r) × (set l s (a .after) ≡ recordsAt l s r)

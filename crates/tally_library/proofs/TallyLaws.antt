@@ -6,16 +6,18 @@ use mathlib.Core.Bool.{Bool, true, false, not, cond}
 use mathlib.Core.List.{List}
 use lib.Dec.{ltb}
 use lib.ListN.{length, getD, set, take, drop, length-set, length-take}
-use lib.Seq.{getD-set-other, getD-take, take-set-lt, drop-set-lt}
+use lib.Seq.{getD-set-other, getD-take, take-set-lt, drop-set-lt, set-getD}
 use borrow.Author.Tests.{eq-eqb, ne-eqb, eqb-true, eqb-false, ltb-false}
+use Rattle.base_numbers.specs.Numbers.{mostSignals}
+use Rattle.base_lists.proofs.Bools.{byTest}
 use Rattle.table_decode.specs.Tables.{tableRefusal, tableOf}
 use Rattle.resolve_run.specs.declared.Resolution.{Resolution}
 use Rattle.resolve_library.specs.Resolve.{refused, plainOf}
 use Rattle.tally_library.specs.declared.Tally.{Tally}
 use Rattle.tally_library.specs.declared.records.Added.{Added}
-use Rattle.tally_library.specs.Tally.{none, most, accepted, plus, fits, addTo, countTo, needed, tooFew, full, gives20, answerOf, recordsOf, countsOf, Tallied, Stays, StaysLaw}
+use Rattle.tally_library.specs.Tally.{none, most, accepted, plus, fits, addTo, countTo, needed, tooFew, full, gives20, answerOf, recordsOf}
+use Rattle.tally_library.specs.Tally.{countsOf, Tallied, Stays, StaysLaw}
 use Rattle.tally_library.specs.Steps.{fullCount, judgedOf, judgedCounts, placeOf, addedOf, answerAt, recordsAt}
-use Rattle.tally_library.proofs.ListLaws.{byTest, set-same}
 use Rattle.tally_library.proofs.PlusLaws.{place-accepted, place-refused, add-past, add-within}
 use Rattle.tally_library.proofs.PlainLaws.{plain-accepted, plain-few}
 use Rattle.tally_library.proofs.JudgeLaws.{Judges}
@@ -41,11 +43,13 @@ count-refused c r h = ap (λ (b : Bool). cond b c (set c (r .refusal - 1) (getD 
 -- which counts a resolution would pass
 pub full-accepted : (l : List Tally) (c : List ℕ) (r : Resolution) → r .refusal ≡ 0 → full l c r ≡ not (fits (plus (getD l (r .signal) none) r))
 unfolding full
-full-accepted l c r e = ap (λ (b : Bool). cond b (not (fits (plus (getD l (r .signal) none) r))) (ltb most (getD c (r .refusal - 1) 0 + 1))) (eq-eqb (r .refusal) 0 e)
+full-accepted l c r e = ap (λ (b : Bool). cond b (not (fits (plus (getD l (r .signal) none) r)))
+    (ltb most (getD c (r .refusal - 1) 0 + 1))) (eq-eqb (r .refusal) 0 e)
 
 pub full-refused : (l : List Tally) (c : List ℕ) (r : Resolution) → (r .refusal ≡ 0 → ⊥) → full l c r ≡ ltb most (getD c (r .refusal - 1) 0 + 1)
 unfolding full
-full-refused l c r h = ap (λ (b : Bool). cond b (not (fits (plus (getD l (r .signal) none) r))) (ltb most (getD c (r .refusal - 1) 0 + 1))) (ne-eqb (r .refusal) 0 h)
+full-refused l c r h = ap (λ (b : Bool). cond b (not (fits (plus (getD l (r .signal) none) r))) (ltb most (getD c (r .refusal - 1) 0 + 1)))
+    (ne-eqb (r .refusal) 0 h)
 
 -- with enough records there is one for each signal of a well-formed table, and with enough counts one for each number
 module _ (t : List ℕ) (n m : ℕ) (enough : tooFew t n m ≡ false) where
@@ -99,11 +103,13 @@ module _ (t : List ℕ) (l : List Tally) (c v : List ℕ) where
   put-accepted : (r : Resolution) → r .refusal ≡ 0 → r .signal < length l
       → Put r (addedOf (getD l (r .signal) none) r .answer) (set l (r .signal) (addedOf (getD l (r .signal) none) r .after))
   put-accepted r e h =
-      subst (λ (s : ℕ). (addedOf (getD l (r .signal) none) r .answer ≡ answerAt l s r) × (set l (r .signal) (addedOf (getD l (r .signal) none) r .after) ≡ recordsAt l s r))
+      subst (λ (s : ℕ). (addedOf (getD l (r .signal) none) r .answer ≡ answerAt l s r)
+      × (set l (r .signal) (addedOf (getD l (r .signal) none) r .after) ≡ recordsAt l s r))
       (place-accepted r (length l) e) (add-within l (r .signal) r h (addedOf (getD l (r .signal) none) r) refl)
 
   -- from what is known of a judged resolution to the three answers
-  finish : (r x a b : Resolution) (l′ m : List Tally) (c′ d : List ℕ) → r ≡ x → c′ ≡ d → Put x b m → Tallied t l c v b m d → Put r a l′ → Tallied t l c v a l′ c′
+  finish : (r x a b : Resolution) (l′ m : List Tally) (c′ d : List ℕ) → r ≡ x → c′ ≡ d → Put x b m → Tallied t l c v b m d → Put r a l′
+      → Tallied t l c v a l′ c′
   finish r x a b l′ m c′ d e f q k z =
       let y = subst (λ (w : Resolution). Put w a l′) e z in
       (y .0 ∙ sym (q .0) ∙ k .0, y .1 ∙ sym (q .1) ∙ k .1, f ∙ k .2)
@@ -111,7 +117,10 @@ module _ (t : List ℕ) (l : List Tally) (c v : List ℕ) where
   module _ (r a : Resolution) (l′ : List Tally) (c′ : List ℕ) (j : Judges t (length l) c v r c′) (put : Put r a l′) where
     few : tooFew t (length l) (length c) ≡ true → Tallied t l c v a l′ c′
     unfolding judgedOf judgedCounts
-    few h = finish r (refused 20) a (refused 20) l′ l c′ c (j .0 ∙ simp h) (j .1 ∙ simp h) (put-refused (refused 20) (λ e. omega (arith, e))) (twenty (gives-few h)) put
+    few h = finish r (refused 20) a (refused 20) l′ l c′ c (j .0 ∙ simp h) (j .1 ∙ simp h) (put-refused (refused 20) (λ e. omega (
+      arith,
+      e,
+    ))) (twenty (gives-few h)) put
 
     module _ (enough : tooFew t (length l) (length c) ≡ false) where
       judged : (b : Bool) → fullCount c p ≡ b → (r ≡ cond b (refused 20) p) × (c′ ≡ cond b c (countTo c p))
@@ -129,12 +138,14 @@ module _ (t : List ℕ) (l : List Tally) (c v : List ℕ) where
         by-fit : (b : Bool) → fits (plus (getD l (p .signal) none) p) ≡ b → Tallied t l c v a l′ c′
         by-fit true f =
             finish r p a p l′ (set l (p .signal) (plus (getD l (p .signal) none) p)) c′ (countTo c p) (judged false no-count .0) (judged false no-count .1)
-            (subst (λ (b : Bool). Put p (cond b p (refused 20)) (set l (p .signal) (cond b (plus (getD l (p .signal) none) p) (getD l (p .signal) none)))) f (put-accepted p e inside))
+            (subst (λ (b : Bool). Put p (cond b p (refused 20))
+            (set l (p .signal) (cond b (plus (getD l (p .signal) none) p) (getD l (p .signal) none)))) f (put-accepted p e inside))
             (let k = plainly (gives-full enough ∙ full-accepted l c p e ∙ ap not f) in (k .0, sym (add-accepted l p e) ∙ k .1, k .2)) put
         by-fit false f =
             finish r p a (refused 20) l′ l c′ c (judged false no-count .0) (judged false no-count .1 ∙ count-accepted c p e)
-            (let q = subst (λ (b : Bool). Put p (cond b p (refused 20)) (set l (p .signal) (cond b (plus (getD l (p .signal) none) p) (getD l (p .signal) none)))) f (put-accepted p e inside) in
-            (q .0, sym (set-same l (p .signal) none) ∙ q .1))
+            (let q = subst (λ (b : Bool). Put p (cond b p (refused 20))
+            (set l (p .signal) (cond b (plus (getD l (p .signal) none) p) (getD l (p .signal) none)))) f (put-accepted p e inside) in
+            (q .0, sym (set-getD l (p .signal) none) ∙ q .1))
             (twenty (gives-full enough ∙ full-accepted l c p e ∙ ap not f)) put
 
       module _ (h : p .refusal ≡ 0 → ⊥) where
@@ -144,7 +155,8 @@ module _ (t : List ℕ) (l : List Tally) (c v : List ℕ) where
 
         by-full : (b : Bool) → ltb most (getD c (p .refusal - 1) 0 + 1) ≡ b → Tallied t l c v a l′ c′
         by-full true e =
-            finish r (refused 20) a (refused 20) l′ l c′ c (judged true (by-count true e) .0) (judged true (by-count true e) .1) (put-refused (refused 20) (λ z. omega (arith, z)))
+            finish r (refused 20) a (refused 20) l′ l c′ c (judged true (by-count true e) .0) (judged true (by-count true e) .1)
+            (put-refused (refused 20) (λ z. omega (arith, z)))
             (twenty (gives-full enough ∙ full-refused l c p h ∙ e)) put
         by-full false e =
             finish r p a p l′ l c′ (countTo c p) (judged false (by-count false e) .0) (judged false (by-count false e) .1) (put-refused p h)
@@ -158,12 +170,14 @@ module _ (t : List ℕ) (l : List Tally) (c v : List ℕ) where
         (λ e. by-full enough (eqb-false (p .refusal) 0 e) (ltb most (getD c (p .refusal - 1) 0 + 1)) refl))
 
 -- the same, with the place as a number of its own
-pub tallied-at : (t : List ℕ) (l : List Tally) (c v : List ℕ) (j : Resolution) (s : ℕ) (a : Resolution) (l′ : List Tally) (c′ : List ℕ) → Judges t (length l) c v j c′ → s ≡ placeOf j (length l)
+pub tallied-at : (t : List ℕ) (l : List Tally) (c v : List ℕ) (j : Resolution) (s : ℕ) (a : Resolution) (l′ : List Tally) (c′ : List ℕ)
+    → Judges t (length l) c v j c′ → s ≡ placeOf j (length l)
     → (a ≡ answerAt l s j) × (l′ ≡ recordsAt l s j) → Tallied t l c v a l′ c′
 tallied-at t l c v j s a l′ c′ d e put = tallied t l c v j a l′ c′ d (subst (λ (z : ℕ). (a ≡ answerAt l z j) × (l′ ≡ recordsAt l z j)) e put)
 
 -- the same on the first n of 32 records
-module _ (t : List ℕ) (xs : List Tally) (n : ℕ) (c v : List ℕ) (r : Resolution) (c′ : List ℕ) (k s : ℕ) (wide : length xs ≡ 32) (e : k ≡ min n 32) (d : Judges t k c v r c′)
+module _ (t : List ℕ) (xs : List Tally) (n : ℕ) (c v : List ℕ) (r : Resolution) (c′ : List ℕ) (k s : ℕ) (wide : length xs ≡ mostSignals)
+    (e : k ≡ min n mostSignals) (d : Judges t k c v r c′)
     (f : s ≡ placeOf r k) where
   few-of : k ≡ length (take n xs)
   few-of = e ∙ sym (length-take n xs ∙ ap (min n) wide)
@@ -184,15 +198,21 @@ module _ (t : List ℕ) (xs : List Tally) (n : ℕ) (c v : List ℕ) (r : Resolu
       → Tallied t (take n xs) c v (a .answer) (take n (set xs s (a .after))) c′ × (drop n (set xs s (a .after)) ≡ drop n xs)
   first-within h a g =
       let below : s < n = omega (arith, h, e) in
-      let put = add-within (take n xs) s r (subst (λ (m : ℕ). s < m) few-of h) a (g ∙ ap (λ (x : Tally). addedOf x r) (sym (getD-take n xs s none below))) in
-      (tallied-at t (take n xs) c v r s (a .answer) (take n (set xs s (a .after))) c′ judged-on placed-on (put .0, take-set-lt n xs s (a .after) below ∙ put .1), drop-set-lt n xs s (a .after) below)
+      let put = add-within (take n xs) s r (subst (λ (m : ℕ). s < m) few-of h) a (g ∙ ap (λ (x : Tally). addedOf x r) (sym (getD-take n xs s none below))) in (
+        tallied-at t (take n xs) c v r s (a .answer) (take n (set xs s (a .after))) c′ judged-on placed-on (
+          put .0,
+          take-set-lt n xs s (a .after) below ∙ put .1,
+        ),
+        drop-set-lt n xs s (a .after) below,
+      )
 
 -- what stays
 module _ (t : List ℕ) (l : List Tally) (c v : List ℕ) where
   abbrev Keeps : Resolution → List Tally → List ℕ → Type 0
   Keeps a l′ c′ =
       ((i : ℕ) → (i ≡ a .signal → ⊥) → getD l′ i none ≡ getD l i none) × ((a .refusal ≡ 0 → ⊥) → l′ ≡ l)
-      × ((i : ℕ) → (i + 1 ≡ a .refusal → ⊥) → getD c′ i 0 ≡ getD c i 0) × (length l′ ≡ length l) × (length c′ ≡ length c) × ((i : ℕ) → length (tableOf t .signals) ≤ i → getD l′ i none ≡ getD l i none)
+      × ((i : ℕ) → (i + 1 ≡ a .refusal → ⊥) → getD c′ i 0 ≡ getD c i 0) × (length l′ ≡ length l) × (length c′ ≡ length c)
+      × ((i : ℕ) → length (tableOf t .signals) ≤ i → getD l′ i none ≡ getD l i none)
       × ((i : ℕ) → 12 ≤ i → getD c′ i 0 ≡ getD c i 0)
 
   keeps-all : (a : Resolution) → Keeps a l c
@@ -236,7 +256,8 @@ module _ (t : List ℕ) (l : List Tally) (c v : List ℕ) where
       carry (k .0) (sym (add-refused l (plainOf t v) e) ∙ k .1) (sym (count-refused c (plainOf t v) e) ∙ k .2) (keeps-refused e)))
     where
       carry : {a a′ : Resolution} {m m′ : List Tally} {d d′ : List ℕ} → a ≡ a′ → m ≡ m′ → d ≡ d′ → Keeps a m d → Keeps a′ m′ d′
-      carry {a} {a′} {m} {m′} {d} {d′} e f g k = subst (λ (z : Resolution). Keeps z m′ d′) e (subst (λ (z : List Tally). Keeps a z d′) f (subst (λ (z : List ℕ). Keeps a m z) g k))
+      carry {a} {a′} {m} {m′} {d} {d′} e f g k =
+          subst (λ (z : Resolution). Keeps z m′ d′) e (subst (λ (z : List Tally). Keeps a z d′) f (subst (λ (z : List ℕ). Keeps a m z) g k))
 
   -- the plain resolver never gives 20
   twenty-only : answerOf t l c v .refusal ≡ 20 → gives20 t l c v ≡ true

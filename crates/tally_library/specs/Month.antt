@@ -5,6 +5,7 @@ use mathlib.Core.Bool.{Bool, true, not, cond, _&&_}
 use mathlib.Core.List.{List, [], _∷_, _++_, map, foldl}
 use lib.Dec.{leb, eqb}
 use lib.ListN.{length, getD, replicate}
+use Rattle.base_numbers.specs.Numbers.{notCounted}
 use Rattle.resolve_run.specs.declared.Resolution.{Resolution}
 use Rattle.resolve_library.specs.Resolve.{refused, plainOf}
 use Rattle.tally_library.specs.declared.Tally.{Tally}
@@ -108,7 +109,7 @@ pub record Month (t : List ℕ) (n m : ℕ) (vs : List (List ℕ)) : Type 0 wher
   pub holds : Holds t n m (counted t n m vs) (fed t (cleared n m) vs)
   -- the next value is answered by the plain resolver exactly if it is counted, else with 20
   pub next : (v : List ℕ) → answerOf t (fed t (cleared n m) vs .records) (fed t (cleared n m) vs .counts) v
-      ≡ cond (takes t n m (counted t n m vs) v) (plainOf t v) (refused 20)
+      ≡ cond (takes t n m (counted t n m vs) v) (plainOf t v) (refused notCounted)
 
 abbrev pub MonthLaw : Type 0
 MonthLaw = (t : List ℕ) (n m : ℕ) (vs : List (List ℕ)) → Month t n m vs

@@ -4,6 +4,7 @@ use mathlib.Core.Bool.{Bool, false, cond}
 use mathlib.Core.List.{List}
 use lib.Dec.{ltb}
 use lib.ListN.{length, getD, set}
+use Rattle.base_numbers.specs.Numbers.{notCounted}
 use Rattle.resolve_run.specs.declared.Resolution.{Resolution}
 use Rattle.resolve_library.specs.Resolve.{refused, plainOf}
 use Rattle.tally_library.specs.declared.Tally.{Tally}
@@ -16,7 +17,7 @@ fullCount c r = cond (accepted r) false (ltb most (getD c (r .refusal - 1) 0 + 1
 
 -- a resolution with its refusal counted: itself, or 20
 unfoldable pub judgedOf : List ℕ → ℕ → List ℕ → List ℕ → Resolution
-judgedOf t n c v = cond (tooFew t n (length c)) (refused 20) (cond (fullCount c (plainOf t v)) (refused 20) (plainOf t v))
+judgedOf t n c v = cond (tooFew t n (length c)) (refused notCounted) (cond (fullCount c (plainOf t v)) (refused notCounted) (plainOf t v))
 
 unfoldable pub judgedCounts : List ℕ → ℕ → List ℕ → List ℕ → List ℕ
 judgedCounts t n c v = cond (tooFew t n (length c)) c (cond (fullCount c (plainOf t v)) c (countTo c (plainOf t v)))
@@ -27,7 +28,7 @@ placeOf r n = cond (accepted r) (r .signal) n
 
 -- a record after a resolution, and the answer: 20, and the same record, if a count would pass the highest
 abbrev pub addedOf : Tally → Resolution → Added
-addedOf x r = record { answer = cond (fits (plus x r)) r (refused 20); after = cond (fits (plus x r)) (plus x r) x }
+addedOf x r = record { answer = cond (fits (plus x r)) r (refused notCounted); after = cond (fits (plus x r)) (plus x r) x }
 
 -- the answer, and the records after it, where a resolution has its place s
 unfoldable pub answerAt : List Tally → ℕ → Resolution → Resolution

@@ -6,6 +6,7 @@ use mathlib.Core.Bool.{Bool, true, not, cond, _&&_}
 use mathlib.Core.List.{List}
 use lib.Dec.{ltb, leb, eqb}
 use lib.ListN.{length, getD, set}
+use Rattle.base_numbers.specs.Numbers.{mostCount, notCounted, tallyCounts}
 use Rattle.table_decode.specs.Tables.{tableRefusal, tableOf}
 use Rattle.resolve_run.specs.declared.Resolution.{Resolution}
 use Rattle.resolve_library.specs.Resolve.{refused, plainOf}
@@ -17,7 +18,7 @@ none = record { chosen = 0; used = 0; skipped = 0 }
 
 -- the highest count
 abbrev pub most : ℕ
-most = 4294967295
+most = mostCount
 
 -- a resolution that is not refused
 abbrev pub accepted : Resolution → Bool
@@ -45,7 +46,7 @@ needed t = cond (eqb (tableRefusal t) 0) (length (tableOf t .signals)) 0
 
 -- 20, whatever the value: not all 12 refusal counts, or not all the records that the table needs
 unfoldable pub tooFew : List ℕ → ℕ → ℕ → Bool
-tooFew t n m = cond (ltb m 12) true (ltb n (needed t))
+tooFew t n m = cond (ltb m tallyCounts) true (ltb n (needed t))
 
 -- 20: a count that the resolution raises would pass the highest
 unfoldable pub full : List Tally → List ℕ → Resolution → Bool
@@ -57,7 +58,7 @@ gives20 t l c v = cond (tooFew t (length l) (length c)) true (full l c (plainOf 
 
 -- the answer: the plain resolver's, or 20
 unfoldable pub answerOf : List ℕ → List Tally → List ℕ → List ℕ → Resolution
-answerOf t l c v = cond (gives20 t l c v) (refused 20) (plainOf t v)
+answerOf t l c v = cond (gives20 t l c v) (refused notCounted) (plainOf t v)
 
 -- the records after it
 unfoldable pub recordsOf : List ℕ → List Tally → List ℕ → List ℕ → List Tally
@@ -84,7 +85,7 @@ pub record Stays (t : List ℕ) (l : List Tally) (c v : List ℕ) : Type 0 where
   pub refused-keeps : (answerOf t l c v .refusal ≡ 0 → ⊥) → recordsOf t l c v ≡ l
   -- all counts but that of the number, so all past the twelfth too; and all counts, if the value is accepted
   pub other-counts : (i : ℕ) → (i + 1 ≡ answerOf t l c v .refusal → ⊥) → getD (countsOf t l c v) i 0 ≡ getD c i 0
-  pub surplus-counts : (i : ℕ) → 12 ≤ i → getD (countsOf t l c v) i 0 ≡ getD c i 0
+  pub surplus-counts : (i : ℕ) → tallyCounts ≤ i → getD (countsOf t l c v) i 0 ≡ getD c i 0
   -- there are as many records and counts as before
   pub as-many-records : length (recordsOf t l c v) ≡ length l
   pub as-many-counts : length (countsOf t l c v) ≡ length c

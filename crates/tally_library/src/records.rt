@@ -1,6 +1,7 @@
 // An accepted resolution is added to its signal's record.
 use crate::Tally;
 use crate::judge::uncounted;
+use base_numbers::MOST_COUNT;
 use resolve_run::Resolution;
 ghost use mathlib.Core.Path.{_≡_};
 ghost use Rattle.tally_library.specs.Steps.{placeOf, addedOf, answerAt, recordsAt};
@@ -27,19 +28,19 @@ pub(crate) fn plus(x: Tally, r: Resolution) -> Added
 {
     let used = r.used as u32;
     let skipped = r.skipped as u32;
-    if x.chosen == 4294967295 {
+    if x.chosen == MOST_COUNT {
         return Added {
             answer: uncounted(),
             after: x,
         };
     }
-    if 4294967295 - x.used < used {
+    if MOST_COUNT - x.used < used {
         return Added {
             answer: uncounted(),
             after: x,
         };
     }
-    if 4294967295 - x.skipped < skipped {
+    if MOST_COUNT - x.skipped < skipped {
         return Added {
             answer: uncounted(),
             after: x,

@@ -3,7 +3,7 @@ use Prim.Native.Nat.{ℕ, zero, suc, _<_}
 use mathlib.Core.Path.{_≡_, refl, sym, ap, _∙_}
 use mathlib.Core.Logic.{_⊎_, inl, inr}
 use mathlib.Core.List.{List, [], _∷_, List·Memᴰ, List·Memᴰ·head, List·Memᴰ·tail, List·Memᴰ·cases-cons, List·Memᴰ·not-nil}
-use Rattle.theory_resolution.proofs.Lists.{tabulate-at}
+use Rattle.base_lists.proofs.Tabulated.{tabulate-at}
 use Rattle.theory_minimal.specs.Machine.{Machine, Formed, Sequence, Alike}
 use Rattle.theory_minimal.specs.Proposal.{classOf}
 use Rattle.theory_minimal.specs.Refine.{refined, blocks}
@@ -67,7 +67,8 @@ module _ (m : Machine) (formed : Formed m) where
   block-alike =
       follow (λ i j. classOf (blocks m) i ≡ classOf (blocks m) j) (refined-signal (m .states)) targets
     where
-      targets : (i j k : ℕ) → i < m .states → j < m .states → k < m .symbols → classOf (blocks m) i ≡ classOf (blocks m) j → classOf (blocks m) (m .target i k) ≡ classOf (blocks m) (m .target j k)
+      targets : (i j k : ℕ) → i < m .states → j < m .states → k < m .symbols → classOf (blocks m) i ≡ classOf (blocks m) j
+          → classOf (blocks m) (m .target i k) ≡ classOf (blocks m) (m .target j k)
       targets i j k a b h e =
           let s = settled m (formed .some-state) in
           refine-to m (blocks m) i j a b (ap (λ p. classOf p i) s ∙ e ∙ sym (ap (λ p. classOf p j) s)) .targets k h

@@ -9,11 +9,12 @@ use lib.Seq.{ext-getD}
 use borrow.Author.Tests.{eqb-true, eq-eqb}
 use native.Mathlib.Decide.{decLt}
 use native.Mathlib.Omega.{arith}
-use Rattle.theory_resolution.proofs.Lists.{tabulate-at, tabulate-length}
+use Rattle.base_lists.proofs.Search.{count-past, count-place}
+use Rattle.base_lists.specs.Search.{count}
+use Rattle.base_lists.proofs.Tabulated.{tabulate-at, tabulate-length}
 use Rattle.theory_minimal.specs.Machine.{Machine, Formed, Alike}
 use Rattle.theory_minimal.specs.Proposal.{classOf, ByFirstStates, SameButNumbers}
-use Rattle.theory_minimal.specs.Refine.{blocks, count, isFirst, blockNumber, classes}
-use Rattle.theory_minimal.proofs.Count.{count-past, count-place}
+use Rattle.theory_minimal.specs.Refine.{blocks, isFirst, blockNumber, classes}
 use Rattle.theory_minimal.proofs.Refine.{refine-le, refine-leads, settled}
 use Rattle.theory_minimal.proofs.Alike.{block-alike, alike-block}
 
@@ -64,7 +65,8 @@ module _ (m : Machine) (formed : Formed m) where
       record {
         state = r .place;
         earlier = d;
-        classed = class-number (r .place) (omega arith) ∙ ap (count (isFirst (blocks m))) (eqb-true (classOf (blocks m) (r .place)) (r .place) (r .passes)) ∙ r .before;
+        classed = class-number (r .place) (omega arith)
+            ∙ ap (count (isFirst (blocks m))) (eqb-true (classOf (blocks m) (r .place)) (r .place) (r .passes)) ∙ r .before;
       }
 
 -- numbered by first states, state 0 has class 0
@@ -76,7 +78,8 @@ first-class p h f = go (decLt 0 (classOf p 0))
     go (no a) = omega arith
 
 -- proposals numbered by first states that are the same but for the numbers are the same
-module _ (n : ℕ) (p q : List ℕ) (p-sized : length p ≡ n) (q-sized : length q ≡ n) (same : SameButNumbers n p q) (p-first : ByFirstStates p) (q-first : ByFirstStates q) where
+module _ (n : ℕ) (p q : List ℕ) (p-sized : length p ≡ n) (q-sized : length q ≡ n) (same : SameButNumbers n p q) (p-first : ByFirstStates p)
+    (q-first : ByFirstStates q) where
   at-first : (i : ℕ) → i < n → ((j : ℕ) → j < i → classOf p j ≡ classOf q j) → classOf p i ≡ classOf q i
   at-first i h before = go (decLt (classOf p i) (classOf q i)) (decLt (classOf q i) (classOf p i))
     where

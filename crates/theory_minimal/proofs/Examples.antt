@@ -2,11 +2,12 @@
 use mathlib.Core.Path.{_≡_, refl}
 use mathlib.Core.Option.{some, none}
 use mathlib.Core.List.{[], _∷_, map}
-use Rattle.theory_resolution.specs.Lists.{tabulate, allBelow}
+use Rattle.base_lists.specs.Search.{seek, highest, count}
+use Rattle.base_lists.specs.Lists.{tabulate, allBelow}
 use Rattle.theory_resolution.specs.Discovery.{expand, discover}
 use Rattle.theory_minimal.specs.Machine.{signalAfter}
-use Rattle.theory_minimal.specs.Proposal.{seek, highest, small}
-use Rattle.theory_minimal.specs.Refine.{refined, count}
+use Rattle.theory_minimal.specs.Proposal.{small}
+use Rattle.theory_minimal.specs.Refine.{refined}
 use Rattle.theory_minimal.specs.Test.{fits, proposed}
 use Rattle.theory_minimal.specs.Examples.{M1, M2, M3, M4, Case, cases}
 

@@ -7,13 +7,13 @@ use lib.Dec.{eqb}
 use lib.ListN.{length}
 use borrow.Author.Tests.{eqb-true, eq-eqb}
 use native.Mathlib.Omega.{arith}
-use Rattle.theory_resolution.specs.Lists.{sameList}
-use Rattle.theory_resolution.proofs.Lists.{eqb-exact, list-exact}
+use Rattle.base_lists.proofs.Search.{seek-found, highest-above}
+use Rattle.base_lists.proofs.Lists.{eqb-exact, list-exact}
+use Rattle.base_lists.specs.Lists.{sameList}
 use Rattle.theory_minimal.specs.Machine.{Machine, Formed, Sequence, signalAfter, Alike}
 use Rattle.theory_minimal.specs.Proposal.{classOf, hasClass, firstOf, classCount, small, ReachedClass, Fits}
 use Rattle.theory_minimal.specs.Refine.{sameClass, sameRow, leaders, refined, blocks}
 use Rattle.theory_minimal.specs.Test.{fits, allReached}
-use Rattle.theory_minimal.proofs.Seek.{seek-found, highest-above}
 use Rattle.theory_minimal.proofs.Leaders.{leaders-same, leaders-to, leaders-agree}
 use Rattle.theory_minimal.proofs.Refine.{class-likeness, row-likeness}
 use Rattle.theory_minimal.proofs.Alike.{sequence-first, sequence-rest, alike-signal, alike-target, follow, block-alike, alike-block}
@@ -33,7 +33,8 @@ module _ (m : Machine) (formed : Formed m) (p : List ℕ) (sized : length p ≡ 
   -- what the smaller machine rests on: states of a class have one signal and lead to the same classes
   pub record Consistent : Type 0 where
     pub one-signal : (i j : ℕ) → i < m .states → j < m .states → classOf p i ≡ classOf p j → m .signal i ≡ m .signal j
-    pub one-row : (i j k : ℕ) → i < m .states → j < m .states → k < m .symbols → classOf p i ≡ classOf p j → classOf p (m .target i k) ≡ classOf p (m .target j k)
+    pub one-row : (i j k : ℕ) → i < m .states → j < m .states → k < m .symbols → classOf p i ≡ classOf p j → classOf p (m .target i k)
+        ≡ classOf p (m .target j k)
 
   -- from the class of a state the smaller machine gives the signals that the large one gives from the state
   pub small-follows : Consistent → (i : ℕ) → i < m .states → (w : List ℕ) → Sequence m w → signalAfter (small m p) (classOf p i) w ≡ signalAfter m i w
@@ -64,7 +65,8 @@ module _ (m : Machine) (formed : Formed m) (p : List ℕ) (sized : length p ≡ 
       s =
           record {
             one-signal = λ i j a b e. alike-signal m i j (to i j a b e);
-            one-row = λ i j k a b h e. of (m .target i k) (m .target j k) (formed .leads i k a h) (formed .leads j k b h) (alike-target m i j k h (to i j a b e));
+            one-row = λ i j k a b h e. of (m .target i k) (m .target j k) (formed .leads i k a h) (formed .leads j k b h)
+                (alike-target m i j k h (to i j a b e));
           }
 
       at : (c d : ℕ) → ReachedClass m p c → ReachedClass m p d → Alike (small m p) c d → c ≡ d
@@ -153,7 +155,8 @@ module _ (m : Machine) (formed : Formed m) (p : List ℕ) where
   -- a proposal that the test accepts fits
   pub test-to : fits m p ≡ true → Fits m p
   test-to e =
-      let a = and-eq-true-iff (eqb (length p) (m .states)) (eqb (classOf p 0) 0 && (sameList eqb (leaders (sameClass p) (m .states)) (blocks m) && allReached m p)) .0 e in
+      let a = and-eq-true-iff (eqb (length p) (m .states)) (eqb (classOf p 0) 0
+      && (sameList eqb (leaders (sameClass p) (m .states)) (blocks m) && allReached m p)) .0 e in
       let b = and-eq-true-iff (eqb (classOf p 0) 0) (sameList eqb (leaders (sameClass p) (m .states)) (blocks m) && allReached m p) .0 (a .1) in
       let c = and-eq-true-iff (sameList eqb (leaders (sameClass p) (m .states)) (blocks m)) (allReached m p) .0 (b .1) in
       let l = list-exact eqb-exact .to (leaders (sameClass p) (m .states)) (blocks m) (c .0) in
@@ -163,5 +166,10 @@ module _ (m : Machine) (formed : Formed m) (p : List ℕ) where
   -- and one that fits passes it
   pub test-of : Fits m p → fits m p ≡ true
   test-of f =
-      rw (eq-eqb (length p) (m .states) (f .sized), eq-eqb (classOf p 0) 0 (f .starts), leaders-right (fits-alike m formed p f) (alike-fits m formed p f), list-exact eqb-exact .self (blocks m))
+      rw (
+        eq-eqb (length p) (m .states) (f .sized),
+        eq-eqb (classOf p 0) 0 (f .starts),
+        leaders-right (fits-alike m formed p f) (alike-fits m formed p f),
+        list-exact eqb-exact .self (blocks m),
+      )
       (all-reached-of m formed p (f .reachable))

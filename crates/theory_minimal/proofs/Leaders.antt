@@ -4,10 +4,11 @@ use mathlib.Core.Path.{_≡_, sym, ap, _∙_}
 use mathlib.Core.Bool.{Bool, true}
 use native.Mathlib.Decide.{decLt}
 use native.Mathlib.Omega.{arith}
-use Rattle.theory_resolution.proofs.Lists.{tabulate-at, tabulate-same, same-test}
+use Rattle.base_lists.proofs.Search.{seek-sought, seek-before, seek-same}
+use Rattle.base_lists.proofs.Bools.{same-test}
+use Rattle.base_lists.proofs.Tabulated.{tabulate-at, tabulate-same}
 use Rattle.theory_minimal.specs.Proposal.{classOf}
 use Rattle.theory_minimal.specs.Refine.{leader, leaders}
-use Rattle.theory_minimal.proofs.Seek.{seek-sought, seek-before, seek-same}
 
 -- a test of likeness: each is like itself, and two that one is like are alike
 pub record Likeness (f : ℕ → ℕ → Bool) : Type 0 where
@@ -54,7 +55,8 @@ module _ (f : ℕ → ℕ → Bool) (like : Likeness f) where
   leaders-to n i j a b e = leader-to i j (sym (leaders-at n i a) ∙ e ∙ leaders-at n j b)
 
 -- two tests that tell the same numbers below n alike have the same leaders
-pub leaders-agree : (f g : ℕ → ℕ → Bool) (n : ℕ) → ((i j : ℕ) → i < n → j < n → f i j ≡ true → g i j ≡ true) → ((i j : ℕ) → i < n → j < n → g i j ≡ true → f i j ≡ true)
+pub leaders-agree : (f g : ℕ → ℕ → Bool) (n : ℕ) → ((i j : ℕ) → i < n → j < n → f i j ≡ true → g i j ≡ true)
+    → ((i j : ℕ) → i < n → j < n → g i j ≡ true → f i j ≡ true)
     → leaders f n ≡ leaders g n
 leaders-agree f g n to from =
     tabulate-same (leader f) (leader g) n

@@ -1,7 +1,5 @@
 -- The examples stand first, then the laws of each notion of specs/, and those of specs/Laws.antt last.
 pub mod Examples
-pub mod Seek
-pub mod Count
 pub mod Leaders
 pub mod Refine
 pub mod Alike

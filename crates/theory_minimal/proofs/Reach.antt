@@ -7,13 +7,16 @@ use lib.Dec.{eqb}
 use lib.ListN.{length, getD}
 use borrow.Author.Tests.{eqb-true, eq-eqb, ltb-true, lt-ltb}
 use native.Mathlib.Omega.{arith}
-use Rattle.theory_resolution.specs.Lists.{memberBy, addBy, indexBy, Distinct, tabulate}
-use Rattle.theory_resolution.proofs.Lists.{eqb-exact, mem-at, member-of, index-member, distinct-add, distinct-fits, tabulate-at, tabulate-length, all-to, all-of}
+use Rattle.base_lists.proofs.Search.{seek-sought, seek-found}
+use Rattle.base_lists.specs.Search.{seek}
+use Rattle.base_lists.proofs.Below.{all-to, all-of}
+use Rattle.base_lists.proofs.Tabulated.{tabulate-at, tabulate-length}
+use Rattle.base_lists.proofs.Lists.{eqb-exact, mem-at, member-of, index-member, distinct-add, distinct-fits}
+use Rattle.base_lists.specs.Lists.{memberBy, addBy, indexBy, Distinct, tabulate}
 use Rattle.theory_resolution.proofs.Discovery.{discover-distinct, discover-reached, discover-complete}
 use Rattle.theory_minimal.specs.Machine.{Machine, Formed, Sequence, run, Reachable}
-use Rattle.theory_minimal.specs.Proposal.{classOf, seek, classCount, ReachedClass}
+use Rattle.theory_minimal.specs.Proposal.{classOf, classCount, ReachedClass}
 use Rattle.theory_minimal.specs.Test.{foundStates, foundClass, classFound, allReached}
-use Rattle.theory_minimal.proofs.Seek.{seek-sought, seek-found}
 use Rattle.theory_minimal.proofs.Alike.{sequence-first, sequence-rest}
 
 -- a list of numbers below n without repeats is no longer than n
@@ -31,19 +34,25 @@ values-distinct : (f : ℕ → ℕ) (n : ℕ) → ((i j : ℕ) → i < n → j <
 unfolding tabulate
 values-distinct f zero h = tt
 values-distinct f (suc n) h =
-    last (memberBy eqb (f n) (tabulate f n)) refl (distinct-add eqb eqb-exact (tabulate f n) (f n) (values-distinct f n (λ i j a b. h i j (omega arith) (omega arith))))
+    last (memberBy eqb (f n) (tabulate f n)) refl
+    (distinct-add eqb eqb-exact (tabulate f n) (f n) (values-distinct f n (λ i j a b. h i j (omega arith) (omega arith))))
   where
     last : (b : Bool) → memberBy eqb (f n) (tabulate f n) ≡ b → Distinct eqb (addBy eqb (tabulate f n) (f n)) → Distinct eqb (tabulate f n ++ f n ∷ [])
     last true e d =
         let a = index-member eqb eqb-exact 0 (f n) (tabulate f n) e in
         let i : indexBy eqb (f n) (tabulate f n) < n = omega (arith, a .0, tabulate-length f n) in
-        let q : indexBy eqb (f n) (tabulate f n) ≡ n = h (indexBy eqb (f n) (tabulate f n)) n (omega arith) (omega arith) (sym (tabulate-at f n (indexBy eqb (f n) (tabulate f n)) 0 i) ∙ a .1) in
+        let q : indexBy eqb (f n) (tabulate f n) ≡ n = h (indexBy eqb (f n) (tabulate f n)) n (omega arith) (omega arith)
+        (sym (tabulate-at f n (indexBy eqb (f n) (tabulate f n)) 0 i) ∙ a .1) in
         absurd (omega arith)
     last false e d = rw e at d
 
 -- so there are no more of them than numbers below k
 pub values-fit : (f : ℕ → ℕ) (n k : ℕ) → ((i : ℕ) → i < n → f i < k) → ((i j : ℕ) → i < n → j < n → f i ≡ f j → i ≡ j) → n ≤ k
-values-fit f n k below once = omega (arith, tabulate-length f n, numbers-fit (tabulate f n) k (values-distinct f n once) (λ x i. low x (member-of eqb eqb-exact x (tabulate f n) i)))
+values-fit f n k below once = omega (
+  arith,
+  tabulate-length f n,
+  numbers-fit (tabulate f n) k (values-distinct f n once) (λ x i. low x (member-of eqb eqb-exact x (tabulate f n) i)),
+)
   where
     low : (x : ℕ) → memberBy eqb x (tabulate f n) ≡ true → x < k
     low x e =
@@ -66,7 +75,8 @@ module _ (m : Machine) (formed : Formed m) where
   -- no more states are found than there are
   found-few : length (foundStates m) ≤ m .states
   found-few =
-      numbers-fit (foundStates m) (m .states) (discover-distinct eqb eqb-exact (m .target) (m .symbols) 0 (m .states)) (λ x i. reached-state x (found-reached x i))
+      numbers-fit (foundStates m) (m .states) (discover-distinct eqb eqb-exact (m .target) (m .symbols) 0 (m .states))
+      (λ x i. reached-state x (found-reached x i))
 
   reached-found : (s : ℕ) → Reachable m s → memberBy eqb s (foundStates m) ≡ true
   reached-found = discover-complete eqb eqb-exact (m .target) (m .symbols) 0 (m .states) found-few

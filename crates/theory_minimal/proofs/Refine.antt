@@ -9,12 +9,14 @@ use lib.ListN.{length}
 use lib.Seq.{ext-getD}
 use borrow.Author.Tests.{eqb-true, eq-eqb}
 use native.Mathlib.Omega.{arith}
-use Rattle.theory_resolution.specs.Lists.{allBelow}
-use Rattle.theory_resolution.proofs.Lists.{tabulate-length, all-to, all-of}
+use Rattle.base_lists.proofs.Search.{count-fits, count-past, count-grows}
+use Rattle.base_lists.specs.Search.{count}
+use Rattle.base_lists.proofs.Below.{all-to, all-of}
+use Rattle.base_lists.proofs.Tabulated.{tabulate-length}
+use Rattle.base_lists.specs.Lists.{allBelow}
 use Rattle.theory_minimal.specs.Machine.{Machine}
 use Rattle.theory_minimal.specs.Proposal.{classOf}
-use Rattle.theory_minimal.specs.Refine.{leader, sameClass, sameTarget, sameRow, refine, refined, blocks, count, isFirst}
-use Rattle.theory_minimal.proofs.Count.{count-fits, count-past, count-grows}
+use Rattle.theory_minimal.specs.Refine.{leader, sameClass, sameTarget, sameRow, refine, refined, blocks, isFirst}
 use Rattle.theory_minimal.proofs.Leaders.{Likeness, leader-le, leader-leads, leaders-at, leaders-same, leaders-to}
 
 pub class-likeness : (p : List ℕ) → Likeness (sameClass p)
@@ -40,8 +42,10 @@ module _ (m : Machine) where
 
   pub row-of : (p : List ℕ) (i j : ℕ) → RowsAgree p i j → sameRow m p i j ≡ true
   row-of p i j r =
-      and-eq-true-iff (sameClass p i j) (allBelow (m .symbols) (sameTarget m p i j)) .1
-      (eq-eqb (classOf p i) (classOf p j) (r .classed), all-of (m .symbols) (sameTarget m p i j) (λ k h. eq-eqb (classOf p (m .target i k)) (classOf p (m .target j k)) (r .targets k h)))
+      and-eq-true-iff (sameClass p i j) (allBelow (m .symbols) (sameTarget m p i j)) .1 (
+        eq-eqb (classOf p i) (classOf p j) (r .classed),
+        all-of (m .symbols) (sameTarget m p i j) (λ k h. eq-eqb (classOf p (m .target i k)) (classOf p (m .target j k)) (r .targets k h)),
+      )
 
   pub row-likeness : (p : List ℕ) → Likeness (sameRow m p)
   row-likeness p =
@@ -87,7 +91,8 @@ module _ (m : Machine) where
       eq-eqb l j (omega arith)
 
   -- with no new first state nothing changes
-  no-new : (p : List ℕ) → ((j : ℕ) → j < m .states → isFirst (refine m (refine m p)) j ≡ true → isFirst (refine m p) j ≡ true) → refine m (refine m p) ≡ refine m p
+  no-new : (p : List ℕ) → ((j : ℕ) → j < m .states → isFirst (refine m (refine m p)) j ≡ true → isFirst (refine m p) j ≡ true)
+      → refine m (refine m p) ≡ refine m p
   no-new p h = ext-getD 0 (refine m q) q (tabulate-length (leader (sameRow m q)) (m .states) ∙ sym (tabulate-length (leader (sameRow m p)) (m .states))) at
     where
       q : List ℕ
@@ -111,7 +116,8 @@ module _ (m : Machine) where
   grows p = go (count-grows (isFirst (refine m p)) (isFirst (refine m (refine m p))) (m .states) (first-stays p))
     where
       go : (firsts (refine m p) < firsts (refine m (refine m p)))
-          ⊎ ((firsts (refine m p) ≤ firsts (refine m (refine m p))) × ((j : ℕ) → j < m .states → isFirst (refine m (refine m p)) j ≡ true → isFirst (refine m p) j ≡ true))
+          ⊎ ((firsts (refine m p) ≤ firsts (refine m (refine m p))) × ((j : ℕ) → j < m .states → isFirst (refine m (refine m p)) j ≡ true
+          → isFirst (refine m p) j ≡ true))
           → (refine m (refine m p) ≡ refine m p) ⊎ (firsts (refine m p) < firsts (refine m (refine m p)))
       go (inl h) = inr h
       go (inr h) = inl (no-new p (h .1))

@@ -3,19 +3,19 @@ use Prim.Native.Nat.{ℕ, zero, suc, _≤_, _<_}
 use mathlib.Core.Path.{_≡_, refl, sym, ap, _∙_}
 use mathlib.Core.Logic.{_⊎_, inl, inr}
 use mathlib.Core.Option.{Option}
-use mathlib.Core.List.{List, [], _∷_, _++_, map, foldl, foldl-append, List·Memᴰ, List·Memᴰ·head, List·Memᴰ·tail, List·Memᴰ·not-nil, List·Memᴰ·append-cases, List·Memᴰ·eq-of-singleton}
+use mathlib.Core.List.{List, [], _∷_, _++_, map, foldl, foldl-append, List·Memᴰ, List·Memᴰ·head, List·Memᴰ·tail, List·Memᴰ·not-nil}
+use mathlib.Core.List.{List·Memᴰ·append-cases, List·Memᴰ·eq-of-singleton}
 use lib.ListN.{length, getD}
 use native.Mathlib.Decide.{decLt}
 use native.Mathlib.Omega.{arith}
-use Rattle.theory_resolution.specs.Lists.{indexBy}
+use Rattle.base_lists.proofs.Lists.{index-at}
+use Rattle.base_lists.specs.Lists.{indexBy}
 use Rattle.theory_resolution.specs.Table.{Urn, Table, WellFormed}
 use Rattle.theory_resolution.specs.Direct.{State, start, sameState, usedOf}
 use Rattle.theory_resolution.specs.Symbols.{symbols, stepAt}
 use Rattle.theory_resolution.specs.Machine.{target, Accepted}
-use Rattle.theory_resolution.specs.Machine as tables
 use Rattle.theory_resolution.specs.Discovery.{FirstMet}
 use Rattle.theory_resolution.specs.Build.{discovered, machineOf}
-use Rattle.theory_resolution.proofs.Lists.{index-at}
 use Rattle.theory_resolution.proofs.Direct.{state-exact}
 use Rattle.theory_resolution.proofs.Discovery.{discover-distinct}
 use Rattle.theory_resolution.proofs.FirstMet.{discover-numbered}
@@ -28,6 +28,7 @@ use Rattle.theory_minimal.specs.Tables.{numbersOf, symbolNumber, walkBy,
 use Rattle.theory_minimal.proofs.Alike.{sequence-nil, sequence-cons}
 use Rattle.theory_minimal.proofs.Fits.{small-right}
 use Rattle.theory_minimal.proofs.Theorems.{proposer-law}
+use Rattle.theory_resolution.specs.Machine as tables
 
 -- a walk over used URNs is a run of their symbols
 pub run-map : (m : Machine) (g : Urn → ℕ) (j : ℕ) (us : List Urn) → foldl (λ i u. m .target i (g u)) j us ≡ run m j (map g us)

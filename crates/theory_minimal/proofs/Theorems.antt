@@ -7,12 +7,12 @@ use mathlib.Core.List.{List}
 use lib.ListN.{length}
 use native.Mathlib.Omega.{arith}
 use native.Mathlib.Decide.{decLt}
+use Rattle.base_lists.proofs.Search.{Highest, highest-reached}
 use Rattle.theory_minimal.specs.Machine.{Machine, Formed}
 use Rattle.theory_minimal.specs.Proposal.{classOf, firstOf, classCount, ReachedClass, Fits, ByFirstStates, SameButNumbers}
 use Rattle.theory_minimal.specs.Refine.{classes}
 use Rattle.theory_minimal.specs.Test.{allReached, proposed}
 use Rattle.theory_minimal.specs.Laws.{ProposalLaw, ClassesLaw, ReachedAlike, ProposerLaw}
-use Rattle.theory_minimal.proofs.Seek.{Highest, highest-reached}
 use Rattle.theory_minimal.proofs.Refine.{settled}
 use Rattle.theory_minimal.proofs.Classes.{classes-length, class-alike, alike-class, classes-numbered, first-class, same-proposal}
 use Rattle.theory_minimal.proofs.Reach.{values-fit, reached-state, all-reached-to, all-reached-of}

@@ -19,9 +19,9 @@ pub record ProposalLaw (m : Machine) (p : List ℕ) : Type 0 where
   pub small-formed : Fits m p → Formed (small m p)
   pub small-agrees : Fits m p → (w : List ℕ) → Sequence m w → signalAfter (small m p) 0 w ≡ signalAfter m 0 w
 
--- classes of equal behaviour
+-- classes of equivalent states
 pub record ClassesLaw (m : Machine) : Type 0 where
-  -- two states have one class exactly if they behave alike
+  -- two states have one class exactly if they are equivalent
   pub alike : (i j : ℕ) → i < m .states → j < m .states → (classOf (classes m) i ≡ classOf (classes m) j) ↔ Alike m i j
   -- they are numbered by their first states
   pub numbered : ByFirstStates (classes m)

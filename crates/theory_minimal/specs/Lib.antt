@@ -1,5 +1,5 @@
 -- Machines by the numbers of their states and symbols, proposals that give each state a class, the smaller machine of a
--- proposal, and the classes of states of equal behaviour: without bytes and without limits.
+-- proposal, and the partition into equivalent states, which gives the minimal one: without bytes and without limits.
 
 -- what a reader has to believe
 pub mod Machine

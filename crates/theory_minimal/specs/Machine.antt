@@ -1,4 +1,4 @@
--- A machine by the numbers of its states and symbols, and when two of its states behave alike.
+-- A machine by the numbers of its states and symbols, and when two of its states are equivalent.
 use Prim.Native.Nat.{ℕ, _<_}
 use mathlib.Core.Path.{_≡_}
 use mathlib.Core.List.{List, foldl, List·Memᴰ}
@@ -28,7 +28,7 @@ run m j w = foldl (m .target) j w
 abbrev pub signalAfter : Machine → ℕ → List ℕ → ℕ
 signalAfter m j w = m .signal (run m j w)
 
--- states i and j give the same signal for every sequence
+-- states i and j are equivalent: every sequence gives the same signal from both
 abbrev pub Alike : Machine → ℕ → ℕ → Type 0
 Alike m i j = (w : List ℕ) → Sequence m w → signalAfter m i w ≡ signalAfter m j w
 

@@ -1,21 +1,17 @@
 -- A proposal gives each state a class; the smaller machine has the classes as its states.
-use Prim.Native.Nat.{ℕ, zero, suc, _+_, _<_, max}
+use Prim.Native.Nat.{ℕ, suc, _<_}
 use mathlib.Core.Path.{_≡_}
 use mathlib.Core.Logic.{_↔_}
-use mathlib.Core.Bool.{Bool, cond}
+use mathlib.Core.Bool.{Bool}
 use mathlib.Core.List.{List}
 use lib.Dec.{eqb}
 use lib.ListN.{getD, length}
+use Rattle.base_lists.specs.Search.{seek, highest}
 use Rattle.theory_minimal.specs.Machine.{Machine, Alike, Reachable}
 
 -- the class of state j
 abbrev pub classOf : List ℕ → ℕ → ℕ
 classOf p j = getD p j 0
-
--- the first number that passes the test, of the n numbers from i on; i + n if none of them does
-unfoldable pub seek : (ℕ → Bool) → ℕ → ℕ → ℕ
-seek f i zero = i
-seek f i (suc n) = cond (f i) i (seek f (i + 1) n)
 
 -- state j has class c
 abbrev pub hasClass : List ℕ → ℕ → ℕ → Bool
@@ -24,11 +20,6 @@ hasClass p c j = eqb (classOf p j) c
 -- the first state of class c
 abbrev pub firstOf : List ℕ → ℕ → ℕ
 firstOf p c = seek (hasClass p c) 0 (length p)
-
--- the highest of f 0, f 1, ..., f (n - 1)
-unfoldable pub highest : (ℕ → ℕ) → ℕ → ℕ
-highest f zero = 0
-highest f (suc n) = max (highest f n) (f n)
 
 -- the number of classes: one more than the highest
 abbrev pub classCount : List ℕ → ℕ
@@ -52,17 +43,17 @@ pub record ReachedClass (m : Machine) (p : List ℕ) (c : ℕ) : Type 0 where
 
 -- a proposal that fits the machine
 pub record Fits (m : Machine) (p : List ℕ) : Type 0 where
-  -- the length is right
+  -- one class for each state
   pub sized : length p ≡ m .states
   -- state 0 has class 0
   pub starts : classOf p 0 ≡ 0
-  -- states of a class have one signal
+  -- two states of one class have the same signal
   pub one-signal : (i j : ℕ) → i < m .states → j < m .states → classOf p i ≡ classOf p j → m .signal i ≡ m .signal j
-  -- their rows lead symbol by symbol to the same classes
+  -- and for each symbol their targets are of one class
   pub one-row : (i j k : ℕ) → i < m .states → j < m .states → k < m .symbols → classOf p i ≡ classOf p j → classOf p (m .target i k) ≡ classOf p (m .target j k)
-  -- every class up to the highest is reachable
+  -- each class has a state that some sequence leads to
   pub reachable : (c : ℕ) → c < classCount p → ReachedClass m p c
-  -- no two classes give the same signal for every symbol sequence
+  -- two classes are never equivalent, as states of the smaller machine
   pub apart : (c d : ℕ) → c < classCount p → d < classCount p → Alike (small m p) c d → c ≡ d
 
 -- classes numbered by their first states: every class below that of a state has an earlier state

@@ -1,12 +1,13 @@
--- The classes of states of equal behaviour, by refinement: states are told apart by their signals, then by the classes
--- of their targets, as many times as there are states.
+-- The partition of the states into classes of equivalent ones, by refinement: states are told apart by their signals, then by the
+-- classes of their targets, as many times as there are states.
 use Prim.Native.Nat.{ℕ, zero, suc}
-use mathlib.Core.Bool.{Bool, cond, _&&_}
+use mathlib.Core.Bool.{Bool, _&&_}
 use mathlib.Core.List.{List}
 use lib.Dec.{eqb}
-use Rattle.theory_resolution.specs.Lists.{tabulate, allBelow}
+use Rattle.base_lists.specs.Search.{seek, count}
+use Rattle.base_lists.specs.Lists.{tabulate, allBelow}
 use Rattle.theory_minimal.specs.Machine.{Machine}
-use Rattle.theory_minimal.specs.Proposal.{classOf, seek}
+use Rattle.theory_minimal.specs.Proposal.{classOf}
 
 -- the first number that is like i
 abbrev pub leader : (ℕ → ℕ → Bool) → ℕ → ℕ
@@ -37,14 +38,9 @@ unfoldable pub refined : Machine → ℕ → List ℕ
 refined m zero = tabulate (m .signal) (m .states)
 refined m (suc r) = refine m (refined m r)
 
--- for each state the first one that behaves as it does
+-- the partition into equivalent states: for each state the first one of its block
 abbrev pub blocks : Machine → List ℕ
 blocks m = refined m (m .states)
-
--- how many numbers below n pass the test
-unfoldable pub count : (ℕ → Bool) → ℕ → ℕ
-count f zero = 0
-count f (suc n) = cond (f n) (suc (count f n)) (count f n)
 
 -- state j is the first of its block
 abbrev pub isFirst : List ℕ → ℕ → Bool
@@ -54,6 +50,6 @@ isFirst b j = eqb (classOf b j) j
 abbrev pub blockNumber : List ℕ → ℕ → ℕ
 blockNumber b i = count (isFirst b) (classOf b i)
 
--- the classes of states of equal behaviour, numbered by their first states
+-- the classes of equivalent states, numbered by their first ones: the states of the minimal machine
 abbrev pub classes : Machine → List ℕ
 classes m = tabulate (blockNumber (blocks m)) (m .states)

@@ -5,10 +5,11 @@ use mathlib.Core.Option.{Option, some, none}
 use mathlib.Core.List.{List}
 use lib.Dec.{eqb, ltb}
 use lib.ListN.{getD, length}
-use Rattle.theory_resolution.specs.Lists.{sameList, allBelow}
+use Rattle.base_lists.specs.Search.{seek}
+use Rattle.base_lists.specs.Lists.{sameList, allBelow}
 use Rattle.theory_resolution.specs.Discovery.{discover}
 use Rattle.theory_minimal.specs.Machine.{Machine}
-use Rattle.theory_minimal.specs.Proposal.{classOf, seek, classCount}
+use Rattle.theory_minimal.specs.Proposal.{classOf, classCount}
 use Rattle.theory_minimal.specs.Refine.{leaders, sameClass, blocks, classes}
 
 -- the states that state 0 leads to, as they are found
@@ -23,12 +24,12 @@ foundClass p l c i = eqb (classOf p (getD l i 0)) c
 abbrev pub classFound : List ℕ → List ℕ → ℕ → Bool
 classFound p l c = ltb (seek (foundClass p l c) 0 (length l)) (length l)
 
--- every class up to the highest is reachable
+-- each class has one of the states that are found
 abbrev pub allReached : Machine → List ℕ → Bool
 allReached m p = allBelow (classCount p) (classFound p (foundStates m))
 
--- the test of a proposal: its length, the class of state 0, the same first state for each state as in the blocks of equal
--- behaviour, and a reachable state in each class
+-- the test of a proposal: its length, the class of state 0, the same first state for each state as in the partition into
+-- equivalent ones, and a reachable state in each class
 abbrev pub fits : Machine → List ℕ → Bool
 fits m p =
     eqb (length p) (m .states)
@@ -36,6 +37,6 @@ fits m p =
     && (sameList eqb (leaders (sameClass p) (m .states)) (blocks m)
     && allReached m p))
 
--- the proposer: the classes of equal behaviour, if each has a reachable state
+-- the proposer: the classes of equivalent states, if each has a reachable one
 abbrev pub proposed : Machine → Option (List ℕ)
 proposed m = cond (allReached m (classes m)) (some (classes m)) none

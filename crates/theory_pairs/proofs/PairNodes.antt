@@ -3,12 +3,14 @@ use Prim.Native.Nat.{ℕ, _+_, _<_}
 use mathlib.Core.Path.{_≡_, refl, sym, ap, ap₂, _∙_}
 use mathlib.Core.Logic.{_⊎_, inl, inr, _≢_}
 use mathlib.Core.Bool.{true, _&&_}
-use mathlib.Core.List.{List, [], _∷_, _++_, map, List·Memᴰ, List·Memᴰ·head, List·Memᴰ·tail, List·Memᴰ·cases-cons, List·Memᴰ·not-nil, List·Memᴰ·append-cases, Memᴰ·append-left, Memᴰ·append-right, Memᴰ·map, Memᴰ·of-map, Memᴰ·cast}
+use mathlib.Core.List.{List, [], _∷_, _++_, map, List·Memᴰ, List·Memᴰ·head, List·Memᴰ·tail, List·Memᴰ·cases-cons, List·Memᴰ·not-nil}
+use mathlib.Core.List.{List·Memᴰ·append-cases, Memᴰ·append-left, Memᴰ·append-right, Memᴰ·map, Memᴰ·of-map, Memᴰ·cast}
 use lib.ListN.{length, getD}
 use native.Mathlib.Omega.{arith}
+use Rattle.base_lists.proofs.Lists.{mem-at}
+use Rattle.base_lists.proofs.Bools.{same-test}
 use Rattle.theory_resolution.specs.Names.{Name, Parts}
 use Rattle.theory_resolution.specs.Nodes.{nodes, isNode, hasUnder, isInner, NodeOf}
-use Rattle.theory_resolution.proofs.Lists.{same-test, mem-at}
 use Rattle.theory_resolution.proofs.Nodes.{node-to, node-of}
 use Rattle.theory_resolution.proofs.Deepest.{under-of, under-to}
 use Rattle.theory_resolution.specs.Table.{Urn, Table, WellFormed}
@@ -30,7 +32,8 @@ pair-of : (n : ℕ) (rs ls : List (List Urn)) (r l : List Urn) → List·Memᴰ 
 pair-of n [] ls r l mr ml = absurd (List·Memᴰ·not-nil mr)
 pair-of n (x ∷ rs) ls r l mr ml = go (List·Memᴰ·cases-cons mr) (λ k. pair-of n rs ls r l k ml)
   where
-    go : (r ≡ x) ⊎ List·Memᴰ r rs → (List·Memᴰ r rs → List·Memᴰ (pairSignal n r l) (pairSignals n rs ls)) → List·Memᴰ (pairSignal n r l) (pairSignals n (x ∷ rs) ls)
+    go : (r ≡ x) ⊎ List·Memᴰ r rs → (List·Memᴰ r rs → List·Memᴰ (pairSignal n r l) (pairSignals n rs ls))
+        → List·Memᴰ (pairSignal n r l) (pairSignals n (x ∷ rs) ls)
     go (inl e) ih = Memᴰ·append-left (pairSignals n rs ls) (Memᴰ·cast (ap (λ z. pairSignal n z l) e) (Memᴰ·map (pairSignal n x) ml))
     go (inr k) ih = Memᴰ·append-right (map (pairSignal n x) ls) (ih k)
 
@@ -100,7 +103,8 @@ module _ (ring lamp : Table) (known : Known ring) (wr : WellFormed ring) (wl : W
           let w = pair-from n (ring .signals) (lamp .signals) (k .signal) (k .listed) in
           go (w .0) (w .1) (w .2) (w .3) (urn-from n (w .0) (w .1) (k .by) (rw (w .4) (k .named)))
         where
-          go : (r l : List Urn) → List·Memᴰ r (ring .signals) → List·Memᴰ l (lamp .signals) → List·Memᴰ (k .by) r ⊎ ((v : Urn) × List·Memᴰ v l × (shifted n v ≡ k .by)) → NodeOf lamp c p
+          go : (r l : List Urn) → List·Memᴰ r (ring .signals) → List·Memᴰ l (lamp .signals) → List·Memᴰ (k .by) r
+              ⊎ ((v : Urn) × List·Memᴰ v l × (shifted n v ≡ k .by)) → NodeOf lamp c p
           go r l mr ml (inl i) = let b = known r mr (k .by) i in absurd (omega (arith, b, k .cat))
           go r l mr ml (inr v) =
               let e : n + v .0 .cat ≡ k .by .cat = ap (λ u. u .cat) (v .2) in

@@ -120,7 +120,8 @@ module _ (ring lamp : Table) (known : Known ring) (wr : WellFormed ring) (wl : W
         moves (some k) =
             ap (λ z. record { signal = pairNumber lamp (k .signal) (sl .signal); status = z })
             (set-append-left (sr .status) (sl .status) c _ (rw (gr .sized) h)
-            ∙ ap (λ z. set (sr .status) c (openOr (sameParts (k .at) p) (heldIf z p)) ++ sl .status) (inner-same (nodes both) (nodes ring) c c (ring-node ring lamp known wr wl c h) p))
+            ∙ ap (λ z. set (sr .status) c (openOr (sameParts (k .at) p) (heldIf z p)) ++ sl .status)
+            (inner-same (nodes both) (nodes ring) c c (ring-node ring lamp known wr wl c h) p))
 
         taken : (b : Bool) (o : Option Parts) → ifTaken (envOf both) now c p b o ≡ pairState lamp (ifTaken (envOf ring) sr c p b o) sl
         taken false o = refl
@@ -157,7 +158,8 @@ module _ (ring lamp : Table) (known : Known ring) (wr : WellFormed ring) (wl : W
         moves (some k) =
             ap (λ z. record { signal = pairNumber lamp (sr .signal) (k .signal); status = z })
             (stored (openOr (sameParts (k .at) p) (heldIf (isInner (nodes both) (n + c) p) p))
-            ∙ ap (λ z. sr .status ++ set (sl .status) c (openOr (sameParts (k .at) p) (heldIf z p))) (inner-same (nodes both) (nodes lamp) (n + c) c (lamp-node ring lamp known wr wl c) p))
+            ∙ ap (λ z. sr .status ++ set (sl .status) c (openOr (sameParts (k .at) p) (heldIf z p)))
+            (inner-same (nodes both) (nodes lamp) (n + c) c (lamp-node ring lamp known wr wl c) p))
 
         taken : (b : Bool) (o : Option Parts) → ifTaken (envOf both) now (n + c) p b o ≡ pairState lamp sr (ifTaken (envOf lamp) sl c p b o)
         taken false o = refl

@@ -11,8 +11,8 @@ use lib.Seq.{getD-append-add}
 use native.Mathlib.Omega.{arith}
 use native.Mathlib.Decide.{decLt}
 use native.Mathlib.Nat.{add-zero, zero-add}
-use Rattle.theory_resolution.specs.Lists.{sameList}
-use Rattle.theory_resolution.proofs.Lists.{mem-at}
+use Rattle.base_lists.proofs.Lists.{mem-at, map-at}
+use Rattle.base_lists.specs.Lists.{sameList}
 use Rattle.theory_resolution.specs.Table.{Urn, Table, Row, placeIn, rowFrom, rowOf, sameRow, findFrom, find}
 use Rattle.theory_resolution.proofs.Table.{row-length}
 use Rattle.theory_pairs.specs.Pairs.{DistinctRows, Known, shifted, pairSignal, pairSignals, pairs, pairNumber}
@@ -79,7 +79,8 @@ same-parts f [] y (w ∷ a) b h = absurd (omega arith)
 same-parts f (v ∷ x) y [] b h = absurd (omega arith)
 same-parts f (v ∷ x) y (w ∷ a) b h = go (f v w) (same-parts f x y a b (omega arith))
   where
-    go : (t : Bool) → sameList f (x ++ y) (a ++ b) ≡ sameList f x a && sameList f y b → t && sameList f (x ++ y) (a ++ b) ≡ (t && sameList f x a) && sameList f y b
+    go : (t : Bool) → sameList f (x ++ y) (a ++ b) ≡ sameList f x a && sameList f y b → t && sameList f (x ++ y) (a ++ b)
+        ≡ (t && sameList f x a) && sameList f y b
     go true ih = ih
     go false ih = refl
 
@@ -118,7 +119,8 @@ find-with n m j k r known [] ra rb h = go (sameRow (rowFrom r 0 n) ra)
     go false = refl
 find-with n m j k r known (l ∷ ls) ra rb h =
     ap (λ b. cond b (some (j + k)) (findFrom (n + m) (suc (j + k)) (map (pairSignal n r) ls) (ra ++ rb))) test
-    ∙ ap (cond (sameRow (rowFrom r 0 n) ra && sameRow (rowFrom l 0 m) rb) (some (j + k))) (ap (λ z. findFrom (n + m) z (map (pairSignal n r) ls) (ra ++ rb)) (omega arith) ∙ find-with n m j (suc k) r known ls ra rb h)
+    ∙ ap (cond (sameRow (rowFrom r 0 n) ra && sameRow (rowFrom l 0 m) rb) (some (j + k)))
+    (ap (λ z. findFrom (n + m) z (map (pairSignal n r) ls) (ra ++ rb)) (omega arith) ∙ find-with n m j (suc k) r known ls ra rb h)
     ∙ go (sameRow (rowFrom r 0 n) ra) (sameRow (rowFrom l 0 m) rb)
   where
     test : sameRow (rowFrom (pairSignal n r l) 0 (n + m)) (ra ++ rb) ≡ sameRow (rowFrom r 0 n) ra && sameRow (rowFrom l 0 m) rb
@@ -126,7 +128,8 @@ find-with n m j k r known (l ∷ ls) ra rb h =
         ap (λ z. sameRow z (ra ++ rb)) (pair-row n m r l known)
         ∙ same-parts (sameList (sameList eqb)) (rowFrom r 0 n) (rowFrom l 0 m) ra rb (row-length r 0 n ∙ sym h)
 
-    go : (a b : Bool) → cond (a && b) (some (j + k)) (cond a (raised j (findFrom m (suc k) ls rb)) none) ≡ cond a (raised j (cond b (some k) (findFrom m (suc k) ls rb))) none
+    go : (a b : Bool) → cond (a && b) (some (j + k)) (cond a (raised j (findFrom m (suc k) ls rb)) none)
+        ≡ cond a (raised j (cond b (some k) (findFrom m (suc k) ls rb))) none
     go true true = refl
     go true false = refl
     go false b = refl
@@ -165,12 +168,8 @@ pub pairs-length : (n : ℕ) (rs ls : List (List Urn)) → length (pairSignals n
 pairs-length n [] ls = omega arith
 pairs-length n (r ∷ rs) ls = omega (arith, length-append (map (pairSignal n r) ls) (pairSignals n rs ls), length-map ls (pairSignal n r), pairs-length n rs ls)
 
-map-at : {A B : Type 0} (f : A → B) (l : List A) (k : ℕ) (d : A) (e : B) → k < length l → getD (map f l) k e ≡ f (getD l k d)
-map-at f [] k d e h = absurd (omega arith)
-map-at f (x ∷ l) zero d e h = refl
-map-at f (x ∷ l) (suc k) d e h = map-at f l k d e (omega arith)
-
-pub pairs-at : (n : ℕ) (rs ls : List (List Urn)) (r l : ℕ) → r < length rs → l < length ls → getD (pairSignals n rs ls) (r * length ls + l) [] ≡ pairSignal n (getD rs r []) (getD ls l [])
+pub pairs-at : (n : ℕ) (rs ls : List (List Urn)) (r l : ℕ) → r < length rs → l < length ls
+    → getD (pairSignals n rs ls) (r * length ls + l) [] ≡ pairSignal n (getD rs r []) (getD ls l [])
 pairs-at n [] ls r l hr hl = absurd (omega arith)
 pairs-at n (x ∷ rs) ls zero l hr hl =
     let e : 0 * length ls + l ≡ l = omega arith in
@@ -197,14 +196,16 @@ pub pair-places-of : (ring lamp : Table) → Known ring → (r l : ℕ) → r < 
     → rowOf (pairs ring lamp) (pairNumber lamp r l) ≡ rowOf ring r ++ rowOf lamp l
 pair-places-of ring lamp known r l hr hl =
     ap (λ z. rowFrom z 0 (ring .cats + lamp .cats)) (pairs-at (ring .cats) (ring .signals) (lamp .signals) r l hr hl)
-    ∙ pair-row (ring .cats) (lamp .cats) (getD (ring .signals) r []) (getD (lamp .signals) l []) (known (getD (ring .signals) r []) (mem-at (ring .signals) r [] hr))
+    ∙ pair-row (ring .cats) (lamp .cats) (getD (ring .signals) r []) (getD (lamp .signals) l [])
+    (known (getD (ring .signals) r []) (mem-at (ring .signals) r [] hr))
 
 -- each number is that of a pair
 pair-split : (w n i : ℕ) → i < n * w → (r : ℕ) × (l : ℕ) × (r < n) × (l < w) × (i ≡ r * w + l)
 pair-split w zero i h = absurd (omega arith)
 pair-split w (suc n) i h = go (decLt i w) (pair-split w n (i - w))
   where
-    go : Dec (i < w) → (i - w < n * w → (r : ℕ) × (l : ℕ) × (r < n) × (l < w) × (i - w ≡ r * w + l)) → (r : ℕ) × (l : ℕ) × (r < suc n) × (l < w) × (i ≡ r * w + l)
+    go : Dec (i < w) → (i - w < n * w → (r : ℕ) × (l : ℕ) × (r < n) × (l < w) × (i - w ≡ r * w + l)) → (r : ℕ) × (l : ℕ) × (r < suc n)
+        × (l < w) × (i ≡ r * w + l)
     go (yes a) ih = (0, i, omega arith, a, omega arith)
     go (no a) ih =
         let k = ih (omega arith) in
@@ -221,12 +222,14 @@ pairs-distinct ring lamp known dr dl i j hi hj e =
     size : length (pairs ring lamp .signals) ≡ length (ring .signals) * w
     size = pairs-length (ring .cats) (ring .signals) (lamp .signals)
 
-    go : (r : ℕ) × (l : ℕ) × (r < length (ring .signals)) × (l < w) × (i ≡ r * w + l) → (s : ℕ) × (k : ℕ) × (s < length (ring .signals)) × (k < w) × (j ≡ s * w + k) → i ≡ j
+    go : (r : ℕ) × (l : ℕ) × (r < length (ring .signals)) × (l < w) × (i ≡ r * w + l) → (s : ℕ) × (k : ℕ) × (s < length (ring .signals))
+        × (k < w) × (j ≡ s * w + k) → i ≡ j
     go a b =
         let f : rowOf ring (a .0) ++ rowOf lamp (a .1) ≡ rowOf ring (b .0) ++ rowOf lamp (b .1) =
         sym (pair-places-of ring lamp known (a .0) (a .1) (a .2) (a .3)) ∙ ap (rowOf (pairs ring lamp)) (sym (a .4)) ∙ e ∙ ap (rowOf (pairs ring lamp)) (b .4)
         ∙ pair-places-of ring lamp known (b .0) (b .1) (b .2) (b .3) in
-        let p = rows-split (rowOf ring (a .0)) (rowOf lamp (a .1)) (rowOf ring (b .0)) (rowOf lamp (b .1)) (row-length (getD (ring .signals) (a .0) []) 0 (ring .cats) ∙ sym (row-length (getD (ring .signals) (b .0) []) 0 (ring .cats))) f in
+        let p = rows-split (rowOf ring (a .0)) (rowOf lamp (a .1)) (rowOf ring (b .0)) (rowOf lamp (b .1))
+        (row-length (getD (ring .signals) (a .0) []) 0 (ring .cats) ∙ sym (row-length (getD (ring .signals) (b .0) []) 0 (ring .cats))) f in
         let x = dr (a .0) (b .0) (a .2) (b .2) (p .0) in
         let y = dl (a .1) (b .1) (a .3) (b .3) (p .1) in
         a .4 ∙ ap₂ (λ x y. x * w + y) x y ∙ sym (b .4)

@@ -36,20 +36,25 @@ module _ (ring lamp : Table) (known : Known ring) (wr : WellFormed ring) (wl : W
       v = urn (u .cat - n) (u .path)
 
       over : State → Type 0
-      over st = foldl (step (envOf both)) st (usedOf l) ≡ pairState lamp (foldl (step (envOf ring)) sr (usedOf (map (ringUri n) (some u ∷ l)))) (foldl (step (envOf lamp)) sl (usedOf (map (lampUri n) (some u ∷ l))))
+      over st = foldl (step (envOf both)) st (usedOf l)
+          ≡ pairState lamp (foldl (step (envOf ring)) sr (usedOf (map (ringUri n) (some u ∷ l))))
+          (foldl (step (envOf lamp)) sl (usedOf (map (lampUri n) (some u ∷ l))))
 
       go : (b : Bool) → ltb (u .cat) n ≡ b
           → (foldl (step (envOf both)) (pairState lamp (step (envOf ring) sr u) sl) (usedOf l)
-          ≡ pairState lamp (foldl (step (envOf ring)) (step (envOf ring) sr u) (usedOf (map (ringUri n) l))) (foldl (step (envOf lamp)) sl (usedOf (map (lampUri n) l))))
+          ≡ pairState lamp (foldl (step (envOf ring)) (step (envOf ring) sr u) (usedOf (map (ringUri n) l)))
+          (foldl (step (envOf lamp)) sl (usedOf (map (lampUri n) l))))
           → (foldl (step (envOf both)) (pairState lamp sr (step (envOf lamp) sl v)) (usedOf l)
-          ≡ pairState lamp (foldl (step (envOf ring)) sr (usedOf (map (ringUri n) l))) (foldl (step (envOf lamp)) (step (envOf lamp) sl v) (usedOf (map (lampUri n) l))))
+          ≡ pairState lamp (foldl (step (envOf ring)) sr (usedOf (map (ringUri n) l))) (foldl (step (envOf lamp)) (step (envOf lamp) sl v)
+          (usedOf (map (lampUri n) l))))
           → over (step (envOf both) (pairState lamp sr sl) u)
       go true e ih jh = rw (e, ring-step ring lamp known wr wl sr sl gr gl u (ltb-true (u .cat) n e)) ih
       go false e ih jh =
           let h = ltb-false (u .cat) n e in
           let k : n + (u .cat - n) ≡ u .cat = omega arith in
           let i : shifted n v ≡ u = λ j. record { cat = k j; path = u .path } in
-          let q : step (envOf both) (pairState lamp sr sl) u ≡ pairState lamp sr (step (envOf lamp) sl v) = ap (step (envOf both) (pairState lamp sr sl)) (sym i) ∙ lamp-step ring lamp known wr wl sr sl gr gl v in
+          let q : step (envOf both) (pairState lamp sr sl) u ≡ pairState lamp sr (step (envOf lamp) sl v) =
+          ap (step (envOf both) (pairState lamp sr sl)) (sym i) ∙ lamp-step ring lamp known wr wl sr sl gr gl v in
           rw (e, q) jh
 
   pair-start : start (both .cats) ≡ pairState lamp (start n) (start (lamp .cats))
@@ -82,7 +87,8 @@ pair-uri n (some u) none h k = rw (lt-ltb (u .cat) n (h u refl)) (refl, refl)
 pair-uri n (some u) (some v) h k = absurd (k u v refl refl)
 
 -- over a list: what each table takes the URIs for
-module _ {W : Type 0} (n : ℕ) (f g : W → Option Urn) (own : (w : W) (u : Urn) → f w ≡ some u → u .cat < n) (apart : (w : W) (u v : Urn) → f w ≡ some u → g w ≡ some v → ⊥) where
+module _ {W : Type 0} (n : ℕ) (f g : W → Option Urn) (own : (w : W) (u : Urn) → f w ≡ some u → u .cat < n) (apart : (w : W) (u v : Urn)
+    → f w ≡ some u → g w ≡ some v → ⊥) where
   ring-view : (ws : List W) → map (ringUri n) (map (pairBy n f g) ws) ≡ map f ws
   ring-view [] = refl
   ring-view (w ∷ ws) = ap₂ _∷_ (pair-uri n (f w) (g w) (own w) (apart w) .0) (ring-view ws)
@@ -93,7 +99,8 @@ module _ {W : Type 0} (n : ℕ) (f g : W → Option Urn) (own : (w : W) (u : Urn
 
 module _ (ring lamp : Table) (known : Known ring) (wr : WellFormed ring) (wl : WellFormed lamp) where
   -- the signal is the number of the pair
-  pub pair-agrees : (l : List (Option Urn)) → direct (pairs ring lamp) (usedOf l) .signal ≡ pairNumber lamp (ringAlone ring l .signal) (lampAlone ring lamp l .signal)
+  pub pair-agrees : (l : List (Option Urn)) → direct (pairs ring lamp) (usedOf l) .signal ≡ pairNumber lamp (ringAlone ring l .signal)
+      (lampAlone ring lamp l .signal)
   pair-agrees l = ap (λ st. st .signal) (pair-states ring lamp known wr wl l)
 
   -- and of no other pair
@@ -104,8 +111,11 @@ module _ (ring lamp : Table) (known : Known ring) (wr : WellFormed ring) (wl : W
       (state-signal lamp (lampAlone ring lamp l) (state-direct lamp wl (usedOf (map (lampUri (ring .cats)) l)))) h (sym (pair-agrees l) ∙ e)
 
   -- by what each table takes the URIs for
-  pub pair-agrees-by : {W : Type 0} (f g : W → Option Urn) → ((w : W) (u : Urn) → f w ≡ some u → u .cat < ring .cats) → ((w : W) (u v : Urn) → f w ≡ some u → g w ≡ some v → ⊥)
-      → (ws : List W) → direct (pairs ring lamp) (usedOf (map (pairBy (ring .cats) f g) ws)) .signal ≡ pairNumber lamp (direct ring (usedOf (map f ws)) .signal) (direct lamp (usedOf (map g ws)) .signal)
+  pub pair-agrees-by : {W : Type 0} (f g : W → Option Urn) → ((w : W) (u : Urn) → f w ≡ some u → u .cat < ring .cats)
+      → ((w : W) (u v : Urn) → f w ≡ some u → g w ≡ some v → ⊥)
+      → (ws : List W) → direct (pairs ring lamp) (usedOf (map (pairBy (ring .cats) f g) ws)) .signal
+      ≡ pairNumber lamp (direct ring (usedOf (map f ws)) .signal) (direct lamp (usedOf (map g ws)) .signal)
   pair-agrees-by f g own apart ws =
       pair-agrees (map (pairBy (ring .cats) f g) ws)
-      ∙ ap₂ (λ x y. pairNumber lamp (direct ring (usedOf x) .signal) (direct lamp (usedOf y) .signal)) (ring-view (ring .cats) f g own apart ws) (lamp-view (ring .cats) f g own apart ws)
+      ∙ ap₂ (λ x y. pairNumber lamp (direct ring (usedOf x) .signal) (direct lamp (usedOf y) .signal))
+      (ring-view (ring .cats) f g own apart ws) (lamp-view (ring .cats) f g own apart ws)

@@ -2,14 +2,13 @@
 use Prim.Native.Nat.{ℕ, _<_}
 use mathlib.Core.Path.{_≡_, refl, sym, ap, subst, _∙_}
 use mathlib.Core.Logic.{_⊎_, inl, inr}
-use mathlib.Core.Bool.{Bool, true, false, not, _&&_, _||_, true≢false, and-eq-true-iff}
+use mathlib.Core.Bool.{Bool, true, false, not, _&&_, _||_, true≢false, and-eq-true-iff, or-true}
 use mathlib.Core.Option.{Option, none, some}
 use mathlib.Core.List.{List, [], _∷_, foldl, append-nil, List·Memᴰ, List·Memᴰ·head, List·Memᴰ·tail}
 use lib.ListN.{getD, set}
 use lib.Seq.{getD-set-same, getD-set-other}
 use native.Mathlib.Decide.{ℕ-discrete}
 use Rattle.theory_resolution.specs.Names.{Parts, sameParts, below, properAncestor, candidates}
-use Rattle.theory_resolution.proofs.Lists.{or-true}
 use Rattle.theory_resolution.proofs.Names.{parts-exact, below-to}
 use Rattle.theory_resolution.specs.Table.{Urn}
 use Rattle.theory_resolution.specs.Nodes.{isInner, leaf, deepest}
@@ -51,7 +50,8 @@ module _ (env : Env) (cats : ℕ) (ns : List Urn) where
 
   module _ (laws : EnvLaws env cats ns) where
     -- one signal with two lists of statuses, in category c
-    module _ (s : ℕ) (σ τ : List Status) (c : ℕ) (known : c < cats) (ga : Valid env cats ns (at s σ)) (gb : Valid env cats ns (at s τ)) (each : Each s σ τ) where
+    module _ (s : ℕ) (σ τ : List Status) (c : ℕ) (known : c < cats) (ga : Valid env cats ns (at s σ)) (gb : Valid env cats ns (at s τ))
+        (each : Each s σ τ) where
       abbrev q : Parts
       q = getD (env .rows s) c []
 
@@ -77,9 +77,11 @@ module _ (env : Env) (cats : ℕ) (ns : List Urn) where
       node-alike : (d : Parts) (a b : Bool) → (a ≡ b) ⊎ ((a ≡ false) × (b ≡ true) × (leaf ns c d ≡ true)) → leaf ns c q ≡ false → getD σ c Open ≡ getD τ c Open
           → Alike (nodeStep env (at s σ) c d a) (nodeStep env (at s τ) c d b)
       unfolding nodeStep
-      node-alike d a b w l e = rw (← e) (gates (nodeTakes (getD σ c Open) q d a) (nodeTakes (getD σ c Open) q d b) (takes (getD σ c Open) (ga .fits c known)) (below q d))
+      node-alike d a b w l e = rw (← e) (gates (nodeTakes (getD σ c Open) q d a) (nodeTakes (getD σ c Open) q d b)
+          (takes (getD σ c Open) (ga .fits c known)) (below q d))
         where
-          under : (p : Parts) → leaf ns c p ≡ false → (r : Option Parts) → below p d ≡ r → (a ≡ b) ⊎ ((a ≡ false) × (b ≡ true) × (leaf ns c d ≡ true)) → nodeUnder r a ≡ nodeUnder r b
+          under : (p : Parts) → leaf ns c p ≡ false → (r : Option Parts) → below p d ≡ r
+              → (a ≡ b) ⊎ ((a ≡ false) × (b ≡ true) × (leaf ns c d ≡ true)) → nodeUnder r a ≡ nodeUnder r b
           under p m r j (inl w) = rw w
           under p m none j (inr w) = refl
           under p m (some []) j (inr w) = absurd (true≢false (sym (w .2) ∙ ap (leaf ns c) (sym (below-to p d [] j) ∙ append-nil p) ∙ m))
@@ -91,7 +93,8 @@ module _ (env : Env) (cats : ℕ) (ns : List Urn) where
           takes Shut ok = refl
 
           settles : (h : Hit) → (a ≡ b) ⊎ ((a ≡ false) × (b ≡ true) × (leaf ns c d ≡ true))
-              → (openOr (a && sameParts (h .at) d) (heldIf (a && env .inner c d) d) ≡ openOr (b && sameParts (h .at) d) (heldIf (b && env .inner c d) d)) ⊎ (leaf ns c (h .at) ≡ true)
+              → (openOr (a && sameParts (h .at) d) (heldIf (a && env .inner c d) d)
+              ≡ openOr (b && sameParts (h .at) d) (heldIf (b && env .inner c d) d)) ⊎ (leaf ns c (h .at) ≡ true)
           settles h (inl w) = inl (rw w)
           settles h (inr w) = rw (w .0, w .1, laws .inners c d, leaf-no-inner ns c d (w .2)) (to (sameParts (h .at) d) refl)
             where
@@ -99,7 +102,8 @@ module _ (env : Env) (cats : ℕ) (ns : List Urn) where
               to true i = inr (ap (leaf ns c) (parts-exact .to (h .at) d i) ∙ w .2)
               to false i = inl refl
 
-          taken : (r : Parts) (o : Option Hit) → firstHit env (env .rows s) c (candidates q r) ≡ o → Alike (nodeMove env (at s σ) c d a o) (nodeMove env (at s τ) c d b o)
+          taken : (r : Parts) (o : Option Hit) → firstHit env (env .rows s) c (candidates q r) ≡ o
+              → Alike (nodeMove env (at s σ) c d a o) (nodeMove env (at s τ) c d b o)
           taken r none f = both-still
           taken r (some h) f = both-move h _ _ (search-hit env (env .rows s) c (candidates q r) h f .0) (settles h w)
 
@@ -109,7 +113,8 @@ module _ (env : Env) (cats : ℕ) (ns : List Urn) where
           gates true tb k (some r) = rw (← k) (taken r (firstHit env (env .rows s) c (candidates q r)) refl)
 
     -- a URN and its symbol, from one signal
-    module _ (s : ℕ) (σ τ : List Status) (u : Urn) (known : u .cat < cats) (ga : Valid env cats ns (at s σ)) (gb : Valid env cats ns (at s τ)) (each : Each s σ τ) where
+    module _ (s : ℕ) (σ τ : List Status) (u : Urn) (known : u .cat < cats) (ga : Valid env cats ns (at s σ))
+        (gb : Valid env cats ns (at s τ)) (each : Each s σ τ) where
       abbrev na : State
       na = step env (at s σ) u
 
@@ -144,14 +149,16 @@ module _ (env : Env) (cats : ℕ) (ns : List Urn) where
           go false l (inr m) = absurd (true≢false (sym m ∙ l))
           go false l (inl e) =
               rw (direct-at-node env cats ns laws (at s σ) ga u known, symbol-at-node env cats ns laws (at s τ) gb (symbolOf ns u) known)
-              (node-alike s σ τ (u .cat) known ga gb each d (sameParts d (u .path)) (not (isOther ns (u .cat) (u .path) d)) (whole-alike ns (u .cat) (u .path) d) l e)
+              (node-alike s σ τ (u .cat) known ga gb each d (sameParts d (u .path)) (not (isOther ns (u .cat) (u .path) d))
+              (whole-alike ns (u .cat) (u .path) d) l e)
 
     -- a step by a URN and a step by its symbol keep states alike
     pub alike-step : (a b : State) (u : Urn) → u .cat < cats → Valid env cats ns a → Valid env cats ns b → Alike a b
         → Alike (step env a u) (step env b (stepsAs (symbolOf ns u)))
     alike-step a b u known ga gb w =
         subst
-        (λ s. Valid env cats ns (at s (a .status)) → Each s (a .status) (b .status) → Alike (step env (at s (a .status)) u) (step env b (stepsAs (symbolOf ns u))))
+        (λ s. Valid env cats ns (at s (a .status)) → Each s (a .status) (b .status)
+        → Alike (step env (at s (a .status)) u) (step env b (stepsAs (symbolOf ns u))))
         (sym (w .same))
         (λ g x. alike-one (b .signal) (a .status) (b .status) u known g gb x)
         ga
@@ -163,4 +170,5 @@ module _ (env : Env) (cats : ℕ) (ns : List Urn) where
     alike-run a b [] known ga gb w = w
     alike-run a b (u ∷ us) known ga gb w =
         alike-run (step env a u) (step env b (stepsAs (symbolOf ns u))) us (λ x m. known x (List·Memᴰ·tail m))
-        (valid-step env cats ns laws a u ga) (valid-step env cats ns laws b (stepsAs (symbolOf ns u)) gb) (alike-step a b u (known u (List·Memᴰ·head refl)) ga gb w)
+        (valid-step env cats ns laws a u ga) (valid-step env cats ns laws b (stepsAs (symbolOf ns u)) gb)
+        (alike-step a b u (known u (List·Memᴰ·head refl)) ga gb w)

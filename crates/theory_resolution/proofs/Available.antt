@@ -11,7 +11,8 @@ use Rattle.theory_resolution.specs.Table.{Urn, Table, Row, rowFrom, rowO
 use Rattle.theory_resolution.specs.Nodes.{nodes, RootOrNode, deepest}
 use Rattle.theory_resolution.specs.Direct.{Open, State, start, Env, envBy, step, direct}
 use Rattle.theory_resolution.specs.NodeStep.{nodeStep}
-use Rattle.theory_resolution.specs.Available.{counts, findAvailableFrom, findAvailable, envAvailable, directAvailable, Stands, AvailableState, AvailableLaw}
+use Rattle.theory_resolution.specs.Available.{counts, findAvailableFrom, findAvailable, envAvailable, directAvailable, Stands, AvailableState}
+use Rattle.theory_resolution.specs.Available.{AvailableLaw}
 use Rattle.theory_resolution.proofs.Names.{row-exact}
 use Rattle.theory_resolution.proofs.Table.{row-length}
 use Rattle.theory_resolution.proofs.Nodes.{row-nodes, fresh-node}
@@ -83,7 +84,8 @@ module _ (on : ℕ → Bool) (n : ℕ) where
           by f (suc k) l w = f .first k (omega arith) (later i k sig sigs r w)
 
   -- with all available the search is the table's
-  same-from : (i : ℕ) (sigs : List (List Urn)) (r : Row) → ((s : ℕ) → s < i + length sigs → counts on s ≡ true) → findAvailableFrom on n i sigs r ≡ findFrom n i sigs r
+  same-from : (i : ℕ) (sigs : List (List Urn)) (r : Row) → ((s : ℕ) → s < i + length sigs → counts on s ≡ true)
+      → findAvailableFrom on n i sigs r ≡ findFrom n i sigs r
   same-from i [] r h = refl
   same-from i (sig ∷ sigs) r h =
       rw (h i (omega arith))
@@ -128,14 +130,16 @@ module _ (t : Table) (on : ℕ → Bool) where
       where
         go : (sigs : List (List Urn)) → 0 < length sigs → findAvailableFrom on (t .cats) 0 sigs (rowFrom (getD sigs 0 []) 0 (t .cats)) ≡ some 0
         go [] h = absurd (omega arith)
-        go (sig ∷ sigs) h = ap (λ b. cond b (some 0) (findAvailableFrom on (t .cats) 1 sigs (rowFrom sig 0 (t .cats)))) (row-exact .self (rowFrom sig 0 (t .cats)))
+        go (sig ∷ sigs) h = ap (λ b. cond b (some 0) (findAvailableFrom on (t .cats) 1 sigs (rowFrom sig 0 (t .cats))))
+            (row-exact .self (rowFrom sig 0 (t .cats)))
 
     pub available-laws : EnvLaws env (t .cats) (nodes t)
     available-laws = record { sound = available-sound; noded = places-nodes; inners = λ c p. refl; fresh-node = fresh-node t wf }
 
     pub available-gives : (us : List Urn) → (counts on (directAvailable t on us .signal) ≡ true) × (directAvailable t on us .signal < length (t .signals))
     available-gives us =
-        let k = found-in (rowOf t (directAvailable t on us .signal)) (directAvailable t on us .signal) (live-run env available-sound (start (t .cats)) us available-live) in
+        let k = found-in (rowOf t (directAvailable t on us .signal)) (directAvailable t on us .signal)
+        (live-run env available-sound (start (t .cats)) us available-live) in
         (k .0 .1, k .0 .0)
 
     pub available-start : AvailableState t on (start (t .cats))

@@ -1,26 +1,22 @@
 -- Laws of the built machine: it is right where the discovery has come to its end, which it does unless too many states
 -- are reachable.
-use Prim.Native.Nat.{ℕ, zero, suc, _≤_, _<_}
-use mathlib.Core.Path.{_≡_, refl, ap, _∙_}
-use mathlib.Core.List.{List, [], _∷_, map, foldl, List·Memᴰ}
+use Prim.Native.Nat.{ℕ, _≤_, _<_}
+use mathlib.Core.Path.{_≡_, ap, _∙_}
+use mathlib.Core.List.{List, [], _∷_, foldl, List·Memᴰ}
 use lib.ListN.{length, getD, length-map}
 use native.Mathlib.Omega.{arith}
-use Rattle.theory_resolution.specs.Lists.{indexBy}
+use Rattle.base_lists.proofs.Tabulated.{tabulate-at}
+use Rattle.base_lists.proofs.Lists.{index-member, map-at}
+use Rattle.base_lists.specs.Lists.{indexBy}
 use Rattle.theory_resolution.specs.Table.{Table, WellFormed}
 use Rattle.theory_resolution.specs.Direct.{State, start, sameState, StateOf}
 use Rattle.theory_resolution.specs.Symbols.{stepsAs, symbols, symbolAt, stepAt}
 use Rattle.theory_resolution.specs.Machine.{MachineState, blank, machineState, target, Accepted}
 use Rattle.theory_resolution.specs.Discovery.{targets}
 use Rattle.theory_resolution.specs.Build.{discovered, Reachable, machineOf}
-use Rattle.theory_resolution.proofs.Lists.{index-member, tabulate-at}
 use Rattle.theory_resolution.proofs.Direct.{state-exact}
 use Rattle.theory_resolution.proofs.Discovery.{Closed, discover-some, discover-start, discover-closed, discover-reached}
 use Rattle.theory_resolution.proofs.TableStep.{state-start, state-step}
-
-getD-map-lt : {A B : Type 0} (f : A → B) (l : List A) (k : ℕ) (d : A) (e : B) → k < length l → getD (map f l) k e ≡ f (getD l k d)
-getD-map-lt f [] k d e h = absurd (omega arith)
-getD-map-lt f (x ∷ l) zero d e h = refl
-getD-map-lt f (x ∷ l) (suc k) d e h = getD-map-lt f l k d e (omega arith)
 
 module _ (t : Table) where
   abbrev count : ℕ
@@ -38,7 +34,7 @@ module _ (t : Table) where
 
     -- state j of the machine is state j of the list, with its targets' numbers
     pub machine-state : (j : ℕ) → j < length l → machineState (machineOf t l) j ≡ made (getD l j begin)
-    machine-state j h = getD-map-lt made l j begin blank h
+    machine-state j h = map-at made l j begin blank h
 
     pub machine-target : (j k : ℕ) → j < length l → k < count → target (machineOf t l) j k ≡ indexBy sameState (stepAt t (getD l j begin) k) l
     machine-target j k h i =
@@ -53,12 +49,17 @@ module _ (t : Table) where
           begins = ap (λ e. e .pair) (machine-state 0 some-state) ∙ begins;
           leads = λ j k h i. rw (machine-length, machine-target j k (rw machine-length at h) i) (known j k (rw machine-length at h) i .0);
           right = λ j k h i.
-              rw (machine-target j k (rw machine-length at h) i, machine-state (indexBy sameState (stepAt t (getD l j begin) k) l) (known j k (rw machine-length at h) i .0), machine-state j (rw machine-length at h))
+              rw (
+                machine-target j k (rw machine-length at h) i,
+                machine-state (indexBy sameState (stepAt t (getD l j begin) k) l) (known j k (rw machine-length at h) i .0),
+                machine-state j (rw machine-length at h),
+              )
               (known j k (rw machine-length at h) i .1);
         }
       where
         known : (j k : ℕ) → j < length l → k < count
-            → (indexBy sameState (stepAt t (getD l j begin) k) l < length l) × (getD l (indexBy sameState (stepAt t (getD l j begin) k) l) begin ≡ stepAt t (getD l j begin) k)
+            → (indexBy sameState (stepAt t (getD l j begin) k) l < length l)
+            × (getD l (indexBy sameState (stepAt t (getD l j begin) k) l) begin ≡ stepAt t (getD l j begin) k)
         known j k h i = index-member sameState state-exact begin (stepAt t (getD l j begin) k) l (closed j k h h i)
 
   -- the machine of the states discovered is right, if they are no more than n after n turns

@@ -8,9 +8,10 @@ use borrow.Author.Tests.{lt-ltb, le-ltb}
 use lib.ListN.{length, getD, length-map, List·getD-map}
 use native.Mathlib.Omega.{arith}
 use native.Mathlib.Decide.{decLt}
-use Rattle.theory_resolution.specs.Lists.{memberBy, addBy, indexBy}
+use Rattle.base_lists.proofs.Tabulated.{tabulate-same}
+use Rattle.base_lists.proofs.Lists.{Exact, mem-at}
+use Rattle.base_lists.specs.Lists.{memberBy, addBy, indexBy}
 use Rattle.theory_resolution.specs.Discovery.{expand, turn, discover, targets}
-use Rattle.theory_resolution.proofs.Lists.{Exact, mem-at, tabulate-same}
 use Rattle.theory_resolution.proofs.Discovery.{expand-all, found, by-turns}
 
 module _ {S R : Type 0} (same : S → S → Bool) (ex : Exact same) (next : S → ℕ → S) (sameCode : R → R → Bool) (nextCode : R → ℕ → R) (code : S → R) (count : ℕ)
@@ -40,7 +41,8 @@ module _ {S R : Type 0} (same : S → S → Bool) (ex : Exact same) (next : S �
       go true = refl
       go false = sym (map-last l s)
 
-  pub expand-code : (s : S) (n : ℕ) (l : List S) → n ≤ count → P s → All l → expand sameCode nextCode (code s) n (map code l) ≡ map code (expand same next s n l)
+  pub expand-code : (s : S) (n : ℕ) (l : List S) → n ≤ count → P s → All l → expand sameCode nextCode (code s) n (map code l)
+      ≡ map code (expand same next s n l)
   unfolding expand
   expand-code s zero l h p a = refl
   expand-code s (suc n) l h p a =
@@ -52,7 +54,8 @@ module _ {S R : Type 0} (same : S → S → Bool) (ex : Exact same) (next : S �
     discover-all =
         by-turns same ex next count begin (λ i l. All l) (λ s m. rw (List·Memᴰ·eq-of-singleton m) p)
         (λ i h a. expand-all same ex next P (getD (found same ex next count begin i) i begin) count (found same ex next count begin i)
-        (λ k. keeps (getD (found same ex next count begin i) i begin) k (a (getD (found same ex next count begin i) i begin) (mem-at (found same ex next count begin i) i begin h))) a)
+        (λ k. keeps (getD (found same ex next count begin i) i begin) k (a (getD (found same ex next count begin i) i begin)
+        (mem-at (found same ex next count begin i) i begin h))) a)
         (λ i h a. a)
 
     pub discover-code : (n : ℕ) → discover sameCode nextCode count (code begin) n ≡ map code (discover same next count begin n)

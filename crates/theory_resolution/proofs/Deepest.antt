@@ -2,14 +2,14 @@
 use Prim.Native.Nat.{ℕ}
 use mathlib.Core.Path.{_≡_, refl, sym, ap, _∙_}
 use mathlib.Core.Logic.{_⊎_, inl, inr}
-use mathlib.Core.Bool.{Bool, true, false, not, _&&_, false≢true, and-eq-true-iff}
+use mathlib.Core.Bool.{Bool, true, false, not, _&&_, false≢true, and-eq-true-iff, or-true, and-false}
 use mathlib.Core.List.{List, [], _∷_, _++_, List·Memᴰ, List·Memᴰ·head, List·Memᴰ·tail}
 use lib.Dec.{eqb}
 use lib.ListN.{length, length-append}
 use native.Mathlib.Omega.{arith}
 use borrow.Author.Tests.{eqb-true, eq-eqb, not-true}
+use Rattle.base_lists.proofs.Lists.{member-of, member-to}
 use Rattle.theory_resolution.specs.Names.{Name, Parts, sameParts, properAncestor, longer, candidates, Above}
-use Rattle.theory_resolution.proofs.Lists.{or-true, member-of, member-to}
 use Rattle.theory_resolution.proofs.Names.{parts-exact, below-self, longer-append, longer-first, in-longer, proper-to}
 use Rattle.theory_resolution.specs.Table.{Urn, urn}
 use Rattle.theory_resolution.specs.Nodes.{sameUrn, member, isNode, RootOrNode, hasUnder, isInner, isRoot, leaf, firstNode, deepest}
@@ -31,7 +31,8 @@ module _ (ns : List Urn) (c : ℕ) where
   first-stop [] p qs h = rw h (List·Memᴰ·head refl)
   first-stop (q ∷ ps) p qs h = go (isNode ns c q) refl (first-stop ps p qs h)
     where
-      go : (b : Bool) → isNode ns c q ≡ b → List·Memᴰ (firstNode ns c (ps ++ p ∷ qs)) (ps ++ p ∷ []) → List·Memᴰ (firstNode ns c ((q ∷ ps) ++ p ∷ qs)) ((q ∷ ps) ++ p ∷ [])
+      go : (b : Bool) → isNode ns c q ≡ b → List·Memᴰ (firstNode ns c (ps ++ p ∷ qs)) (ps ++ p ∷ [])
+          → List·Memᴰ (firstNode ns c ((q ∷ ps) ++ p ∷ qs)) ((q ∷ ps) ++ p ∷ [])
       go true e m = rw e (List·Memᴰ·head refl)
       go false e m = rw e (List·Memᴰ·tail m)
 
@@ -52,7 +53,8 @@ module _ (ns : List Urn) (c : ℕ) where
   deep-most [] u h a = above-root (deepest ns c u)
   deep-most (x ∷ p) u h a =
       let f = longer-first [] x p in
-      let k : longer [] u ≡ longer (x ∷ p) (a .rest) ++ (x ∷ p) ∷ f .0 = ap (longer []) (sym (a .joined)) ∙ longer-append [] (x ∷ p) (a .rest) ∙ ap (λ l. longer (x ∷ p) (a .rest) ++ l) (f .1) in
+      let k : longer [] u ≡ longer (x ∷ p) (a .rest) ++ (x ∷ p) ∷ f .0 = ap (longer []) (sym (a .joined))
+      ∙ longer-append [] (x ∷ p) (a .rest) ∙ ap (λ l. longer (x ∷ p) (a .rest) ++ l) (f .1) in
       let m : List·Memᴰ (deepest ns c u) (candidates (x ∷ p) (a .rest)) = rw k (first-stop (longer (x ∷ p) (a .rest)) (x ∷ p) (f .0) h) in
       between (x ∷ p) (a .rest) (deepest ns c u) m .0
 
@@ -71,11 +73,16 @@ module _ (ns : List Urn) (c : ℕ) where
   under-to [] p h = absurd (false≢true h)
   under-to (v ∷ ms) p h = go (eqb (v .cat) c && properAncestor p (v .path)) refl (under-to ms p)
     where
-      go : (b : Bool) → eqb (v .cat) c && properAncestor p (v .path) ≡ b → (hasUnder ms c p ≡ true → (x : Name) × (r : Parts) × (isNode ms c (p ++ x ∷ r) ≡ true))
+      go : (b : Bool) → eqb (v .cat) c && properAncestor p (v .path) ≡ b
+          → (hasUnder ms c p ≡ true → (x : Name) × (r : Parts) × (isNode ms c (p ++ x ∷ r) ≡ true))
           → (x : Name) × (r : Parts) × (isNode (v ∷ ms) c (p ++ x ∷ r) ≡ true)
       go false e ih =
-          let w = ih (rw e at h) in
-          (w .0, w .1, member-of sameUrn urn-exact (urn c (p ++ w .0 ∷ w .1)) (v ∷ ms) (List·Memᴰ·tail (member-to sameUrn urn-exact (urn c (p ++ w .0 ∷ w .1)) ms (w .2))))
+          let w = ih (rw e at h) in (
+            w .0,
+            w .1,
+            member-of sameUrn urn-exact (urn c (p ++ w .0 ∷ w .1)) (v ∷ ms)
+                (List·Memᴰ·tail (member-to sameUrn urn-exact (urn c (p ++ w .0 ∷ w .1)) ms (w .2))),
+          )
       go true e ih =
           let k = and-eq-true-iff (eqb (v .cat) c) (properAncestor p (v .path)) .0 e in
           let w = proper-to p (v .path) (k .1) in
@@ -118,15 +125,12 @@ past-no-node ns c u y f j = go (isNode ns c u) refl
         let a = deep-most ns c u u e (above-self u) in
         absurd (omega (arith, length-append (deepest ns c u) (y ∷ f), ap length j, length-append u (a .rest), ap length (a .joined)))
 
-and-false : (b : Bool) → b && false ≡ false
-and-false true = refl
-and-false false = refl
-
 -- a node with a node under it, by its path
 pub inner-of : (ns : List Urn) (c : ℕ) (p : Parts) → isNode ns c p ≡ true → (x : Name) (r : Parts) → isNode ns c (p ++ x ∷ r) ≡ true → isInner ns c p ≡ true
 inner-of ns c p n x r m = and-eq-true-iff (isNode ns c p) (hasUnder ns c p) .1 (n, under-of ns c ns p x r m)
 
-pub inner-none : (ns : List Urn) (c : ℕ) (p : Parts) → (isNode ns c p ≡ true → (x : Name) (r : Parts) → isNode ns c (p ++ x ∷ r) ≡ false) → isInner ns c p ≡ false
+pub inner-none : (ns : List Urn) (c : ℕ) (p : Parts) → (isNode ns c p ≡ true → (x : Name) (r : Parts) → isNode ns c (p ++ x ∷ r) ≡ false)
+    → isInner ns c p ≡ false
 inner-none ns c p none = go (isInner ns c p) refl
   where
     go : (b : Bool) → isInner ns c p ≡ b → b ≡ false

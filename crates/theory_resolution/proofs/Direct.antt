@@ -4,18 +4,19 @@ use mathlib.Core.Path.{_≡_, refl, sym, ap, _∙_}
 use mathlib.Core.Logic.{_⊎_, inl, inr}
 use mathlib.Core.Bool.{Bool, true, false, false≢true, and-eq-true-iff}
 use mathlib.Core.Option.{Option, none, some}
-use mathlib.Core.List.{List, [], _∷_, _++_, foldl, append-nil, List·Memᴰ, List·Memᴰ·head, List·Memᴰ·tail}
+use mathlib.Core.List.{List, [], _∷_, _++_, foldl, append-nil, List·Memᴰ, List·Memᴰ·head, List·Memᴰ·tail, map}
 use lib.Dec.{eqb}
 use borrow.Author.Tests.{eqb-true, eq-eqb}
 use lib.ListN.{getD, set}
 use lib.Seq.{set-getD}
 use native.Mathlib.Omega.{arith}
-use Rattle.theory_resolution.specs.Lists.{sameList}
+use Rattle.base_lists.proofs.Lists.{Exact, list-exact, getD-set-cases}
+use Rattle.base_lists.specs.Lists.{sameList}
 use Rattle.theory_resolution.specs.Names.{Parts, below, Above, candidates}
 use Rattle.theory_resolution.specs.Table.{Urn, Row}
-use Rattle.theory_resolution.specs.Direct.{Status, Open, Held, Shut, State, sameStatus, sameState, Hit, firstHit, takesUrn, move, step, Env, changed, changes}
+use Rattle.theory_resolution.specs.Direct.{Status, Open, Held, Shut, State, sameStatus, sameState, Hit, firstHit, takesUrn, move, step, Env}
+use Rattle.theory_resolution.specs.Direct.{changed, changes}
 use Rattle.theory_resolution.specs.Says.{Given}
-use Rattle.theory_resolution.proofs.Lists.{Exact, list-exact, getD-set-cases}
 use Rattle.theory_resolution.proofs.Names.{parts-exact, below-to, above-self, above-trans, between}
 use Rattle.theory_resolution.proofs.Table.{total, total-grows}
 
@@ -115,7 +116,8 @@ module _ (env : Env) where
           → (o : Option Parts) → below (here st (u .cat)) (u .path) ≡ o → (step env st u ≡ st) ⊎ Moved st u
       go false e o b = inl (rw e)
       go true e none b = inl (rw (e, b))
-      go true e (some r) b = moves r (below-to (here st (u .cat)) (u .path) r b) (firstHit env (row st) (u .cat) (candidates (here st (u .cat)) r)) refl (rw (e, b))
+      go true e (some r) b = moves r (below-to (here st (u .cat)) (u .path) r b)
+          (firstHit env (row st) (u .cat) (candidates (here st (u .cat)) r)) refl (rw (e, b))
 
   module _ (sound : (r : Row) (s : ℕ) → env .finder r ≡ some s → env .rows s ≡ r) where
     -- the current signal is what the finder finds at its own places
@@ -141,19 +143,22 @@ module _ (env : Env) where
         → (here (next st u) c ≡ here st c) ⊎ ((c ≡ u .cat) × Above (here st c) (here (next st u) c) × Above (here (next st u) c) (u .path))
     place-step st u c = go (step-view st u)
       where
-        at : (m : Moved st u) → ((c ≡ u .cat) × (getD (set (row st) (u .cat) (m .hit .at)) c [] ≡ m .hit .at)) ⊎ (getD (set (row st) (u .cat) (m .hit .at)) c [] ≡ here st c)
+        at : (m : Moved st u) → ((c ≡ u .cat) × (getD (set (row st) (u .cat) (m .hit .at)) c [] ≡ m .hit .at))
+            ⊎ (getD (set (row st) (u .cat) (m .hit .at)) c [] ≡ here st c)
             → (here (next st u) c ≡ here st c) ⊎ ((c ≡ u .cat) × Above (here st c) (here (next st u) c) × Above (here (next st u) c) (u .path))
         at m (inl k) = inr (k .0, rw (moved-row st u m, k .1, k .0) (m .up), rw (moved-row st u m, k .1) (m .down))
         at m (inr k) = inl (rw (moved-row st u m) k)
 
-        go : (next st u ≡ st) ⊎ Moved st u → (here (next st u) c ≡ here st c) ⊎ ((c ≡ u .cat) × Above (here st c) (here (next st u) c) × Above (here (next st u) c) (u .path))
+        go : (next st u ≡ st) ⊎ Moved st u → (here (next st u) c ≡ here st c) ⊎ ((c ≡ u .cat) × Above (here st c) (here (next st u) c)
+            × Above (here (next st u) c) (u .path))
         go (inl e) = inl (rw e)
         go (inr m) = at m (getD-set-cases (row st) (u .cat) c (m .hit .at) [])
 
     pub grows-step : (st : State) (u : Urn) (c : ℕ) → Above (here st c) (here (next st u) c)
     grows-step st u c = go (place-step st u c)
       where
-        go : (here (next st u) c ≡ here st c) ⊎ ((c ≡ u .cat) × Above (here st c) (here (next st u) c) × Above (here (next st u) c) (u .path)) → Above (here st c) (here (next st u) c)
+        go : (here (next st u) c ≡ here st c) ⊎ ((c ≡ u .cat) × Above (here st c) (here (next st u) c)
+            × Above (here (next st u) c) (u .path)) → Above (here st c) (here (next st u) c)
         go (inl e) = rw e (above-self (here st c))
         go (inr k) = k .1
 
@@ -200,7 +205,8 @@ module _ (env : Env) where
         at-most true = omega arith
         at-most false = omega arith
 
-        longer-by : (m : Moved st u) (e : Parts) → here st (u .cat) ++ e ≡ m .hit .at → changed (eqb (next st u .signal) (st .signal)) + total (row st) ≤ total (row (next st u))
+        longer-by : (m : Moved st u) (e : Parts) → here st (u .cat) ++ e ≡ m .hit .at
+            → changed (eqb (next st u .signal) (st .signal)) + total (row st) ≤ total (row (next st u))
         longer-by m [] j = kept (same-signal st u l m (rw (← j, append-nil) (set-getD (row st) (u .cat) [])))
         longer-by m (x ∷ e) j = by (total-grows (row st) (u .cat) x e)
           where
@@ -219,3 +225,9 @@ module _ (env : Env) where
     pub changes-bound : (st : State) (us : List Urn) → Live st → changes (λ x. x .signal) next st us + total (row st) ≤ total (row (run st us))
     changes-bound st [] l = omega arith
     changes-bound st (u ∷ us) l = omega (arith, total-step st u l, changes-bound (next st u) us (live-step st u l))
+
+-- changes over what a function gives for a list
+pub changes-map : {S A B : Type 0} (signalOf : S → ℕ) (next : S → B → S) (g : A → B) (s : S) (l : List A)
+    → changes signalOf next s (map g l) ≡ changes signalOf (λ x a. next x (g a)) s l
+changes-map signalOf next g s [] = refl
+changes-map signalOf next g s (a ∷ l) = ap (λ n. changed (eqb (signalOf (next s (g a))) (signalOf s)) + n) (changes-map signalOf next g (next s (g a)) l)

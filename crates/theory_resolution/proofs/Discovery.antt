@@ -4,14 +4,16 @@ use Prim.Native.Nat.{ℕ, zero, suc, _+_, _≤_, _<_}
 use mathlib.Core.Path.{_≡_, refl, ap, _∙_}
 use mathlib.Core.Logic.{_⊎_, inl, inr}
 use mathlib.Core.Bool.{Bool, true}
-use mathlib.Core.List.{List, [], _∷_, _++_, foldl, foldl-append, List·Memᴰ, List·Memᴰ·head, List·Memᴰ·tail, List·Memᴰ·not-nil, List·Memᴰ·append-cases, List·Memᴰ·eq-of-singleton}
+use mathlib.Core.List.{List, [], _∷_, _++_, foldl, foldl-append, List·Memᴰ, List·Memᴰ·head, List·Memᴰ·tail, List·Memᴰ·not-nil, List·Memᴰ·append-cases}
+use mathlib.Core.List.{List·Memᴰ·eq-of-singleton}
 use borrow.Author.Tests.{lt-ltb, le-ltb}
 use lib.ListN.{length, getD, length-append}
 use native.Mathlib.Omega.{arith}
 use native.Mathlib.Decide.{decLt, ℕ-discrete}
-use Rattle.theory_resolution.specs.Lists.{memberBy, addBy, indexBy, Distinct}
+use Rattle.base_lists.proofs.Lists.{Exact, Extends, extends-self, extends-trans, at-extends, mem-at, member-of, member-extends, add-extends, add-has}
+use Rattle.base_lists.proofs.Lists.{add-all, distinct-add, distinct-fits, index-member}
+use Rattle.base_lists.specs.Lists.{memberBy, addBy, indexBy, Distinct}
 use Rattle.theory_resolution.specs.Discovery.{expand, discover, Reached, ReachedOver}
-use Rattle.theory_resolution.proofs.Lists.{Exact, Extends, extends-self, extends-trans, at-extends, mem-at, member-of, member-extends, add-extends, add-has, add-all, distinct-add, distinct-fits, index-member}
 
 module _ {S : Type 0} (next : S → ℕ → S) (count : ℕ) (begin : S) where
   -- each symbol leads from a state that is reached to another
@@ -39,7 +41,8 @@ module _ {S : Type 0} (same : S → S → Bool) (ex : Exact same) (next : S → 
   expand-has s zero k l h = absurd (omega arith)
   expand-has s (suc n) k l h = go (ℕ-discrete k n) (λ i. expand-has s n k l i)
     where
-      go : Dec (k ≡ n) → (k < n → memberBy same (next s k) (expand same next s n l) ≡ true) → memberBy same (next s k) (addBy same (expand same next s n l) (next s n)) ≡ true
+      go : Dec (k ≡ n) → (k < n → memberBy same (next s k) (expand same next s n l) ≡ true)
+          → memberBy same (next s k) (addBy same (expand same next s n l) (next s n)) ≡ true
       go (yes e) ih = rw e (add-has same ex (expand same next s n l) (next s n))
       go (no e) ih = member-extends same ex (next s k) (add-extends same ex (expand same next s n l) (next s n)) (ih (omega arith))
 
@@ -127,16 +130,19 @@ module _ {S : Type 0} (same : S → S → Bool) (ex : Exact same) (next : S → 
             ext : Extends (found i) (expand same next (getD (found i) i begin) count (found i))
             ext = expand-extends (getD (found i) i begin) count (found i)
 
-            go : Dec (j ≡ i) → memberBy same (next (getD (expand same next (getD (found i) i begin) count (found i)) j begin) k) (expand same next (getD (found i) i begin) count (found i)) ≡ true
+            go : Dec (j ≡ i) → memberBy same (next (getD (expand same next (getD (found i) i begin) count (found i)) j begin) k)
+                (expand same next (getD (found i) i begin) count (found i)) ≡ true
             go (yes e) = rw (e, at-extends begin ext i h) (expand-has (getD (found i) i begin) count k (found i) d)
-            go (no e) = rw (at-extends begin ext j (omega arith)) (member-extends same ex (next (getD (found i) j begin) k) ext (c j k (omega arith) (omega arith) d))
+            go (no e) = rw (at-extends begin ext j (omega arith)) (member-extends same ex (next (getD (found i) j begin) k) ext
+                (c j k (omega arith) (omega arith) d))
 
     -- every state found is reached
     pub discover-reached : (n : ℕ) (s : S) → List·Memᴰ s (found n) → Reached next count begin s
     discover-reached =
         by-turns (λ i l. (s : S) → List·Memᴰ s l → Reached next count begin s)
         (λ s m. rw (List·Memᴰ·eq-of-singleton m) (record { by = []; listed = λ k i. absurd (List·Memᴰ·not-nil i); leads = refl }))
-        (λ i h a. expand-all (Reached next count begin) (getD (found i) i begin) count (found i) (reached-next next count begin (getD (found i) i begin) (a (getD (found i) i begin) (mem-at (found i) i begin h))) a)
+        (λ i h a. expand-all (Reached next count begin) (getD (found i) i begin) count (found i)
+        (reached-next next count begin (getD (found i) i begin) (a (getD (found i) i begin) (mem-at (found i) i begin h))) a)
         (λ i h a. a)
 
     -- and every state that is reached from a state of a closed list is in the list
@@ -166,4 +172,8 @@ module _ {S : Type 0} (same : S → S → Bool) (ex : Exact same) (next : S → 
         go : Dec (n < length (found n)) → n < length (found n)
         go (yes h) = h
         go (no h) =
-            absurd (omega (arith, o .over, distinct-fits same ex (o .states) (found n) (o .distinct) (λ s m. discover-complete n (omega arith) s (o .reached s m))))
+            absurd (omega (
+              arith,
+              o .over,
+              distinct-fits same ex (o .states) (found n) (o .distinct) (λ s m. discover-complete n (omega arith) s (o .reached s m)),
+            ))

@@ -1,6 +1,6 @@
 -- The examples, computed from the definitions.
 use mathlib.Core.Path.{refl}
-use Rattle.theory_resolution.specs.Lists.{tabulate}
+use Rattle.base_lists.specs.Lists.{tabulate}
 use Rattle.theory_resolution.specs.Direct.{step}
 use Rattle.theory_resolution.specs.Nodes.{nodes, leaf, deepest}
 use Rattle.theory_resolution.specs.Discovery.{expand, discover}

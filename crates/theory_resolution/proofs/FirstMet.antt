@@ -8,9 +8,9 @@ use lib.ListN.{length, getD, length-append, List·getD-append}
 use lib.Seq.{getD-at, take-append-le, take-append-seam}
 use native.Mathlib.Omega.{arith}
 use native.Mathlib.Decide.{ℕ-discrete}
-use Rattle.theory_resolution.specs.Lists.{memberBy, addBy}
+use Rattle.base_lists.proofs.Lists.{Exact, Extends, extends-self, at-extends, member-extends}
+use Rattle.base_lists.specs.Lists.{memberBy, addBy}
 use Rattle.theory_resolution.specs.Discovery.{expand, discover, FirstMet}
-use Rattle.theory_resolution.proofs.Lists.{Exact, Extends, extends-self, at-extends, member-extends}
 use Rattle.theory_resolution.proofs.Discovery.{expand-extends, expand-has, found, by-turns, Closed, discover-closed}
 
 module _ {S : Type 0} (same : S → S → Bool) (ex : Exact same) (next : S → ℕ → S) (count : ℕ) (begin : S) where
@@ -35,7 +35,8 @@ module _ {S : Type 0} (same : S → S → Bool) (ex : Exact same) (next : S → 
   Numbered l = (j : ℕ) → 0 < j → j < length l → FirstMet next count begin same l j
 
   -- one more target of state i, after the targets at the symbols below k
-  first-add : (i k : ℕ) (l : List S) → i < length l → k < count → ((a b : ℕ) → (a < i) ⊎ ((a ≡ i) × (b < k)) → b < count → memberBy same (next (getD l a begin) b) l ≡ true)
+  first-add : (i k : ℕ) (l : List S) → i < length l → k < count → ((a b : ℕ) → (a < i) ⊎ ((a ≡ i) × (b < k)) → b < count
+      → memberBy same (next (getD l a begin) b) l ≡ true)
       → Numbered l → Numbered (addBy same l (next (getD l i begin) k))
   first-add i k l h d closed num j p q = go (memberBy same x l) refl q
     where
@@ -60,7 +61,8 @@ module _ {S : Type 0} (same : S → S → Bool) (ex : Exact same) (next : S → 
           low a b (inl w) = omega arith
           low a b (inr w) = omega (arith, w .0)
 
-      go : (b : Bool) → memberBy same x l ≡ b → j < length (cond (memberBy same x l) l (l ++ x ∷ [])) → FirstMet next count begin same (cond (memberBy same x l) l (l ++ x ∷ [])) j
+      go : (b : Bool) → memberBy same x l ≡ b → j < length (cond (memberBy same x l) l (l ++ x ∷ []))
+          → FirstMet next count begin same (cond (memberBy same x l) l (l ++ x ∷ [])) j
       go true e r = rw e (old l (extends-self l) (rw e at r))
       go false e r = rw e (last (ℕ-discrete j (length l)))
         where
@@ -70,7 +72,8 @@ module _ {S : Type 0} (same : S → S → Bool) (ex : Exact same) (next : S → 
               let r′ : j < length (l ++ x ∷ []) = rw e at r in
               old (l ++ x ∷ []) (record { more = x ∷ []; joined = refl }) (omega (arith, length-append l (x ∷ [])))
 
-  first-expand : (i : ℕ) (l : List S) → i < length l → Closed same ex next count begin i l → Numbered l → (k : ℕ) → k ≤ count → Numbered (expand same next (getD l i begin) k l)
+  first-expand : (i : ℕ) (l : List S) → i < length l → Closed same ex next count begin i l → Numbered l → (k : ℕ) → k ≤ count
+      → Numbered (expand same next (getD l i begin) k l)
   unfolding expand
   first-expand i l h closed num zero d = num
   first-expand i l h closed num (suc k) d =
@@ -93,7 +96,8 @@ module _ {S : Type 0} (same : S → S → Bool) (ex : Exact same) (next : S → 
       ap-add n = rw (at-extends begin x i h) at n
 
   -- the states found are numbered breadth first
-  pub discover-numbered : (n j : ℕ) → 0 < j → j < length (discover same next count begin n) → FirstMet next count begin same (discover same next count begin n) j
+  pub discover-numbered : (n j : ℕ) → 0 < j → j < length (discover same next count begin n)
+      → FirstMet next count begin same (discover same next count begin n) j
   discover-numbered =
       by-turns same ex next count begin (λ i l. Numbered l) (λ j p q. absurd (omega arith))
       (λ i h num. first-expand i (found same ex next count begin i) h (discover-closed same ex next count begin i) num count (omega arith)) (λ i h num. num)

@@ -7,13 +7,13 @@ use mathlib.Core.List.{List, [], _∷_, foldl, List·Memᴰ, List·Memᴰ·head,
 use lib.Dec.{ltb}
 use borrow.Author.Tests.{ltb-true, lt-ltb}
 use lib.ListN.{length}
-use Rattle.theory_resolution.specs.Lists.{allBelow}
+use Rattle.base_lists.proofs.Below.{all-to, all-of}
+use Rattle.base_lists.specs.Lists.{allBelow}
 use Rattle.theory_resolution.specs.Table.{Urn, Table, WellFormed}
 use Rattle.theory_resolution.specs.Direct.{State, start, direct, Used, sameState}
 use Rattle.theory_resolution.specs.Nodes.{nodes}
 use Rattle.theory_resolution.specs.Symbols.{symbols, symbolOf, symbolIndex, stepSymbol, stepAt}
 use Rattle.theory_resolution.specs.Machine.{Machine, machineState, target, Accepted, targetRight, rowRight, accepts, walkStep, signalAt}
-use Rattle.theory_resolution.proofs.Lists.{all-to, all-of}
 use Rattle.theory_resolution.proofs.Direct.{state-exact}
 use Rattle.theory_resolution.proofs.Symbols.{symbol-at-index, same-signals}
 

@@ -1,5 +1,5 @@
 -- The laws of specs/MachineMeaning.antt that are not about order, proved.
-use Prim.Native.Nat.{ℕ, suc, _+_, _<_}
+use Prim.Native.Nat.{ℕ, suc, _<_}
 use mathlib.Core.Path.{_≡_, refl, sym, ap, subst, _∙_}
 use mathlib.Core.Logic.{_≢_}
 use mathlib.Core.Bool.{Bool, true, false, true≢false}
@@ -9,7 +9,8 @@ use lib.ListN.{length, getD, length-append, List·getD-append}
 use lib.Seq.{getD-at}
 use native.Mathlib.Omega.{arith}
 use native.Mathlib.Decide.{ℕ-discrete}
-use Rattle.theory_resolution.specs.Lists.{indexBy}
+use Rattle.base_lists.proofs.Tabulated.{tabulate-length}
+use Rattle.base_lists.specs.Lists.{indexBy}
 use Rattle.theory_resolution.specs.Names.{Name, Parts}
 use Rattle.theory_resolution.specs.Table.{Urn, Table}
 use Rattle.theory_resolution.specs.Direct.{State, start, stepUri, sameState}
@@ -18,7 +19,6 @@ use Rattle.theory_resolution.specs.Machine.{MachineState, Machine, blank
 use Rattle.theory_resolution.specs.Symbols.{symbols, stepAt}
 use Rattle.theory_resolution.specs.Discovery.{targets}
 use Rattle.theory_resolution.specs.MachineMeaning.{WalkLaw, LeafLaw, DeepestLaw, ReachedLaw, NodesLaw, MachineOfLaw, AcceptedLaw}
-use Rattle.theory_resolution.proofs.Lists.{tabulate-length}
 use Rattle.theory_resolution.proofs.Names.{above-trans}
 use Rattle.theory_resolution.proofs.Nodes.{node-to, node-of, urn-node}
 use Rattle.theory_resolution.proofs.Deepest.{deep-above, above-deep, deepest-node, under-to, leaf-ends}
@@ -30,9 +30,18 @@ nodes-law t =
     record {
       urns = urn-node t;
       ancestors = λ c p r n h. let w = node-to t c (p ++ r) h in
-          node-of t c p (record { some-part = n; signal = w .signal; by = w .by; listed = w .listed; named = w .named; cat = w .cat; above = above-trans (record { rest = r; joined = refl }) (w .above) });
+          node-of t c p (record {
+            some-part = n;
+            signal = w .signal;
+            by = w .by;
+            listed = w .listed;
+            named = w .named;
+            cat = w .cat;
+            above = above-trans (record { rest = r; joined = refl }) (w .above);
+          });
       no-other = λ P own up c p h. let w = node-to t c p h in
-          up c p (w .above .rest) (subst (λ (z : Parts). P c z) (sym (w .above .joined)) (subst (λ (i : ℕ). P i (w .by .path)) (w .cat) (own (w .signal) (w .by) (w .listed) (w .named))));
+          up c p (w .above .rest) (subst (λ (z : Parts). P c z) (sym (w .above .joined))
+          (subst (λ (i : ℕ). P i (w .by .path)) (w .cat) (own (w .signal) (w .by) (w .listed) (w .named))));
     }
 
 pub leaf-law : (ns : List Urn) (c : ℕ) → LeafLaw ns c
@@ -65,7 +74,8 @@ reached-law {S} next count begin =
       no-other = λ P p keeps s r. rw (← r .leads) (follow P keeps (r .by) begin p (r .listed));
     }
   where
-    follow : (P : S → Type 0) → ((s : S) (k : ℕ) → P s → k < count → P (next s k)) → (ks : List ℕ) (s : S) → P s → ((k : ℕ) → List·Memᴰ k ks → k < count) → P (foldl next s ks)
+    follow : (P : S → Type 0) → ((s : S) (k : ℕ) → P s → k < count → P (next s k)) → (ks : List ℕ) (s : S) → P s
+        → ((k : ℕ) → List·Memᴰ k ks → k < count) → P (foldl next s ks)
     follow P keeps [] s p b = p
     follow P keeps (k ∷ ks) s p b = follow P keeps ks (next s k) (keeps s k p (b k (List·Memᴰ·head refl))) (λ x i. b x (List·Memᴰ·tail i))
 
@@ -73,10 +83,12 @@ pub machine-of-law : (t : Table) (l : List State) → MachineOfLaw t l
 machine-of-law t l =
     record {
       pairs = again l;
-      rows = λ j h. ap (λ (e : MachineState). length (e .row)) (machine-state t l j h) ∙ tabulate-length (λ k. indexBy sameState (stepAt t (getD l j (start (t .cats))) k) l) (length (symbols t));
+      rows = λ j h. ap (λ (e : MachineState). length (e .row)) (machine-state t l j h)
+          ∙ tabulate-length (λ k. indexBy sameState (stepAt t (getD l j (start (t .cats))) k) l) (length (symbols t));
     }
   where
-    again : (k : List State) → map (λ (e : MachineState). e .pair) (map (λ st. record { pair = st; row = targets sameState (stepAt t) (length (symbols t)) l st }) k) ≡ k
+    again : (k : List State) → map (λ (e : MachineState). e .pair)
+        (map (λ st. record { pair = st; row = targets sameState (stepAt t) (length (symbols t)) l st }) k) ≡ k
     again [] = refl
     again (st ∷ k) = ap (λ z. st ∷ z) (again k)
 
@@ -118,7 +130,8 @@ accepted-law t m = record { renumbered = renumbered; one-more = one-more }
         old j h = List·getD-append m (e ∷ []) blank j h
 
         Right : ℕ → ℕ → Type 0
-        Right j k = (target (m ++ e ∷ []) j k < length (m ++ e ∷ [])) × (machineState (m ++ e ∷ []) (target (m ++ e ∷ []) j k) .pair ≡ stepAt t (machineState (m ++ e ∷ []) j .pair) k)
+        Right j k = (target (m ++ e ∷ []) j k < length (m ++ e ∷ [])) × (machineState (m ++ e ∷ []) (target (m ++ e ∷ []) j k) .pair
+            ≡ stepAt t (machineState (m ++ e ∷ []) j .pair) k)
 
         at : (j k : ℕ) → j < length (m ++ e ∷ []) → k < length (symbols t) → Right j k
         at j k a b = go (ℕ-discrete j (length m))

@@ -4,7 +4,8 @@ use mathlib.Core.Path.{_≡_, refl, sym, ap, _∙_}
 use mathlib.Core.Logic.{_⊎_, inl, inr, _≢_}
 use mathlib.Core.Bool.{Bool, true, false, _&&_, true≢false, and-eq-true-iff}
 use mathlib.Core.Option.{Option, none, some}
-use mathlib.Core.List.{List, [], _∷_, _++_, foldl-append, append-assoc, append-nil, List·Memᴰ, List·Memᴰ·head, List·Memᴰ·tail, List·Memᴰ·cases-cons, List·Memᴰ·not-nil, List·Memᴰ·append-cases, List·Memᴰ·eq-of-singleton, Memᴰ·append-left, Memᴰ·append-right}
+use mathlib.Core.List.{List, [], _∷_, _++_, foldl-append, append-assoc, append-nil, List·Memᴰ, List·Memᴰ·head, List·Memᴰ·tail, List·Memᴰ·cases-cons}
+use mathlib.Core.List.{List·Memᴰ·not-nil, List·Memᴰ·append-cases, List·Memᴰ·eq-of-singleton, Memᴰ·append-left, Memᴰ·append-right}
 use lib.Dec.{eqb}
 use borrow.Author.Tests.{eqb-true, eq-eqb, ne-eqb}
 use lib.ListN.{length, getD, set, length-replicate, getD-replicate}
@@ -14,7 +15,8 @@ use native.Mathlib.Decide.{decLt}
 use Rattle.theory_resolution.specs.Names.{Name, Parts, sameParts, properAncestor, Above, longer, candidates}
 use Rattle.theory_resolution.specs.Table.{Urn, urn, Table, Row, placeIn, place, rowOf, find, partsOf, mostParts}
 use Rattle.theory_resolution.specs.Nodes.{nodes, isInner}
-use Rattle.theory_resolution.specs.Direct.{Status, Open, Held, Shut, State, start, Env, envOf, Hit, firstHit, takesUrn, heldIf, openOr, move, step, statusFits, StateOf}
+use Rattle.theory_resolution.specs.Direct.{Status, Open, Held, Shut, State, start, Env, envOf, Hit, firstHit, takesUrn, heldIf, openOr, move}
+use Rattle.theory_resolution.specs.Direct.{step, statusFits, StateOf}
 use Rattle.theory_resolution.specs.Says.{Says, Given}
 use Rattle.theory_resolution.specs.Meaning.{UrisLaw, AskedLaw, Once, PlaceLaw, PartsLaw, ChangesLaw, GivenLaw, SaysLaw, Taken, StepLaw, RunLaw}
 use Rattle.theory_resolution.proofs.Names.{parts-exact, between, longer-append, longer-first, proper-to, proper-of}
@@ -41,7 +43,8 @@ place-law t s = record { named = named; unnamed = λ c n. from-none c n (place-f
     first [] u m = absurd (List·Memᴰ·not-nil m)
     first (w ∷ l) u m = go (eqb (w .cat) (u .cat)) refl (List·Memᴰ·cases-cons m) (λ k. first l u k)
       where
-        go : (b : Bool) → eqb (w .cat) (u .cat) ≡ b → (u ≡ w) ⊎ List·Memᴰ u l → (List·Memᴰ u l → (v : Urn) × List·Memᴰ v l × (v .cat ≡ u .cat) × (placeIn l (u .cat) ≡ v .path))
+        go : (b : Bool) → eqb (w .cat) (u .cat) ≡ b → (u ≡ w) ⊎ List·Memᴰ u l
+            → (List·Memᴰ u l → (v : Urn) × List·Memᴰ v l × (v .cat ≡ u .cat) × (placeIn l (u .cat) ≡ v .path))
             → (v : Urn) × List·Memᴰ v (w ∷ l) × (v .cat ≡ u .cat) × (placeIn (w ∷ l) (u .cat) ≡ v .path)
         go true e k ih = (w, List·Memᴰ·head refl, eqb-true (w .cat) (u .cat) e, rw e)
         go false e (inl k) ih = absurd (true≢false (sym (eq-eqb (w .cat) (u .cat) (ap (λ x. x .cat) (sym k))) ∙ e))
@@ -50,7 +53,8 @@ place-law t s = record { named = named; unnamed = λ c n. from-none c n (place-f
     named : Once sig → (u : Urn) → List·Memᴰ u sig → place t s (u .cat) ≡ u .path
     named once u m = let f = first sig u m in f .3 ∙ ap (λ x. x .path) (once (f .0) u (f .1) m (f .2))
 
-    from-none : (c : ℕ) → ((u : Urn) → List·Memᴰ u sig → u .cat ≢ c) → (placeIn sig c ≡ []) ⊎ ((u : Urn) × List·Memᴰ u sig × (u .cat ≡ c) × (placeIn sig c ≡ u .path)) → placeIn sig c ≡ []
+    from-none : (c : ℕ) → ((u : Urn) → List·Memᴰ u sig → u .cat ≢ c) → (placeIn sig c ≡ [])
+        ⊎ ((u : Urn) × List·Memᴰ u sig × (u .cat ≡ c) × (placeIn sig c ≡ u .path)) → placeIn sig c ≡ []
     from-none c n (inl e) = e
     from-none c n (inr k) = absurd (n (k .0) (k .1) (k .2))
 
@@ -112,7 +116,8 @@ given-law c p = record { by-none = λ g. List·Memᴰ·not-nil (g .listed); by-o
 pub says-law : (t : Table) (s c : ℕ) (p : Parts) → SaysLaw t s c p
 says-law t s c p = record { only = λ h. (h .known, h .some-part, given (place-from (getD (t .signals) s []) c) h); all-said = said }
   where
-    given : (place t s c ≡ []) ⊎ ((u : Urn) × List·Memᴰ u (getD (t .signals) s []) × (u .cat ≡ c) × (place t s c ≡ u .path)) → Says t s c p → Given (getD (t .signals) s []) c p
+    given : (place t s c ≡ []) ⊎ ((u : Urn) × List·Memᴰ u (getD (t .signals) s []) × (u .cat ≡ c) × (place t s c ≡ u .path)) → Says t s c p
+        → Given (getD (t .signals) s []) c p
     given (inl e) h = absurd (nothing p (h .some-part) (h .above .rest) (h .above .joined ∙ e))
       where
         nothing : (p : Parts) → p ≢ [] → (r : Parts) → p ++ r ≡ [] → ⊥
@@ -134,7 +139,8 @@ search-stop env row c [] p qs s f h e =
     List·Memᴰ·head (sym (ap (λ x. x .at) e₁))
 search-stop env row c (q ∷ ps) p qs s f h e = go (env .finder (set row c q)) refl (λ k. search-stop env row c ps p qs s f h k)
   where
-    go : (o : Option ℕ) → env .finder (set row c q) ≡ o → (firstHit env row c (ps ++ p ∷ qs) ≡ some h → List·Memᴰ (h .at) (ps ++ p ∷ [])) → List·Memᴰ (h .at) (q ∷ (ps ++ p ∷ []))
+    go : (o : Option ℕ) → env .finder (set row c q) ≡ o → (firstHit env row c (ps ++ p ∷ qs) ≡ some h → List·Memᴰ (h .at) (ps ++ p ∷ []))
+        → List·Memᴰ (h .at) (q ∷ (ps ++ p ∷ []))
     go none g ih = List·Memᴰ·tail (ih (rw g at e))
     go (some r) g ih =
         let e′ : some (record { at = q; signal = r }) ≡ some h = rw g at e in
@@ -142,7 +148,7 @@ search-stop env row c (q ∷ ps) p qs s f h e = go (env .finder (set row c q)) r
         List·Memᴰ·head (sym (ap (λ x. x .at) e₁))
 
 -- no candidate with a signal is longer than the one found
-search-longest : (env : Env) (row : Row) (c : ℕ) (q r p : Parts) (s : ℕ) → Above q p → Above p (q ++ r) → env .finder (set row c p) ≡ some s
+pub search-longest : (env : Env) (row : Row) (c : ℕ) (q r p : Parts) (s : ℕ) → Above q p → Above p (q ++ r) → env .finder (set row c p) ≡ some s
     → (h : Hit) → firstHit env row c (candidates q r) ≡ some h → Above p (h .at)
 search-longest env row c q r p s a b f h e = by (a .rest) (a .joined)
   where
@@ -199,7 +205,8 @@ step-law t st g u known =
     from-place x r j = ap (λ z. z ++ x ∷ r) here ∙ j
 
     -- what properly extends the path at which the category is held properly extends the place
-    past-held : (w : Parts) → getD (st .status) (u .cat) Open ≡ Held w → (x : Name) (r : Parts) → w ++ x ∷ r ≡ u .path → (y : Name) × (s : Parts) × (q ++ y ∷ s ≡ u .path)
+    past-held : (w : Parts) → getD (st .status) (u .cat) Open ≡ Held w → (x : Name) (r : Parts) → w ++ x ∷ r ≡ u .path → (y : Name)
+        × (s : Parts) × (q ++ y ∷ s ≡ u .path)
     past-held w o x r j =
         let fits : properAncestor q w && isInner (nodes t) (u .cat) w ≡ true = ap (statusFits (nodes t) (u .cat) q) (sym o) ∙ g .fits (u .cat) known in
         let k = proper-to q w (and-eq-true-iff (properAncestor q w) (isInner (nodes t) (u .cat) w) .0 fits .0) in
@@ -211,7 +218,8 @@ step-law t st g u known =
         at-place : (x : Name) (r : Parts) → q ++ x ∷ r ≡ u .path → ⊥
         at-place x r j = n x r (ap (λ z. z ++ x ∷ r) (sym here) ∙ j)
 
-        go : (b : Bool) → takesUrn (getD (st .status) (u .cat) Open) q (u .path) ≡ b → (o : Status) → getD (st .status) (u .cat) Open ≡ o → step (envOf t) st u ≡ st
+        go : (b : Bool) → takesUrn (getD (st .status) (u .cat) Open) q (u .path) ≡ b → (o : Status) → getD (st .status) (u .cat) Open ≡ o
+            → step (envOf t) st u ≡ st
         go false e o i = step-still (envOf t) st u e
         go true e Open i = let k = proper-to q (u .path) (ap (λ z. takesUrn z q (u .path)) (sym i) ∙ e) in absurd (at-place (k .0) (k .1) (k .2))
         go true e (Held w) i =

@@ -7,9 +7,10 @@ use mathlib.Core.Option.{Option, none, some}
 use mathlib.Core.List.{List, [], _∷_, _++_, append-assoc, append-nil, List·Memᴰ, List·Memᴰ·append-cases, List·Memᴰ·eq-of-singleton, List·Memᴰ·not-nil}
 use lib.ListN.{length, length-append}
 use native.Mathlib.Omega.{arith}
-use Rattle.theory_resolution.specs.Lists.{sameList}
-use Rattle.theory_resolution.specs.Names.{Name, Parts, sameName, sameParts, below, somePart, properAncestor, Above, longer, candidates}
-use Rattle.theory_resolution.proofs.Lists.{Exact, eqb-exact, list-exact, same-test}
+use Rattle.base_lists.proofs.Bools.{same-test}
+use Rattle.base_lists.proofs.Lists.{Exact, eqb-exact, list-exact}
+use Rattle.base_lists.specs.Lists.{sameList}
+use Rattle.theory_resolution.specs.Names.{Name, Parts, sameName, sameParts, below, somePart, properAncestor, Above, longer, candidates, someBelow}
 
 pub name-exact : Exact sameName
 name-exact = list-exact eqb-exact
@@ -52,7 +53,8 @@ pub in-longer : (p r q : Parts) → List·Memᴰ q (longer p r) → Strict p r q
 in-longer p [] q m = absurd (List·Memᴰ·not-nil m)
 in-longer p (x ∷ r) q m = go (List·Memᴰ·append-cases (longer (p ++ x ∷ []) r) m) (λ h. in-longer (p ++ x ∷ []) r q h)
   where
-    go : List·Memᴰ q (longer (p ++ x ∷ []) r) ⊎ List·Memᴰ q ((p ++ x ∷ []) ∷ []) → (List·Memᴰ q (longer (p ++ x ∷ []) r) → Strict (p ++ x ∷ []) r q) → Strict p (x ∷ r) q
+    go : List·Memᴰ q (longer (p ++ x ∷ []) r) ⊎ List·Memᴰ q ((p ++ x ∷ []) ∷ [])
+        → (List·Memᴰ q (longer (p ++ x ∷ []) r) → Strict (p ++ x ∷ []) r q) → Strict p (x ∷ r) q
     go (inl h) ih =
         let s = ih h in
         record {
@@ -86,8 +88,10 @@ between q r p m = go (List·Memᴰ·append-cases (longer q r) m)
   where
     go : List·Memᴰ p (longer q r) ⊎ List·Memᴰ p (q ∷ []) → Above q p × Above p (q ++ r)
     go (inl h) =
-        let s = in-longer q r p h in
-        (record { rest = s .head ∷ s .mid; joined = s .is }, record { rest = s .last; joined = ap (λ l. l ++ s .last) (sym (s .is)) ∙ append-assoc q (s .head ∷ s .mid) (s .last) ∙ ap (λ l. q ++ l) (s .on) })
+        let s = in-longer q r p h in (
+          record { rest = s .head ∷ s .mid; joined = s .is },
+          record { rest = s .last; joined = ap (λ l. l ++ s .last) (sym (s .is)) ∙ append-assoc q (s .head ∷ s .mid) (s .last) ∙ ap (λ l. q ++ l) (s .on) },
+        )
     go (inr h) = let e = List·Memᴰ·eq-of-singleton h in (record { rest = []; joined = append-nil q ∙ sym e }, record { rest = r; joined = rw e })
 
 -- a proper ancestor, by the test
@@ -170,11 +174,6 @@ snoc-view (y ∷ r) = go (snoc-view r)
 -- the candidates of a path with one more part
 pub candidates-snoc : (q e : Parts) (x : Name) → candidates q (e ++ x ∷ []) ≡ (q ++ e ++ x ∷ []) ∷ candidates q e
 candidates-snoc q e x = ap (λ l. l ++ q ∷ []) (longer-append q e (x ∷ []))
-
--- p is u or above it, as a test of what is left
-abbrev pub someBelow : Option Parts → Bool
-someBelow none = false
-someBelow (some r) = true
 
 pub some-above : (p u : Parts) → someBelow (below p u) ≡ true → Above p u
 some-above p u = go (below p u) refl

@@ -9,7 +9,8 @@ use lib.ListN.{length, getD, set, length-append}
 use lib.Seq.{set-getD}
 use native.Mathlib.Omega.{arith}
 use Rattle.theory_resolution.specs.Names.{Name, Parts, sameParts, below, properAncestor, longer, candidates, Above}
-use Rattle.theory_resolution.proofs.Names.{parts-exact, below-to, below-self, above-self, above-root, above-trans, between, not-past, snoc-split, proper-to, proper-of, proper-above}
+use Rattle.theory_resolution.proofs.Names.{parts-exact, below-to, below-self, above-self, above-root, above-trans, between, not-past}
+use Rattle.theory_resolution.proofs.Names.{snoc-split, proper-to, proper-of, proper-above}
 use Rattle.theory_resolution.specs.Table.{Urn, urn}
 use Rattle.theory_resolution.specs.Nodes.{isNode, RootOrNode, isInner, isRoot, deepest}
 use Rattle.theory_resolution.specs.Direct.{Status, Open, Held, Shut, State, Env, Hit, firstHit, heldIf, openOr, statusFits, takesUrn, move, step}
@@ -78,7 +79,8 @@ module _ (env : Env) (cats : ℕ) (ns : List Urn) (laws : EnvLaws env cats ns) w
         taken Shut ok e = absurd (false≢true e)
 
         settles : (p h : Parts) → f ≡ h → Above p d
-            → openOr (sameParts p (d ++ f)) (heldIf (env .inner c (d ++ f)) (d ++ f)) ≡ openOr (isRoot h && sameParts p d) (heldIf (isRoot h && env .inner c d) d)
+            → openOr (sameParts p (d ++ f)) (heldIf (env .inner c (d ++ f)) (d ++ f))
+            ≡ openOr (isRoot h && sameParts p d) (heldIf (isRoot h && env .inner c d) d)
         settles p [] i a = ap (λ z. openOr (sameParts p z) (heldIf (env .inner c z) z)) (ap (λ z. d ++ z) i ∙ append-nil d)
         settles p (x ∷ h) i a = rw (not-past p d x h (d ++ f) a (ap (λ z. d ++ z) (sym i)), laws .inners c (d ++ f), no-node x h i)
 
@@ -88,7 +90,12 @@ module _ (env : Env) (cats : ℕ) (ns : List Urn) (laws : EnvLaws env cats ns) w
         go true e =
             step-takes env st (urn c (d ++ f)) (a .rest ++ f) e (sym (append-assoc q (a .rest) f) ∙ ap (λ z. z ++ f) (a .joined))
             ∙ ap (move env st c (d ++ f)) (seek env (env .rows (st .signal)) c q (a .rest) f (rw (a .joined) quiet) ∙ hh .1)
-            ∙ rw (same-takes (getD (st .status) c Open) now-fits, e, at, hh .1) (ap (λ z. record { signal = hh .0 .signal; status = set (st .status) c z }) (settles (hh .0 .at) f refl h-above))
+            ∙ rw (
+              same-takes (getD (st .status) c Open) now-fits,
+              e,
+              at,
+              hh .1,
+            ) (ap (λ z. record { signal = hh .0 .signal; status = set (st .status) c z }) (settles (hh .0 .at) f refl h-above))
           where
             a : Above q d
             a = taken (getD (st .status) c Open) now-fits e
@@ -100,7 +107,8 @@ module _ (env : Env) (cats : ℕ) (ns : List Urn) (laws : EnvLaws env cats ns) w
             hh = search-last env (env .rows (st .signal)) c (longer q (a .rest)) q (st .signal) (rw (set-getD (env .rows (st .signal)) c []) (g .live))
 
             h-above : Above (hh .0 .at) d
-            h-above = rw (a .joined) at (between q (a .rest) (hh .0 .at) (search-hit env (env .rows (st .signal)) c (candidates q (a .rest)) (hh .0) (hh .1) .1) .1)
+            h-above = rw (a .joined) at (between q (a .rest) (hh .0 .at)
+                (search-hit env (env .rows (st .signal)) c (candidates q (a .rest)) (hh .0) (hh .1) .1) .1)
 
   isRoot-same : (d f u : Parts) → d ++ f ≡ u → isRoot f ≡ sameParts d u
   isRoot-same d [] u j = sym (ap (sameParts d) (sym j ∙ append-nil d) ∙ parts-exact .self d)
@@ -151,7 +159,8 @@ module _ (env : Env) (cats : ℕ) (ns : List Urn) (laws : EnvLaws env cats ns) w
   -- its category takes a URN by its deepest node alone
   pub takes-at-node : (st : State) → Valid env cats ns st → (u : Urn) → u .cat < cats
       → takesUrn (getD (st .status) (u .cat) Open) (getD (env .rows (st .signal)) (u .cat) []) (u .path)
-      ≡ nodeTakes (getD (st .status) (u .cat) Open) (getD (env .rows (st .signal)) (u .cat) []) (deepest ns (u .cat) (u .path)) (sameParts (deepest ns (u .cat) (u .path)) (u .path))
+      ≡ nodeTakes (getD (st .status) (u .cat) Open) (getD (env .rows (st .signal)) (u .cat) []) (deepest ns (u .cat) (u .path))
+      (sameParts (deepest ns (u .cat) (u .path)) (u .path))
   takes-at-node st g u known =
       ap (takesUrn o (getD (env .rows (st .signal)) (u .cat) [])) (sym (a .joined))
       ∙ sym (same-takes st g (u .cat) known d (a .rest)

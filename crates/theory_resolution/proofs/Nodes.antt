@@ -4,16 +4,17 @@ use mathlib.Core.Path.{_≡_, refl, sym, ap, _∙_}
 use mathlib.Core.Logic.{_⊎_, inl, inr, _≢_}
 use mathlib.Core.Bool.{Bool, true, false, and-eq-true-iff}
 use mathlib.Core.Option.{some}
-use mathlib.Core.List.{List, [], _∷_, _++_, foldl, append-assoc, List·Memᴰ, List·Memᴰ·head, List·Memᴰ·tail, List·Memᴰ·cases-cons, List·Memᴰ·not-nil, Memᴰ·append-left, Memᴰ·append-right, Memᴰ·cast}
+use mathlib.Core.List.{List, [], _∷_, _++_, foldl, append-assoc, List·Memᴰ, List·Memᴰ·head, List·Memᴰ·tail, List·Memᴰ·cases-cons, List·Memᴰ·not-nil}
+use mathlib.Core.List.{Memᴰ·append-left, Memᴰ·append-right, Memᴰ·cast}
 use lib.Dec.{eqb}
 use borrow.Author.Tests.{eqb-true, eq-eqb}
 use lib.ListN.{length, getD, List·getD-eq-default, length-append}
 use native.Mathlib.Omega.{arith}
 use native.Mathlib.Decide.{decLt}
+use Rattle.base_lists.proofs.Lists.{Exact, add-keeps, add-has, add-all, member-to}
+use Rattle.base_lists.specs.Lists.{addBy}
 use Rattle.theory_resolution.specs.Names.{Name, Parts, sameParts, Above}
 use Rattle.theory_resolution.proofs.Names.{parts-exact, above-self}
-use Rattle.theory_resolution.specs.Lists.{addBy}
-use Rattle.theory_resolution.proofs.Lists.{Exact, add-keeps, add-has, add-all, member-to}
 use Rattle.theory_resolution.specs.Table.{Urn, urn, Table, Row, placeIn, place, rowOf, find, WellFormed}
 use Rattle.theory_resolution.proofs.Table.{find-sound, find-row, row-place, row-length}
 use Rattle.theory_resolution.specs.Nodes.{sameUrn, member, past, prefixes, addUrn, addSignal, nodes, isNode, RootOrNode, NodeOf}
@@ -54,7 +55,8 @@ module _ {A : Type 0} (x : Urn) (f : List Urn → A → List Urn) (keeps : (seen
   fold-keeps seen [] h = h
   fold-keeps seen (a ∷ as') h = fold-keeps (f seen a) as' (keeps seen a h)
 
-  fold-has : (a : A) → ((seen : List Urn) → member x (f seen a) ≡ true) → (seen : List Urn) (as' : List A) → List·Memᴰ a as' → member x (foldl f seen as') ≡ true
+  fold-has : (a : A) → ((seen : List Urn) → member x (f seen a) ≡ true) → (seen : List Urn) (as' : List A) → List·Memᴰ a as'
+      → member x (foldl f seen as') ≡ true
   fold-has a has seen [] m = absurd (List·Memᴰ·not-nil m)
   fold-has a has seen (b ∷ as') m = go (List·Memᴰ·cases-cons m) (λ k. fold-has a has (f seen b) as' k)
     where
@@ -63,7 +65,8 @@ module _ {A : Type 0} (x : Urn) (f : List Urn → A → List Urn) (keeps : (seen
       go (inr k) ih = ih k
 
 urn-keeps : (x : Urn) (seen : List Urn) (u : Urn) → member x seen ≡ true → member x (addUrn seen u) ≡ true
-urn-keeps x seen u h = fold-keeps x (λ s p. addBy sameUrn s (urn (u .cat) p)) (λ s p. add-keeps sameUrn urn-exact x s (urn (u .cat) p)) seen (prefixes (u .path)) h
+urn-keeps x seen u h = fold-keeps x (λ s p. addBy sameUrn s (urn (u .cat) p)) (λ s p. add-keeps sameUrn urn-exact x s (urn (u .cat) p))
+    seen (prefixes (u .path)) h
 
 signal-keeps : (x : Urn) (seen sig : List Urn) → member x seen ≡ true → member x (addSignal seen sig) ≡ true
 signal-keeps x seen sig h = fold-keeps x addUrn (urn-keeps x) seen sig h
@@ -75,7 +78,8 @@ unfolding nodes
 prefix-node t sig u p ms mu mp =
     fold-has (urn (u .cat) p) addSignal (signal-keeps (urn (u .cat) p)) sig
     (λ seen. fold-has (urn (u .cat) p) addUrn (urn-keeps (urn (u .cat) p)) u
-    (λ seen′. fold-has (urn (u .cat) p) (λ s q. addBy sameUrn s (urn (u .cat) q)) (λ s q. add-keeps sameUrn urn-exact (urn (u .cat) p) s (urn (u .cat) q)) p (λ s. add-has sameUrn urn-exact s (urn (u .cat) p)) seen′ (prefixes (u .path)) mp)
+    (λ seen′. fold-has (urn (u .cat) p) (λ s q. addBy sameUrn s (urn (u .cat) q)) (λ s q. add-keeps sameUrn urn-exact (urn (u .cat) p) s
+    (urn (u .cat) q)) p (λ s. add-has sameUrn urn-exact s (urn (u .cat) p)) seen′ (prefixes (u .path)) mp)
     seen sig mu)
     [] (t .signals) ms
 
@@ -94,7 +98,8 @@ place-of t r s c f = go (decLt c (t .cats))
     inside g (inr x) (inl k) = inl (g ∙ k)
     inside g (inr x) (inr k) = inr (getD (t .signals) s [], k .0, x, k .1, k .2, g ∙ k .3)
 
-    go : Dec (c < t .cats) → (getD r c [] ≡ []) ⊎ ((sig : List Urn) × (u : Urn) × List·Memᴰ sig (t .signals) × List·Memᴰ u sig × (u .cat ≡ c) × (getD r c [] ≡ u .path))
+    go : Dec (c < t .cats) → (getD r c [] ≡ []) ⊎ ((sig : List Urn) × (u : Urn) × List·Memᴰ sig (t .signals) × List·Memᴰ u sig
+        × (u .cat ≡ c) × (getD r c [] ≡ u .path))
     go (yes h) = inside (ap (λ l. getD l c []) (sym e) ∙ row-place t s c h) (signal-from (t .signals) s) (place-from (getD (t .signals) s []) c)
     go (no h) = inl (rw (← e) (List·getD-eq-default (rowOf t s) [] (omega (arith, row-length (getD (t .signals) s []) 0 (t .cats)))))
 

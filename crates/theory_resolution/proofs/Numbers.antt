@@ -8,13 +8,14 @@ use lib.Dec.{eqb}
 use borrow.Author.Tests.{eqb-true, eq-eqb}
 use lib.ListN.{length, take, drop, take-append-drop, length-append}
 use native.Mathlib.Omega.{arith}
+use Rattle.base_lists.proofs.Lists.{add-has, distinct-add, member-of, member-more, mem-at, index-member, index-at, index-take}
+use Rattle.base_lists.proofs.Bools.{same-test}
+use Rattle.base_lists.specs.Lists.{addBy, indexBy, Distinct}
 use Rattle.theory_resolution.specs.Names.{Name, Parts, sameParts, Above}
 use Rattle.theory_resolution.proofs.Names.{parts-exact, snoc-injective, snoc-view}
 use Rattle.theory_resolution.specs.Table.{Urn, urn, Table}
 use Rattle.theory_resolution.specs.Nodes.{sameUrn, member, past, addUrn, addSignal, nodes, isNode, RootOrNode, number, nodeAt}
 use Rattle.theory_resolution.proofs.Nodes.{urn-exact, root-free}
-use Rattle.theory_resolution.specs.Lists.{addBy, indexBy, Distinct}
-use Rattle.theory_resolution.proofs.Lists.{same-test, add-has, distinct-add, member-of, member-more, mem-at, index-member, index-at, index-take}
 
 -- the parent of u is the root or in the list
 abbrev pub ParentIn : List Urn → Urn → Type 0
@@ -42,9 +43,11 @@ add-ordered l u o p = go (member u l) refl
     go false e = record { distinct = distinct-add sameUrn urn-exact l u (o .distinct); parents = rw e (parents-last [] l u (o .parents) p) }
 
 -- one path after another, each being the next one's parent
-past-ordered : (c : ℕ) (q r : Parts) (l : List Urn) → Ordered l → (q ≡ []) ⊎ (member (urn c q) l ≡ true) → Ordered (foldl (λ s p. addBy sameUrn s (urn c p)) l (past q r))
+past-ordered : (c : ℕ) (q r : Parts) (l : List Urn) → Ordered l → (q ≡ []) ⊎ (member (urn c q) l ≡ true)
+    → Ordered (foldl (λ s p. addBy sameUrn s (urn c p)) l (past q r))
 past-ordered c q [] l o h = o
-past-ordered c q (x ∷ r) l o h = past-ordered c (q ++ x ∷ []) r (addBy sameUrn l (urn c (q ++ x ∷ []))) (add-ordered l (urn c (q ++ x ∷ [])) o parent) (inr (add-has sameUrn urn-exact l (urn c (q ++ x ∷ []))))
+past-ordered c q (x ∷ r) l o h = past-ordered c (q ++ x ∷ []) r (addBy sameUrn l (urn c (q ++ x ∷ [])))
+    (add-ordered l (urn c (q ++ x ∷ [])) o parent) (inr (add-has sameUrn urn-exact l (urn c (q ++ x ∷ []))))
   where
     parent : ParentIn l (urn c (q ++ x ∷ []))
     parent p y e = rw (← snoc-injective q p x y e) h
@@ -146,7 +149,8 @@ parent-less t c p x n =
     let w = number-node (nodes t) c (p ++ x ∷ []) n in
     go (w .2) (rw (w .3) at (parent-smaller t (w .0) (w .1)) p x refl)
   where
-    go : {m : ℕ} → number (nodes t) c (p ++ x ∷ []) ≡ suc m → (p ≡ []) ⊎ (number (nodes t) c p < suc m) → number (nodes t) c p < number (nodes t) c (p ++ x ∷ [])
+    go : {m : ℕ} → number (nodes t) c (p ++ x ∷ []) ≡ suc m → (p ≡ []) ⊎ (number (nodes t) c p < suc m)
+        → number (nodes t) c p < number (nodes t) c (p ++ x ∷ [])
     go e (inl i) = omega (arith, ap (number (nodes t) c) i, root-number t c)
     go e (inr i) = omega arith
 

@@ -3,19 +3,20 @@ use Prim.Native.Nat.{ℕ, zero, suc, _+_, _*_, _≤_, _<_}
 use mathlib.Core.Path.{_≡_, refl, sym, ap, _∙_}
 use mathlib.Core.Logic.{_⊎_, inl, inr, _≢_}
 use mathlib.Core.Bool.{Bool, true, false, cond, not, _||_, false≢true}
-use mathlib.Core.List.{List, [], _∷_, _++_, foldl, foldl-append, append-assoc, append-nil, List·Memᴰ, List·Memᴰ·head, List·Memᴰ·tail, List·Memᴰ·cases-cons, List·Memᴰ·not-nil, List·Memᴰ·append-cases, List·Memᴰ·eq-of-singleton}
+use mathlib.Core.List.{List, [], _∷_, _++_, foldl, foldl-append, append-assoc, append-nil, List·Memᴰ, List·Memᴰ·head, List·Memᴰ·tail}
+use mathlib.Core.List.{List·Memᴰ·cases-cons, List·Memᴰ·not-nil, List·Memᴰ·append-cases, List·Memᴰ·eq-of-singleton}
 use lib.Dec.{eqb}
 use borrow.Author.Tests.{eqb-true}
 use lib.ListN.{length, getD, take, length-append}
 use lib.Seq.{take-append-seam}
 use native.Mathlib.Omega.{arith}
-use Rattle.theory_resolution.specs.Lists.{addBy}
+use Rattle.base_lists.proofs.Lists.{Extends, extends-self, extends-trans, add-extends, mem-at, member-of}
+use Rattle.base_lists.specs.Lists.{addBy}
 use Rattle.theory_resolution.specs.Names.{Parts, sameParts, Above}
 use Rattle.theory_resolution.specs.Table.{Urn, urn, Table}
 use Rattle.theory_resolution.specs.Nodes.{sameUrn, member, past, addUrn, addSignal, nodes, isNode, number, nodeAt, isRoot, leaf, deepest}
 use Rattle.theory_resolution.specs.Symbols.{Symbol, node, other, symbolOf, nodeSymbols, symbolsFrom, symbols}
 use Rattle.theory_resolution.specs.MachineMeaning.{AppearanceLaw, SymbolOfLaw, one, rank, Before, SymbolsLaw}
-use Rattle.theory_resolution.proofs.Lists.{Extends, extends-self, extends-trans, add-extends, mem-at, member-of}
 use Rattle.theory_resolution.proofs.Names.{parts-exact, above-self}
 use Rattle.theory_resolution.proofs.Nodes.{urn-exact, nodes-all}
 use Rattle.theory_resolution.proofs.Numbers.{number-at}
@@ -45,7 +46,11 @@ front {k} {l} e = ap (take (length k)) (sym (e .joined)) ∙ take-append-seam k 
 
 pub appearance-law : (n : ℕ) (sigs : List (List Urn)) → AppearanceLaw n sigs
 unfolding nodes
-appearance-law n sigs = record { later-signals = λ more. front (signals more); later-urns = λ us vs. front (urns us vs); later-parts = λ us c p r. front (parts us c p r) }
+appearance-law n sigs = record {
+  later-signals = λ more. front (signals more);
+  later-urns = λ us vs. front (urns us vs);
+  later-parts = λ us c p r. front (parts us c p r);
+}
   where
     signals : (more : List (List Urn)) → Extends (foldl addSignal [] sigs) (foldl addSignal [] (sigs ++ more))
     signals more = rw (foldl-append addSignal [] sigs more) (fold-extends addSignal signal-extends (foldl addSignal [] sigs) more)
@@ -54,11 +59,21 @@ appearance-law n sigs = record { later-signals = λ more. front (signals more); 
     last us = foldl-append addSignal [] sigs (us ∷ [])
 
     urns : (us vs : List Urn) → Extends (foldl addSignal [] (sigs ++ us ∷ [])) (foldl addSignal [] (sigs ++ (us ++ vs) ∷ []))
-    urns us vs = rw (last us, last (us ++ vs), foldl-append addUrn (foldl addSignal [] sigs) us vs) (fold-extends addUrn urn-extends (foldl addUrn (foldl addSignal [] sigs) us) vs)
+    urns us vs = rw (
+      last us,
+      last (us ++ vs),
+      foldl-append addUrn (foldl addSignal [] sigs) us vs,
+    ) (fold-extends addUrn urn-extends (foldl addUrn (foldl addSignal [] sigs) us) vs)
 
-    parts : (us : List Urn) (c : ℕ) (p r : Parts) → Extends (foldl addSignal [] (sigs ++ (us ++ urn c p ∷ []) ∷ [])) (foldl addSignal [] (sigs ++ (us ++ urn c (p ++ r) ∷ []) ∷ []))
+    parts : (us : List Urn) (c : ℕ) (p r : Parts) → Extends (foldl addSignal [] (sigs ++ (us ++ urn c p ∷ []) ∷ []))
+        (foldl addSignal [] (sigs ++ (us ++ urn c (p ++ r) ∷ []) ∷ []))
     parts us c p r =
-        rw (last (us ++ urn c p ∷ []), last (us ++ urn c (p ++ r) ∷ []), foldl-append addUrn (foldl addSignal [] sigs) us (urn c p ∷ []), foldl-append addUrn (foldl addSignal [] sigs) us (urn c (p ++ r) ∷ []))
+        rw (
+          last (us ++ urn c p ∷ []),
+          last (us ++ urn c (p ++ r) ∷ []),
+          foldl-append addUrn (foldl addSignal [] sigs) us (urn c p ∷ []),
+          foldl-append addUrn (foldl addSignal [] sigs) us (urn c (p ++ r) ∷ []),
+        )
         (on (foldl addUrn (foldl addSignal [] sigs) us))
       where
         on : (s : List Urn) → Extends (addUrn s (urn c p)) (addUrn s (urn c (p ++ r)))
@@ -147,10 +162,12 @@ module _ (t : Table) where
       not-root (x ∷ p) n = refl
 
   -- the same in its category
-  rank-in : (c k : ℕ) (n : Urn) → k < length ns → nodeAt ns k ≡ n → n .cat ≡ c → (o : Bool) → rank ns (record { cat = c; path = n .path; other = o }) ≡ 2 * suc k + one o
+  rank-in : (c k : ℕ) (n : Urn) → k < length ns → nodeAt ns k ≡ n → n .cat ≡ c → (o : Bool)
+      → rank ns (record { cat = c; path = n .path; other = o }) ≡ 2 * suc k + one o
   rank-in c k n h e i o = ap (λ z. rank ns (record { cat = z; path = n .path; other = o })) (sym i) ∙ own-rank k n h e o
 
-  own-symbol : (c k : ℕ) (n : Urn) → k < length ns → nodeAt ns k ≡ n → n .cat ≡ c → (o : Bool) → (o ≡ true → leaf ns c (n .path) ≡ false) → Own c k (record { cat = c; path = n .path; other = o })
+  own-symbol : (c k : ℕ) (n : Urn) → k < length ns → nodeAt ns k ≡ n → n .cat ≡ c → (o : Bool) → (o ≡ true → leaf ns c (n .path) ≡ false)
+      → Own c k (record { cat = c; path = n .path; other = o })
   own-symbol c k n h e i o l =
       record {
         cat = refl;
@@ -179,7 +196,8 @@ module _ (t : Table) where
 
   own-sorted : (c : ℕ) (ms : List Urn) → Rest c ms
   own-sorted c [] k at e = (tt, λ s m. absurd (List·Memᴰ·not-nil m))
-  own-sorted c (n ∷ ms) k at e = go (eqb (n .cat) c) refl (own-sorted c ms (suc k) (λ i h. ap (nodeAt ns) (omega arith) ∙ at (suc i) (omega arith)) (omega arith))
+  own-sorted c (n ∷ ms) k at e =
+      go (eqb (n .cat) c) refl (own-sorted c ms (suc k) (λ i h. ap (nodeAt ns) (omega arith) ∙ at (suc i) (omega arith)) (omega arith))
     where
       inside : k < length ns
       inside = omega arith
@@ -200,9 +218,16 @@ module _ (t : Table) where
 
       two-sorted : n .cat ≡ c → (l : Bool) → Sorted ns (node c (n .path) ∷ cond l [] (other c (n .path) ∷ []))
       two-sorted i true = (λ y m. absurd (List·Memᴰ·not-nil m), tt)
-      two-sorted i false = (λ y m. rw (List·Memᴰ·eq-of-singleton m) (inr (refl, omega (arith, rank-in c k n inside here i false, rank-in c k n inside here i true))), (λ y m. absurd (List·Memᴰ·not-nil m), tt))
+      two-sorted i false = (
+        λ y m. rw (List·Memᴰ·eq-of-singleton m) (inr (
+          refl,
+          omega (arith, rank-in c k n inside here i false, rank-in c k n inside here i true),
+        )),
+        (λ y m. absurd (List·Memᴰ·not-nil m), tt),
+      )
 
-      top : n .cat ≡ c → (l : Bool) → leaf ns c (n .path) ≡ l → (s : Symbol) → List·Memᴰ s (node c (n .path) ∷ cond l [] (other c (n .path) ∷ [])) → rank ns s < 2 * suc (suc k)
+      top : n .cat ≡ c → (l : Bool) → leaf ns c (n .path) ≡ l → (s : Symbol)
+          → List·Memᴰ s (node c (n .path) ∷ cond l [] (other c (n .path) ∷ [])) → rank ns s < 2 * suc (suc k)
       top i l q s m = first (List·Memᴰ·cases-cons m)
         where
           second : (l : Bool) → List·Memᴰ s (cond l [] (other c (n .path) ∷ [])) → rank ns s < 2 * suc (suc k)
@@ -218,14 +243,19 @@ module _ (t : Table) where
       go false q ih = rw q (ih .0, λ s m. own-later c k s (ih .1 s m))
       go true q ih =
           let i = eqb-true (n .cat) c q in
-          rw q
-          (sorted-append ns own (nodeSymbols ns c ms) (two-sorted i (leaf ns c (n .path))) (ih .0) (λ x y a b. apart x y a (ih .1 y b) i), λ s m. at-any i s (List·Memᴰ·append-cases own m))
+          rw q (
+            sorted-append ns own (nodeSymbols ns c ms) (two-sorted i (leaf ns c (n .path))) (ih .0) (λ x y a b. apart x y a (ih .1 y b) i),
+            λ s m. at-any i s (List·Memᴰ·append-cases own m),
+          )
         where
           own : List Symbol
           own = node c (n .path) ∷ cond (leaf ns c (n .path)) [] (other c (n .path) ∷ [])
 
           apart : (x y : Symbol) → List·Memᴰ x own → Own c (suc k) y → n .cat ≡ c → Before ns x y
-          apart x y a w i = let f = w .from in inr (two i (leaf ns c (n .path)) refl x a .cat ∙ sym (w .cat), omega (arith, top i (leaf ns c (n .path)) refl x a))
+          apart x y a w i = let f = w .from in inr (
+            two i (leaf ns c (n .path)) refl x a .cat ∙ sym (w .cat),
+            omega (arith, top i (leaf ns c (n .path)) refl x a),
+          )
 
           at-any : n .cat ≡ c → (s : Symbol) → List·Memᴰ s own ⊎ List·Memᴰ s (nodeSymbols ns c ms) → Own c k s
           at-any i s (inl m) = two i (leaf ns c (n .path)) refl s m
@@ -247,7 +277,8 @@ module _ (t : Table) where
       go : Sorted ns (symbolsFrom ns (suc c) k) × ((s : Symbol) → List·Memᴰ s (symbolsFrom ns (suc c) k) → Among (suc c) (suc c + k) s)
           → Sorted ns (symbolsFrom ns c (suc k)) × ((s : Symbol) → List·Memᴰ s (symbolsFrom ns c (suc k)) → Among c (c + suc k) s)
       go ih = (
-        sorted-append ns (nodeSymbols ns c ns) (other c [] ∷ symbolsFrom ns (suc c) k) (own-all c .0) (λ y m. inl (let w = ih .1 y m .low in omega arith), ih .0) (λ x y a b. across x y a (List·Memᴰ·cases-cons b)),
+        sorted-append ns (nodeSymbols ns c ns) (other c [] ∷ symbolsFrom ns (suc c) k) (own-all c .0)
+            (λ y m. inl (let w = ih .1 y m .low in omega arith), ih .0) (λ x y a b. across x y a (List·Memᴰ·cases-cons b)),
         λ s m. among s (List·Memᴰ·append-cases (nodeSymbols ns c ns) m),
       )
         where
@@ -256,11 +287,19 @@ module _ (t : Table) where
           across x y a (inr m) = inl (let w = ih .1 y m .low in omega (arith, own-all c .1 x a .cat))
 
           rest : (s : Symbol) → (s ≡ other c []) ⊎ List·Memᴰ s (symbolsFrom ns (suc c) k) → Among c (c + suc k) s
-          rest s (inl e) = record { low = omega (arith, ap (λ x. x .cat) e); high = omega (arith, ap (λ x. x .cat) e); kind = inr (e ∙ ap (λ z. other z []) (sym (ap (λ x. x .cat) e))) }
+          rest s (inl e) = record {
+            low = omega (arith, ap (λ x. x .cat) e);
+            high = omega (arith, ap (λ x. x .cat) e);
+            kind = inr (e ∙ ap (λ z. other z []) (sym (ap (λ x. x .cat) e)));
+          }
           rest s (inr m) = let w = ih .1 s m in record { low = omega (arith, w .low); high = omega (arith, w .high); kind = w .kind }
 
           among : (s : Symbol) → List·Memᴰ s (nodeSymbols ns c ns) ⊎ List·Memᴰ s (other c [] ∷ symbolsFrom ns (suc c) k) → Among c (c + suc k) s
-          among s (inl m) = let w = own-all c .1 s m in record { low = omega (arith, w .cat); high = omega (arith, w .cat); kind = inl (w .is-node, w .no-leaf) }
+          among s (inl m) = let w = own-all c .1 s m in record {
+            low = omega (arith, w .cat);
+            high = omega (arith, w .cat);
+            kind = inl (w .is-node, w .no-leaf);
+          }
           among s (inr m) = rest s (List·Memᴰ·cases-cons m)
 
   pub symbols-law : SymbolsLaw t

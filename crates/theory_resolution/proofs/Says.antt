@@ -14,7 +14,8 @@ use Rattle.theory_resolution.proofs.Names.{above-trans}
 use Rattle.theory_resolution.proofs.Direct.{grows, only-given, changes-bound}
 use Rattle.theory_resolution.proofs.Table.{row-place, total-most}
 
-module _ (t : Table) (wf : WellFormed t) (finder : Row → Option ℕ) (sound : (r : Row) (s : ℕ) → finder r ≡ some s → rowOf t s ≡ r) (live : finder (rowOf t 0) ≡ some 0) where
+module _ (t : Table) (wf : WellFormed t) (finder : Row → Option ℕ) (sound : (r : Row) (s : ℕ) → finder r ≡ some s → rowOf t s ≡ r)
+    (live : finder (rowOf t 0) ≡ some 0) where
   abbrev pub env : Env
   env = envBy t finder
 

@@ -2,7 +2,7 @@
 use Prim.Native.Nat.{ℕ, zero, suc, _≤_, _<_}
 use mathlib.Core.Path.{_≡_, refl, sym, ap, ap₂, _∙_}
 use mathlib.Core.Logic.{_⊎_, inl, inr}
-use mathlib.Core.Bool.{Bool, true, false, cond, _&&_, true≢false, false≢true}
+use mathlib.Core.Bool.{Bool, true, false, cond, true≢false, false≢true}
 use mathlib.Core.Option.{Option, none, some}
 use mathlib.Core.List.{List, [], _∷_, _++_, foldl, append-assoc, List·Memᴰ, List·Memᴰ·head, List·Memᴰ·tail, List·Memᴰ·eq-of-singleton}
 use lib.Dec.{eqb}
@@ -11,14 +11,15 @@ use lib.ListN.{length, getD, set, take, length-set}
 use lib.Seq.{getD-set-same, getD-set-other}
 use native.Mathlib.Omega.{arith}
 use native.Mathlib.Decide.{ℕ-discrete, decLt}
-use Rattle.theory_resolution.specs.Lists.{allBelow}
+use Rattle.base_lists.proofs.Lists.{mem-at}
+use Rattle.base_lists.proofs.Below.{all-to, all-of, all-same}
 use Rattle.theory_resolution.specs.Names.{Parts, sameParts, below, properAncestor, candidates}
 use Rattle.theory_resolution.specs.Table.{Urn, urn, Table, Row, rowOf, WellFormed}
-use Rattle.theory_resolution.specs.Direct.{Status, Open, Held, Shut, State, Env, Hit, start, firstHit, heldIf, openOr, statusAfter, takesUrn, ifTaken, step, envOf, direct, usedOf, stepUri, StateOf, Used, AllUsed}
+use Rattle.theory_resolution.specs.Direct.{Status, Open, Held, Shut, State, Env, Hit, start, firstHit, heldIf, openOr, statusAfter, takesUrn}
+use Rattle.theory_resolution.specs.Direct.{ifTaken, step, envOf, direct, usedOf, stepUri, StateOf, Used, AllUsed}
 use Rattle.theory_resolution.specs.Nodes.{nodes}
 use Rattle.theory_resolution.specs.Symbols.{symbols, symbolOf, symbolIndex, symbolAt, stepsAs, stepSymbol, bySymbols, stepAt}
 use Rattle.theory_resolution.specs.Settled.{Settled, keepsSignal, isSettled, neededFrom, needed, afterFirst, EarlyLaw}
-use Rattle.theory_resolution.proofs.Lists.{all-to, all-of}
 use Rattle.theory_resolution.proofs.Names.{parts-exact, proper-to, proper-of}
 use Rattle.theory_resolution.proofs.Table.{row-length, find-sound}
 use Rattle.theory_resolution.proofs.Direct.{search-hit}
@@ -27,12 +28,6 @@ use Rattle.theory_resolution.proofs.TableStep.{table-laws, valid-start,
 use Rattle.theory_resolution.proofs.Alike.{Alike, alike-step, alike-run}
 use Rattle.theory_resolution.proofs.Symbols.{symbol-at-index, symbol-known}
 use Rattle.theory_resolution.proofs.Claim.{run-used}
-use Rattle.theory_resolution.proofs.Lists.{mem-at}
-
-all-same : (n : ℕ) (f g : ℕ → Bool) → ((k : ℕ) → k < n → f k ≡ g k) → allBelow n f ≡ allBelow n g
-unfolding allBelow
-all-same zero f g h = refl
-all-same (suc n) f g h = ap₂ _&&_ (all-same n f g (λ k i. h k (omega arith))) (h n (omega arith))
 
 proper-trans : (p q r : Parts) → properAncestor p q ≡ true → properAncestor q r ≡ true → properAncestor p r ≡ true
 proper-trans p q r a b =
@@ -41,7 +36,7 @@ proper-trans p q r a b =
     proper-of p r (v .0) (v .1 ++ w .0 ∷ w .1) (sym (append-assoc p (v .0 ∷ v .1) (w .0 ∷ w .1)) ∙ ap (λ z. z ++ w .0 ∷ w .1) (v .2) ∙ w .2)
 
 -- a category that takes p takes what properly extends p
-takes-past : (o : Status) (q p r : Parts) → takesUrn o q p ≡ true → properAncestor p r ≡ true → takesUrn o q r ≡ true
+pub takes-past : (o : Status) (q p r : Parts) → takesUrn o q p ≡ true → properAncestor p r ≡ true → takesUrn o q r ≡ true
 takes-past Open q p r e h = proper-trans q p r e h
 takes-past (Held w) q p r e h = proper-trans w p r e h
 takes-past Shut q p r e h = absurd (false≢true e)
@@ -86,7 +81,8 @@ module _ (env : Env) (sound : (r : Row) (s : ℕ) → env .finder r ≡ some s �
           found-here : k .at ≡ place c
           found-here = sym (getD-set-same (env .rows s) c (k .at) [] (rw wide h)) ∙ ap (λ z. getD z c []) row
 
-          by : (d : ℕ) → Dec (d ≡ c) → (r : Parts) → takesUrn (getD (set τ c (statusAfter env c p k)) d Open) (place d) r ≡ true → takesUrn (getD τ d Open) (place d) r ≡ true
+          by : (d : ℕ) → Dec (d ≡ c) → (r : Parts) → takesUrn (getD (set τ c (statusAfter env c p k)) d Open) (place d) r ≡ true
+              → takesUrn (getD τ d Open) (place d) r ≡ true
           by d (yes i) r e =
               let j : takesUrn (statusAfter env c p k) (place c) r ≡ true = rw (i, getD-set-same τ c (statusAfter env c p k) Open (rw (g .sized) h)) at e in
               rw i
@@ -103,8 +99,11 @@ module _ (env : Env) (sound : (r : Row) (s : ℕ) → env .finder r ≡ some s �
               → (υ : List Status) × (ifTaken env (at τ) c p true (some r) ≡ at υ) × Tighter σ υ
           hit r none f i = (τ, rw f, g)
           hit r (some k) f i =
-              let j : k .signal ≡ s = rw f at i in
-              (set τ c (statusAfter env c p k), rw f (λ x. record { signal = j x; status = set τ c (statusAfter env c p k) }), moved k (search-hit env (env .rows s) c (candidates (place c) r) k f .0) j e)
+              let j : k .signal ≡ s = rw f at i in (
+                set τ c (statusAfter env c p k),
+                rw f (λ x. record { signal = j x; status = set τ c (statusAfter env c p k) }),
+                moved k (search-hit env (env .rows s) c (candidates (place c) r) k f .0) j e,
+              )
 
           rest : (o : Option Parts) → ifTaken env (at σ) c p true o .signal ≡ s
               → (υ : List Status) × (ifTaken env (at τ) c p (takesUrn (getD τ c Open) (place c) p) o ≡ at υ) × Tighter σ υ
@@ -112,7 +111,8 @@ module _ (env : Env) (sound : (r : Row) (s : ℕ) → env .finder r ≡ some s �
           rest (some r) i = rw e (hit r (firstHit env (env .rows s) c (candidates (place c) r)) refl i)
 
   -- where each of some URNs keeps the signal, every list of them does
-  pub tighter-run : {A : Type 0} (urnOf : A → Urn) (P : A → Type 0) (σ : List Status) → ((a : A) → P a → (urnOf a .cat < cats) × (step env (at σ) (urnOf a) .signal ≡ s))
+  pub tighter-run : {A : Type 0} (urnOf : A → Urn) (P : A → Type 0) (σ : List Status)
+      → ((a : A) → P a → (urnOf a .cat < cats) × (step env (at σ) (urnOf a) .signal ≡ s))
       → (l : List A) → ((a : A) → List·Memᴰ a l → P a) → (τ : List Status) → Tighter σ τ → foldl (λ st a. step env st (urnOf a)) (at τ) l .signal ≡ s
   tighter-run urnOf P σ stay [] each τ g = refl
   tighter-run urnOf P σ stay (a ∷ l) each τ g =
@@ -123,7 +123,8 @@ module _ (env : Env) (sound : (r : Row) (s : ℕ) → env .finder r ≡ some s �
 
 module _ (t : Table) where
   -- as tight as itself
-  itself : (st : State) → StateOf t st → Tighter (envOf t) (find-sound t) (t .cats) (st .signal) (row-length (getD (t .signals) (st .signal) []) 0 (t .cats)) (st .status) (st .status)
+  itself : (st : State) → StateOf t st
+      → Tighter (envOf t) (find-sound t) (t .cats) (st .signal) (row-length (getD (t .signals) (st .signal) []) 0 (t .cats)) (st .status) (st .status)
   itself st g = record { sized = g .sized; takes = λ c h p e. e }
 
   keeps : (st : State) → isSettled t st ≡ true → (k : ℕ) → k < length (symbols t) → stepAt t st k .signal ≡ st .signal
@@ -135,7 +136,8 @@ module _ (t : Table) where
   -- by single symbols, and by all sequences
   pub settled-to : (st : State) → StateOf t st → isSettled t st ≡ true → Settled t st
   settled-to st g e ks listed =
-      tighter-run (envOf t) (find-sound t) (t .cats) (st .signal) (row-length (getD (t .signals) (st .signal) []) 0 (t .cats)) (λ k. stepsAs (symbolAt t k)) (λ k. k < length (symbols t)) (st .status)
+      tighter-run (envOf t) (find-sound t) (t .cats) (st .signal) (row-length (getD (t .signals) (st .signal) []) 0 (t .cats))
+      (λ k. stepsAs (symbolAt t k)) (λ k. k < length (symbols t)) (st .status)
       (λ k h. (symbol-cat k h, keeps st e k h)) ks listed (st .status) (itself st g)
 
   pub settled-of : (st : State) → Settled t st → isSettled t st ≡ true
@@ -146,7 +148,8 @@ module _ (t : Table) where
   -- a symbol steps as a used URN, or changes nothing
   pub settled-urns-of : (st : State) → ((u : Urn) → Used t u → step (envOf t) st u .signal ≡ st .signal) → isSettled t st ≡ true
   settled-urns-of st stay =
-      all-of (length (symbols t)) (keepsSignal t st) (λ k h. eq-eqb (stepAt t st k .signal) (st .signal) (at (stepsAs (symbolAt t k) .path) (symbolAt t k .cat) (symbol-cat k h)))
+      all-of (length (symbols t)) (keepsSignal t st) (λ k h. eq-eqb (stepAt t st k .signal) (st .signal)
+      (at (stepsAs (symbolAt t k) .path) (symbolAt t k .cat) (symbol-cat k h)))
     where
       root-untaken : (o : Status) (q : Parts) → takesUrn o q [] ≡ false
       root-untaken Open [] = refl
@@ -170,10 +173,12 @@ module _ (t : Table) where
         ∙ keeps st e (symbolIndex (symbolOf (nodes t) u) (symbols t)) (k .0)
 
     -- states that are alike have the same signal after each URN
-    alike-signal : (a b : State) → StateOf t a → StateOf t b → Alike (envOf t) (t .cats) (nodes t) a b → (u : Urn) → u .cat < t .cats → step (envOf t) a u .signal ≡ step (envOf t) b u .signal
+    alike-signal : (a b : State) → StateOf t a → StateOf t b → Alike (envOf t) (t .cats) (nodes t) a b → (u : Urn) → u .cat < t .cats
+        → step (envOf t) a u .signal ≡ step (envOf t) b u .signal
     alike-signal a b ga gb w u known =
         alike-step (envOf t) (t .cats) (nodes t) (table-laws t wf) a b u known (state-valid t a ga) (state-valid t b gb) w .same
-        ∙ sym (alike-step (envOf t) (t .cats) (nodes t) (table-laws t wf) b b u known (state-valid t b gb) (state-valid t b gb) (record { same = refl; each = λ c h. inl refl }) .same)
+        ∙ sym (alike-step (envOf t) (t .cats) (nodes t) (table-laws t wf) b b u known (state-valid t b gb) (state-valid t b gb)
+        (record { same = refl; each = λ c h. inl refl }) .same)
 
     -- so they are settled alike
     pub settled-alike : (a b : State) → StateOf t a → StateOf t b → Alike (envOf t) (t .cats) (nodes t) a b → isSettled t a ≡ isSettled t b
@@ -188,15 +193,18 @@ module _ (t : Table) where
     pub settled-symbols : (us : List Urn) → ((u : Urn) → List·Memᴰ u us → Used t u) → isSettled t (bySymbols t us) ≡ isSettled t (direct t us)
     settled-symbols us used =
         sym (settled-alike (direct t us) (bySymbols t us) (state-direct t wf us) (symbols-state (start (t .cats)) us (state-start t wf))
-        (alike-run (envOf t) (t .cats) (nodes t) (table-laws t wf) (start (t .cats)) (start (t .cats)) us (λ u m. used u m .known) (valid-start t wf) (valid-start t wf)
+        (alike-run (envOf t) (t .cats) (nodes t) (table-laws t wf) (start (t .cats)) (start (t .cats)) us (λ u m. used u m .known)
+        (valid-start t wf) (valid-start t wf)
         (record { same = refl; each = λ c h. inl refl })))
 
-    settled-urns : (st : State) → StateOf t st → isSettled t st ≡ true → (us : List Urn) → ((u : Urn) → List·Memᴰ u us → Used t u) → foldl (step (envOf t)) st us .signal ≡ st .signal
+    settled-urns : (st : State) → StateOf t st → isSettled t st ≡ true → (us : List Urn) → ((u : Urn) → List·Memᴰ u us → Used t u)
+        → foldl (step (envOf t)) st us .signal ≡ st .signal
     settled-urns st g e us used =
         tighter-run (envOf t) (find-sound t) (t .cats) (st .signal) (row-length (getD (t .signals) (st .signal) []) 0 (t .cats)) (λ u. u) (Used t) (st .status)
         (λ u h. (h .known, urn-keeps st g e u h)) us used (st .status) (itself st g)
 
-    pub settled-stays : (st : State) → StateOf t st → isSettled t st ≡ true → (l : List (Option Urn)) → AllUsed t l → foldl (stepUri (step (envOf t))) st l .signal ≡ st .signal
+    pub settled-stays : (st : State) → StateOf t st → isSettled t st ≡ true → (l : List (Option Urn)) → AllUsed t l
+        → foldl (stepUri (step (envOf t))) st l .signal ≡ st .signal
     settled-stays st g e l used = ap (λ z. z .signal) (run-used (step (envOf t)) st l) ∙ settled-urns st g e (usedOf l) used
 
     -- the states along a list of URIs
@@ -211,11 +219,13 @@ module _ (t : Table) where
     used-rest none l used = used
     used-rest (some u) l used = λ v m. used v (List·Memᴰ·tail m)
 
-    early-from : (st : State) → StateOf t st → (l : List (Option Urn)) → AllUsed t l → foldl nextUri st (take (neededFrom t st l) l) .signal ≡ foldl nextUri st l .signal
+    early-from : (st : State) → StateOf t st → (l : List (Option Urn)) → AllUsed t l
+        → foldl nextUri st (take (neededFrom t st l) l) .signal ≡ foldl nextUri st l .signal
     early-from st g [] used = refl
     early-from st g (u ∷ l) used = go (isSettled t st) refl (early-from (nextUri st u) (uri-state st g u) l (used-rest u l used))
       where
-        go : (b : Bool) → isSettled t st ≡ b → foldl nextUri (nextUri st u) (take (neededFrom t (nextUri st u) l) l) .signal ≡ foldl nextUri (nextUri st u) l .signal
+        go : (b : Bool) → isSettled t st ≡ b → foldl nextUri (nextUri st u) (take (neededFrom t (nextUri st u) l) l) .signal
+            ≡ foldl nextUri (nextUri st u) l .signal
             → foldl nextUri st (take (cond b 0 (suc (neededFrom t (nextUri st u) l))) (u ∷ l)) .signal ≡ foldl nextUri st (u ∷ l) .signal
         go true e ih = sym (settled-stays st g e (u ∷ l) used)
         go false e ih = ih
@@ -224,7 +234,8 @@ module _ (t : Table) where
   within-from st [] = omega arith
   within-from st (u ∷ l) = go (isSettled t st) (within-from (stepUri (step (envOf t)) st u) l)
     where
-      go : (b : Bool) → neededFrom t (stepUri (step (envOf t)) st u) l ≤ length l → cond b 0 (suc (neededFrom t (stepUri (step (envOf t)) st u) l)) ≤ length (u ∷ l)
+      go : (b : Bool) → neededFrom t (stepUri (step (envOf t)) st u) l ≤ length l
+          → cond b 0 (suc (neededFrom t (stepUri (step (envOf t)) st u) l)) ≤ length (u ∷ l)
       go true ih = omega arith
       go false ih = omega arith
 

@@ -34,7 +34,8 @@ module _ (env : Env) where
   pub step-shut : (st : State) (u : Urn) → getD (st .status) (u .cat) Open ≡ Shut → next st u ≡ st
   step-shut st u e = step-still st u (ap (λ (o : Status). takesUrn o (here st (u .cat)) (u .path)) e)
 
-  pub step-takes : (st : State) (u : Urn) (r : Parts) → takesUrn (getD (st .status) (u .cat) Open) (here st (u .cat)) (u .path) ≡ true → here st (u .cat) ++ r ≡ u .path
+  pub step-takes : (st : State) (u : Urn) (r : Parts) → takesUrn (getD (st .status) (u .cat) Open) (here st (u .cat)) (u .path) ≡ true
+      → here st (u .cat) ++ r ≡ u .path
       → next st u ≡ move env st (u .cat) (u .path) (firstHit env (env .rows (st .signal)) (u .cat) (candidates (here st (u .cat)) r))
   unfolding step
   step-takes st u r e j = let b : below (here st (u .cat)) (u .path) ≡ some r = rw (← j) (below-self (here st (u .cat)) r) in rw (e, b)
@@ -119,7 +120,8 @@ module _ (env : Env) (cats : ℕ) (ns : List Urn) where
         fits : (k : ℕ) → k < cats → (step env st u ≡ st) ⊎ Moved env st u
             → statusFits ns k (getD (env .rows (step env st u .signal)) k []) (getD (step env st u .status) k Open) ≡ true
         fits k h (inl e) = rw e (g .fits k h)
-        fits k h (inr m) = rw (m .result, laws .sound (set (env .rows (st .signal)) (u .cat) (m .hit .at)) (m .hit .signal) (m .got)) (after k h m (ℕ-discrete k (u .cat)))
+        fits k h (inr m) = rw (m .result, laws .sound (set (env .rows (st .signal)) (u .cat) (m .hit .at)) (m .hit .signal) (m .got))
+            (after k h m (ℕ-discrete k (u .cat)))
 
         wide : (step env st u ≡ st) ⊎ Moved env st u → length (env .rows (step env st u .signal)) ≡ cats
         wide (inl e) = rw e (g .wide)
@@ -157,7 +159,11 @@ module _ (env : Env) (cats : ℕ) (ns : List Urn) where
         t = in-longer (deepest ns c u) f p m
 
         p-above : Above p u
-        p-above = record { rest = t .last; joined = ap (λ l. l ++ t .last) (sym (t .is)) ∙ append-assoc (deepest ns c u) (t .head ∷ t .mid) (t .last) ∙ ap (λ l. deepest ns c u ++ l) (t .on) ∙ j }
+        p-above = record {
+          rest = t .last;
+          joined = ap (λ l. l ++ t .last) (sym (t .is)) ∙ append-assoc (deepest ns c u) (t .head ∷ t .mid) (t .last)
+              ∙ ap (λ l. deepest ns c u ++ l) (t .on) ∙ j;
+        }
 
         no-way : (p ≡ []) ⊎ (isNode ns c p ≡ true) → ⊥
         no-way (inl k) = omega (arith, length-append (deepest ns c u) (t .head ∷ t .mid), ap length (t .is), ap length k)

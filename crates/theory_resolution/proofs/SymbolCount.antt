@@ -8,17 +8,14 @@ use lib.Dec.{ltb, eqb}
 use borrow.Author.Tests.{eq-eqb, ne-eqb, eqb-true, eqb-false, ltb-true, ltb-false}
 use lib.ListN.{length, length-append}
 use native.Mathlib.Omega.{arith}
+use Rattle.base_lists.proofs.Bools.{byTest}
+use Rattle.base_lists.proofs.Lists.{member-to}
 use Rattle.theory_resolution.specs.Names.{Parts, properAncestor}
 use Rattle.theory_resolution.specs.Table.{Urn, urn, Table}
 use Rattle.theory_resolution.specs.Nodes.{sameUrn, nodes, isNode, hasUnder, isRoot, leaf}
 use Rattle.theory_resolution.specs.Symbols.{other, nodeSymbols, symbolsFrom, symbols}
-use Rattle.theory_resolution.proofs.Lists.{member-to}
 use Rattle.theory_resolution.proofs.Names.{proper-to}
 use Rattle.theory_resolution.proofs.Nodes.{urn-exact, nodes-all}
-
-by-test : {A : Type 0} (b : Bool) → (b ≡ true → A) → (b ≡ false → A) → A
-by-test true f g = f refl
-by-test false f g = g refl
 
 abbrev one : Bool → ℕ
 one true = 1
@@ -44,7 +41,7 @@ hits-none c (suc k) x h = rw (ne-eqb x c (λ e. omega arith)) (omega (arith, hit
 hits-one : (c k x : ℕ) → hits c k x ≤ 1
 hits-one c zero x = omega arith
 hits-one c (suc k) x =
-    by-test (eqb x c)
+    byTest (eqb x c)
     (λ e. rw e (omega (arith, hits-none (suc c) k x (omega (arith, eqb-true x c e)))))
     (λ e. rw e (omega (arith, hits-one (suc c) k x)))
 
@@ -65,8 +62,8 @@ module _ (ns : List Urn) (c : ℕ) where
   node-le : (l : List Urn) → length (nodeSymbols ns c l) ≤ countOf c l + countOf c l
   node-le [] = omega arith
   node-le (n ∷ l) =
-      by-test (eqb (n .cat) c)
-      (λ e. by-test (leaf ns c (n .path))
+      byTest (eqb (n .cat) c)
+      (λ e. byTest (leaf ns c (n .path))
       (λ f. rw (e, f) (omega (arith, node-le l)))
       (λ f. rw (e, f) (omega (arith, node-le l))))
       (λ e. rw e (omega (arith, node-le l)))
@@ -82,8 +79,8 @@ module _ (ns : List Urn) (c : ℕ) where
           let b : leaf ns c (y .path) ≡ true = ap (λ z. leaf ns c (z .path)) (sym i) ∙ f in
           rw (a, b) (omega (arith, node-le l))
       go (inr k) ih =
-          by-test (eqb (y .cat) c)
-          (λ a. by-test (leaf ns c (y .path)) (λ b. rw (a, b) (omega (arith, ih k))) (λ b. rw (a, b) (omega (arith, ih k))))
+          byTest (eqb (y .cat) c)
+          (λ a. byTest (leaf ns c (y .path)) (λ b. rw (a, b) (omega (arith, ih k))) (λ b. rw (a, b) (omega (arith, ih k))))
           (λ a. rw a (omega (arith, ih k)))
 
 -- a longest node of a category
@@ -117,12 +114,12 @@ longest c (n ∷ l) = go (longest c l)
 
     go : ((m : Urn) → List·Memᴰ m l → m .cat ≢ c) ⊎ Top c l → ((m : Urn) → List·Memᴰ m (n ∷ l) → m .cat ≢ c) ⊎ Top c (n ∷ l)
     go (inl h) =
-        by-test (eqb (n .cat) c)
+        byTest (eqb (n .cat) c)
         (λ e. inr (new (eqb-true (n .cat) c e) (λ m k i. absurd (h m k i))))
         (λ e. inl (λ m k. none (eqb-false (n .cat) c e) h m (List·Memᴰ·cases-cons k)))
     go (inr t) =
-        by-test (eqb (n .cat) c)
-        (λ e. by-test (ltb (length (t .at .path)) (length (n .path)))
+        byTest (eqb (n .cat) c)
+        (λ e. byTest (ltb (length (t .at .path)) (length (n .path)))
         (λ f. inr (new (eqb-true (n .cat) c e) (λ m k i. omega (arith, t .top m k i, ltb-true (length (t .at .path)) (length (n .path)) f))))
         (λ f. inr (old t (λ i. ltb-false (length (t .at .path)) (length (n .path)) f))))
         (λ e. inr (old t (λ i. absurd (eqb-false (n .cat) c e i))))
@@ -131,8 +128,8 @@ under-none : (c : ℕ) (p : Parts) (l : List Urn) → ((m : Urn) → List·Mem�
 under-none c p [] h = refl
 under-none c p (n ∷ l) h =
     let ih = under-none c p l (λ m k. h m (List·Memᴰ·tail k)) in
-    by-test (eqb (n .cat) c)
-    (λ e. by-test (properAncestor p (n .path))
+    byTest (eqb (n .cat) c)
+    (λ e. byTest (properAncestor p (n .path))
     (λ f.
     let k = proper-to p (n .path) f in
     let z = h n (List·Memᴰ·head refl) (eqb-true (n .cat) c e) in
@@ -152,11 +149,13 @@ leaf-in t c p h = go (longest c (nodes t))
         from [] n = absurd (n refl)
         from (x ∷ q) n = refl
 
-    go : ((m : Urn) → List·Memᴰ m (nodes t) → m .cat ≢ c) ⊎ Top c (nodes t) → (n : Urn) × List·Memᴰ n (nodes t) × (n .cat ≡ c) × (leaf (nodes t) c (n .path) ≡ true)
+    go : ((m : Urn) → List·Memᴰ m (nodes t) → m .cat ≢ c) ⊎ Top c (nodes t) → (n : Urn) × List·Memᴰ n (nodes t) × (n .cat ≡ c)
+        × (leaf (nodes t) c (n .path) ≡ true)
     go (inl k) = absurd (k (urn c p) (member-to sameUrn urn-exact (urn c p) (nodes t) h) refl)
     go (inr w) = (w .at, w .here, w .cat, rw (some-path (w .at) (w .here), under-none c (w .at .path) (nodes t) (w .top)))
 
-from-le : (ns : List Urn) (c k : ℕ) → ((d : ℕ) → d < c + k → (n : Urn) × List·Memᴰ n ns × (n .cat ≡ d) × (leaf ns d (n .path) ≡ true)) → length (symbolsFrom ns c k) ≤ countFrom c k ns + countFrom c k ns
+from-le : (ns : List Urn) (c k : ℕ) → ((d : ℕ) → d < c + k → (n : Urn) × List·Memᴰ n ns × (n .cat ≡ d) × (leaf ns d (n .path) ≡ true))
+    → length (symbolsFrom ns c k) ≤ countFrom c k ns + countFrom c k ns
 from-le ns c zero h = omega arith
 from-le ns c (suc k) h =
     let w = h c (omega arith) in

@@ -3,17 +3,19 @@ use Prim.Native.Nat.{ℕ, zero, suc, _+_, _≤_, _<_}
 use mathlib.Core.Path.{_≡_, refl, sym, ap, _∙_}
 use mathlib.Core.Logic.{_⊎_, inl, inr, _≢_}
 use mathlib.Core.Bool.{Bool, true, false, cond, _&&_, false≢true, and-eq-true-iff}
-use mathlib.Core.List.{List, [], _∷_, _++_, List·Memᴰ, List·Memᴰ·head, List·Memᴰ·tail, List·Memᴰ·cases-cons, List·Memᴰ·not-nil, List·Memᴰ·append-cases, List·Memᴰ·eq-of-singleton, Memᴰ·append-left, Memᴰ·append-right}
+use mathlib.Core.List.{List, [], _∷_, _++_, List·Memᴰ, List·Memᴰ·head, List·Memᴰ·tail, List·Memᴰ·cases-cons, List·Memᴰ·not-nil}
+use mathlib.Core.List.{List·Memᴰ·append-cases, List·Memᴰ·eq-of-singleton, Memᴰ·append-left, Memᴰ·append-right}
 use lib.Dec.{eqb}
 use borrow.Author.Tests.{eqb-true, eqb-false, eq-eqb}
 use lib.ListN.{length}
 use native.Mathlib.Omega.{arith}
+use Rattle.base_lists.proofs.Lists.{Exact, member-of, index-member}
 use Rattle.theory_resolution.specs.Names.{Parts, sameParts}
 use Rattle.theory_resolution.specs.Table.{Urn, urn, Table, WellFormed}
 use Rattle.theory_resolution.specs.Direct.{start, envOf, direct, Used}
 use Rattle.theory_resolution.specs.Nodes.{sameUrn, member, isNode, RootOrNode, leaf, deepest, nodes}
-use Rattle.theory_resolution.specs.Symbols.{Symbol, node, other, isOther, symbolOf, ownSymbols, nodeSymbols, symbolsFrom, symbols, bySymbols, symbolAt, sameBool, sameSymbol, symbolIndex}
-use Rattle.theory_resolution.proofs.Lists.{Exact, member-of, index-member}
+use Rattle.theory_resolution.specs.Symbols.{Symbol, node, other, isOther, symbolOf, ownSymbols, nodeSymbols, symbolsFrom, symbols, bySymbols}
+use Rattle.theory_resolution.specs.Symbols.{symbolAt, sameBool, sameSymbol, symbolIndex}
 use Rattle.theory_resolution.proofs.Names.{parts-exact}
 use Rattle.theory_resolution.proofs.Nodes.{urn-exact}
 use Rattle.theory_resolution.proofs.Deepest.{deepest-node}
@@ -51,7 +53,8 @@ module _ (ns : List Urn) (c : ℕ) (p : Parts) where
   node-listed [] h = absurd (false≢true h)
   node-listed (n ∷ ms) h = go (sameUrn (urn c p) n) refl (λ k. node-listed ms k)
     where
-      go : (b : Bool) → sameUrn (urn c p) n ≡ b → (member (urn c p) ms ≡ true → List·Memᴰ (node c p) (nodeSymbols ns c ms)) → List·Memᴰ (node c p) (nodeSymbols ns c (n ∷ ms))
+      go : (b : Bool) → sameUrn (urn c p) n ≡ b → (member (urn c p) ms ≡ true → List·Memᴰ (node c p) (nodeSymbols ns c ms))
+          → List·Memᴰ (node c p) (nodeSymbols ns c (n ∷ ms))
       go true e ih =
           let k = and-eq-true-iff (eqb c (n .cat)) (sameParts p (n .path)) .0 e in
           rw (← eqb-true c (n .cat) (k .0), eq-eqb c c refl, ← parts-exact .to p (n .path) (k .1)) (List·Memᴰ·head refl)
@@ -61,14 +64,16 @@ module _ (ns : List Urn) (c : ℕ) (p : Parts) where
   other-listed l [] h = absurd (false≢true h)
   other-listed l (n ∷ ms) h = go (sameUrn (urn c p) n) refl (λ k. other-listed l ms k)
     where
-      go : (b : Bool) → sameUrn (urn c p) n ≡ b → (member (urn c p) ms ≡ true → List·Memᴰ (other c p) (nodeSymbols ns c ms)) → List·Memᴰ (other c p) (nodeSymbols ns c (n ∷ ms))
+      go : (b : Bool) → sameUrn (urn c p) n ≡ b → (member (urn c p) ms ≡ true → List·Memᴰ (other c p) (nodeSymbols ns c ms))
+          → List·Memᴰ (other c p) (nodeSymbols ns c (n ∷ ms))
       go true e ih =
           let k = and-eq-true-iff (eqb c (n .cat)) (sameParts p (n .path)) .0 e in
           rw (← eqb-true c (n .cat) (k .0), eq-eqb c c refl, ← parts-exact .to p (n .path) (k .1), l) (List·Memᴰ·tail (List·Memᴰ·head refl))
       go false e ih = Memᴰ·append-right (cond (eqb (n .cat) c) (ownSymbols ns c (n .path)) []) (ih (rw e at h))
 
 -- a symbol of category c stands among those of the k categories from b on
-pub listed : (ns : List Urn) (s : Symbol) (c b k : ℕ) → b ≤ c → c < b + k → List·Memᴰ s (nodeSymbols ns c ns) ⊎ (s ≡ other c []) → List·Memᴰ s (symbolsFrom ns b k)
+pub listed : (ns : List Urn) (s : Symbol) (c b k : ℕ) → b ≤ c → c < b + k → List·Memᴰ s (nodeSymbols ns c ns) ⊎ (s ≡ other c [])
+    → List·Memᴰ s (symbolsFrom ns b k)
 listed ns s c b zero lo hi m = absurd (omega arith)
 listed ns s c b (suc k) lo hi m = go (eqb b c) refl m (λ l h. listed ns s c (suc b) k l h m)
   where
@@ -84,12 +89,14 @@ listed ns s c b (suc k) lo hi m = go (eqb b c) refl m (λ l h. listed ns s c (su
         Memᴰ·append-right (nodeSymbols ns b ns) (List·Memᴰ·tail (ih (omega arith) (omega arith)))
 
 which : (ns : List Urn) (c : ℕ) (p d : Parts) → p ≢ [] → (d ≡ []) ⊎ (isNode ns c d ≡ true)
-    → List·Memᴰ (record { cat = c; path = d; other = isOther ns c p d }) (nodeSymbols ns c ns) ⊎ (record { cat = c; path = d; other = isOther ns c p d } ≡ other c [])
+    → List·Memᴰ (record { cat = c; path = d; other = isOther ns c p d }) (nodeSymbols ns c ns)
+    ⊎ (record { cat = c; path = d; other = isOther ns c p d } ≡ other c [])
 unfolding leaf
 which ns c p d some-part r = go (sameParts d p) refl (leaf ns c d) refl r
   where
     go : (b : Bool) → sameParts d p ≡ b → (l : Bool) → leaf ns c d ≡ l → (d ≡ []) ⊎ (isNode ns c d ≡ true)
-        → List·Memᴰ (record { cat = c; path = d; other = isOther ns c p d }) (nodeSymbols ns c ns) ⊎ (record { cat = c; path = d; other = isOther ns c p d } ≡ other c [])
+        → List·Memᴰ (record { cat = c; path = d; other = isOther ns c p d }) (nodeSymbols ns c ns)
+        ⊎ (record { cat = c; path = d; other = isOther ns c p d } ≡ other c [])
     go true e l k (inl z) = absurd (some-part (sym (parts-exact .to d p e) ∙ z))
     go true e l k (inr n) = inl (rw e (node-listed ns c d ns n))
     go false e true k (inl z) = let w : false ≡ true = rw z at k in absurd (false≢true w)
@@ -141,13 +148,15 @@ symbols-from-known : (ns : List Urn) (c k : ℕ) (s : Symbol) → List·Memᴰ s
 symbols-from-known ns c zero s m = absurd (List·Memᴰ·not-nil m)
 symbols-from-known ns c (suc k) s m = go (List·Memᴰ·append-cases (nodeSymbols ns c ns) m) (λ i. symbols-from-known ns (suc c) k s i)
   where
-    rest : (s ≡ other c []) ⊎ List·Memᴰ s (symbolsFrom ns (suc c) k) → (List·Memᴰ s (symbolsFrom ns (suc c) k) → (s .cat < suc c + k) × RootOrNode ns (s .cat) (s .path))
+    rest : (s ≡ other c []) ⊎ List·Memᴰ s (symbolsFrom ns (suc c) k) → (List·Memᴰ s (symbolsFrom ns (suc c) k) → (s .cat < suc c + k)
+        × RootOrNode ns (s .cat) (s .path))
         → (s .cat < c + suc k) × RootOrNode ns (s .cat) (s .path)
     rest (inl e) ih = (omega (arith, ap (λ x. x .cat) e), inl (ap (λ x. x .path) e))
     rest (inr i) ih = let w = ih i in (omega (arith, w .0), w .1)
 
     go : List·Memᴰ s (nodeSymbols ns c ns) ⊎ List·Memᴰ s (other c [] ∷ symbolsFrom ns (suc c) k)
-        → (List·Memᴰ s (symbolsFrom ns (suc c) k) → (s .cat < suc c + k) × RootOrNode ns (s .cat) (s .path)) → (s .cat < c + suc k) × RootOrNode ns (s .cat) (s .path)
+        → (List·Memᴰ s (symbolsFrom ns (suc c) k) → (s .cat < suc c + k) × RootOrNode ns (s .cat) (s .path)) → (s .cat < c + suc k)
+        × RootOrNode ns (s .cat) (s .path)
     go (inl i) ih = let w = node-symbols-known ns c ns (λ n j. j) s i in (omega (arith, w .0), rw (w .0) (w .1))
     go (inr i) ih = rest (List·Memᴰ·cases-cons i) ih
 
@@ -156,7 +165,8 @@ symbol-known t s m = let w = symbols-from-known (nodes t) 0 (t .cats) s m in (om
 
 -- a used URN's symbol stands at its number
 pub symbol-at-index : (t : Table) (u : Urn) → Used t u
-    → (symbolIndex (symbolOf (nodes t) u) (symbols t) < length (symbols t)) × (symbolAt t (symbolIndex (symbolOf (nodes t) u) (symbols t)) ≡ symbolOf (nodes t) u)
+    → (symbolIndex (symbolOf (nodes t) u) (symbols t) < length (symbols t)) × (symbolAt t (symbolIndex (symbolOf (nodes t) u) (symbols t))
+    ≡ symbolOf (nodes t) u)
 symbol-at-index t u used =
     index-member sameSymbol symbol-exact (other 0 []) (symbolOf (nodes t) u) (symbols t)
     (member-of sameSymbol symbol-exact (symbolOf (nodes t) u) (symbols t) (symbol-listed t u used))

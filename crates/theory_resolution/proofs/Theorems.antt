@@ -5,7 +5,8 @@ use mathlib.Core.Option.{some}
 use mathlib.Core.List.{[], List·Memᴰ}
 use lib.ListN.{length, getD}
 use lib.Seq.{set-getD}
-use Rattle.theory_resolution.specs.Lists.{indexBy}
+use Rattle.base_lists.proofs.Lists.{member-to, index-at}
+use Rattle.base_lists.specs.Lists.{indexBy}
 use Rattle.theory_resolution.specs.Names.{longer}
 use Rattle.theory_resolution.specs.Table.{Table, rowOf, find, WellFormed}
 use Rattle.theory_resolution.specs.Direct.{State, start, envOf, sameState}
@@ -14,7 +15,6 @@ use Rattle.theory_resolution.specs.Symbols.{other, symbols, stepAt}
 use Rattle.theory_resolution.specs.Machine.{Machine}
 use Rattle.theory_resolution.specs.Build.{discovered, Reachable}
 use Rattle.theory_resolution.specs.Laws.{DirectLaw, NumberLaw, NodeStepLaw, SymbolLaw, MachineLaw, BuildLaw}
-use Rattle.theory_resolution.proofs.Lists.{member-to, index-at}
 use Rattle.theory_resolution.proofs.Table.{find-sound, find-start}
 use Rattle.theory_resolution.proofs.Direct.{state-exact, search-last}
 use Rattle.theory_resolution.proofs.Says.{says-only-given, still-says, few-changes}
@@ -104,7 +104,8 @@ build-law t n =
     }
   where
     own : (i : ℕ) → i < length (discovered t n) → indexBy sameState (getD (discovered t n) i (start (t .cats))) (discovered t n) ≡ i
-    own = index-at sameState state-exact (start (t .cats)) (discovered t n) (discover-distinct sameState state-exact (stepAt t) (length (symbols t)) (start (t .cats)) n)
+    own = index-at sameState state-exact (start (t .cats)) (discovered t n) (discover-distinct sameState state-exact (stepAt t)
+        (length (symbols t)) (start (t .cats)) n)
 
     all-found : length (discovered t n) ≤ n → (st : State) → Reachable t st → List·Memᴰ st (discovered t n)
     all-found h st r =

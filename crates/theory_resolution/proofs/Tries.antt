@@ -8,12 +8,12 @@ use mathlib.Core.List.{List, [], _∷_, _++_, append-assoc, List·Memᴰ}
 use lib.ListN.{length, getD, set, length-append}
 use lib.Seq.{set-getD}
 use native.Mathlib.Omega.{arith}
+use Rattle.base_lists.proofs.Lists.{member-to}
 use Rattle.theory_resolution.specs.Names.{Parts, sameParts, below, properAncestor, longer, candidates, Above}
 use Rattle.theory_resolution.specs.Table.{Urn, urn, Table, Row, rowOf, find, WellFormed}
 use Rattle.theory_resolution.specs.Direct.{Status, Open, Held, Shut, State, Env, envOf, Hit, found, firstHit, takesUrn, statusFits, step, StateOf}
 use Rattle.theory_resolution.specs.Nodes.{sameUrn, nodes, RootOrNode, isInner, deepest}
 use Rattle.theory_resolution.specs.Tries.{oneMore, triesOf, triesIfTaken, tries, nodeTries, triesOver, placeAt, takenAt, deepestOf, Searched, TriesLaw}
-use Rattle.theory_resolution.proofs.Lists.{member-to}
 use Rattle.theory_resolution.proofs.Names.{below-to, below-self, above-trans, proper-above}
 use Rattle.theory_resolution.proofs.Table.{row-length}
 use Rattle.theory_resolution.proofs.Direct.{search-last}
@@ -66,7 +66,8 @@ module _ (env : Env) (row : Row) (c : ℕ) where
           let e₁ : record { at = p; signal = s } ≡ h = cc in
           rw f (omega (arith, d .0, ap (λ x. length (x .at)) e₁))
 
-  pub tries-found : (q r : Parts) (h : Hit) → firstHit env row c (candidates q r) ≡ some h → triesOf env row c (candidates q r) + length (h .at) ≡ suc (length q + length r)
+  pub tries-found : (q r : Parts) (h : Hit) → firstHit env row c (candidates q r) ≡ some h
+      → triesOf env row c (candidates q r) + length (h .at) ≡ suc (length q + length r)
   tries-found q r h e = tries-hit (suc (length q + length r)) (candidates q r) (down-candidates q r) h e
 
   tries-few : (ps : List Parts) → triesOf env row c ps ≤ length ps
@@ -155,7 +156,8 @@ module _ (t : Table) (wf : WellFormed t) (st : State) (g : StateOf t st) (u : Ur
         same = same;
         hit = hh .0;
         found = same ∙ hh .1;
-        counted = rw (e, down) (tries-hit (envOf t) row (u .cat) (suc (length d)) (candidates q (a .rest)) (rw (← size) (down-candidates q (a .rest))) (hh .0) (hh .1));
+        counted = rw (e, down) (tries-hit (envOf t) row (u .cat) (suc (length d)) (candidates q (a .rest))
+            (rw (← size) (down-candidates q (a .rest))) (hh .0) (hh .1));
       }
     where
       a : Above q d

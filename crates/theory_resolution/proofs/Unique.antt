@@ -9,9 +9,9 @@ use lib.ListN.{length, getD, take}
 use lib.Seq.{ext-getD, getD-take, length-take-le}
 use native.Mathlib.Omega.{arith}
 use native.Mathlib.Decide.{decLt, ℕ-discrete}
-use Rattle.theory_resolution.specs.Lists.{memberBy, indexBy}
+use Rattle.base_lists.proofs.Lists.{Exact, member-of, index-member, index-take, index-at, distinct-fits}
+use Rattle.base_lists.specs.Lists.{memberBy, indexBy}
 use Rattle.theory_resolution.specs.Discovery.{Reached, FirstMet, BreadthFirst}
-use Rattle.theory_resolution.proofs.Lists.{Exact, member-of, index-member, index-take, index-at, distinct-fits}
 use Rattle.theory_resolution.proofs.Discovery.{reached-next}
 
 -- one pair of a state and a symbol comes before another, is it, or comes after it
@@ -35,13 +35,15 @@ module _ {S : Type 0} (same : S → S → Bool) (ex : Exact same) (next : S → 
   below-reached l o (suc n) zero h b = rw (o .begins) (record { by = []; listed = λ k i. absurd (List·Memᴰ·not-nil i); leads = refl })
   below-reached l o (suc n) (suc j) h b = go (o .numbered (suc j) (omega arith) b) (λ i a c. below-reached l o n i a c)
     where
-      go : FirstMet next count begin same l (suc j) → ((i : ℕ) → i < n → i < length l → Reached next count begin (getD l i begin)) → Reached next count begin (getD l (suc j) begin)
+      go : FirstMet next count begin same l (suc j) → ((i : ℕ) → i < n → i < length l → Reached next count begin (getD l i begin))
+          → Reached next count begin (getD l (suc j) begin)
       go f ih =
           let e = f .earlier in
           rw (f .leads) at (reached-next next count begin (getD l (f .from) begin) (ih (f .from) (omega arith) (omega arith)) (f .symbol) (f .listed))
 
   all-reached : (l : List S) → Ordered l → (s : S) → List·Memᴰ s l → Reached next count begin s
-  all-reached l o s m = let w = index-member same ex begin s l (member-of same ex s l m) in rw (w .1) at (below-reached l o (suc (indexBy same s l)) (indexBy same s l) (omega arith) (w .0))
+  all-reached l o s m = let w = index-member same ex begin s l (member-of same ex s l m) in
+      rw (w .1) at (below-reached l o (suc (indexBy same s l)) (indexBy same s l) (omega arith) (w .0))
 
   no-longer : (l k : List S) → Ordered l → Ordered k → length l ≤ length k
   no-longer l k o p = distinct-fits same ex l k (o .distinct) (λ s m. member-of same ex s k (p .complete s (all-reached l o s m)))

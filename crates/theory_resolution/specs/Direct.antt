@@ -7,7 +7,7 @@ use mathlib.Core.Option.{Option, none, some}
 use mathlib.Core.List.{List, [], _∷_, foldl, List·Memᴰ}
 use lib.Dec.{eqb}
 use lib.ListN.{getD, set, length, replicate}
-use Rattle.theory_resolution.specs.Lists.{sameList}
+use Rattle.base_lists.specs.Lists.{sameList}
 use Rattle.theory_resolution.specs.Names.{Parts, sameParts, below, properAncestor, candidates}
 use Rattle.theory_resolution.specs.Table.{Urn, Table, Row, rowOf, find}
 use Rattle.theory_resolution.specs.Nodes.{nodes, isInner}

@@ -7,7 +7,7 @@ use mathlib.Core.Bool.{Bool, true, cond}
 use mathlib.Core.List.{List, [], _∷_, foldl, List·Memᴰ}
 use lib.Dec.{ltb}
 use lib.ListN.{getD, length, take}
-use Rattle.theory_resolution.specs.Lists.{memberBy, addBy, indexBy, tabulate, Distinct}
+use Rattle.base_lists.specs.Lists.{memberBy, addBy, indexBy, tabulate, Distinct}
 
 module _ {S : Type 0} (same : S → S → Bool) (next : S → ℕ → S) where
   -- the list after the targets of s at the symbols below k, in order, each at the end unless it is there

@@ -6,7 +6,7 @@ use mathlib.Core.Bool.{true, false, not}
 use mathlib.Core.Option.{Option, some}
 use mathlib.Core.List.{List, [], _∷_, _++_, List·Memᴰ}
 use lib.ListN.{getD, length}
-use Rattle.theory_resolution.specs.Lists.{Distinct}
+use Rattle.base_lists.specs.Lists.{Distinct}
 use Rattle.theory_resolution.specs.Names.{Name, Parts, sameParts, candidates}
 use Rattle.theory_resolution.specs.Table.{Urn, urn, Table, mostParts, rowOf}
 use Rattle.theory_resolution.specs.Direct.{State, start, envOf, Hit, firstHit, step, direct, StateOf, Used, AllUsed, changes, sameState}

@@ -2,7 +2,6 @@
 -- without limits, for any number of categories, signals, parts, symbols and states.
 
 -- what a reader has to believe
-pub mod Lists
 pub mod Names
 pub mod Table
 pub mod Nodes

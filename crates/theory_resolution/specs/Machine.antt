@@ -6,7 +6,7 @@ use mathlib.Core.Option.{Option}
 use mathlib.Core.List.{List, [], foldl}
 use lib.Dec.{ltb}
 use lib.ListN.{getD, length}
-use Rattle.theory_resolution.specs.Lists.{allBelow}
+use Rattle.base_lists.specs.Lists.{allBelow}
 use Rattle.theory_resolution.specs.Table.{Urn, Table}
 use Rattle.theory_resolution.specs.Direct.{State, start, stepUri, sameState}
 use Rattle.theory_resolution.specs.Nodes.{nodes}

@@ -5,7 +5,7 @@ use mathlib.Core.Bool.{Bool, true, false, cond}
 use mathlib.Core.Option.{Option, none, some}
 use mathlib.Core.List.{List, [], _∷_, _++_}
 use lib.Dec.{eqb}
-use Rattle.theory_resolution.specs.Lists.{sameList}
+use Rattle.base_lists.specs.Lists.{sameList}
 
 -- a category's or a part's name: its bytes in lower case, compared octet for octet
 abbrev pub Name : Type 0
@@ -50,3 +50,8 @@ longer p (x ∷ r) = longer (p ++ x ∷ []) r ++ (p ++ x ∷ []) ∷ []
 -- p ++ r and its ancestors no shorter than p, longest first
 abbrev pub candidates : Parts → Parts → List Parts
 candidates p r = longer p r ++ p ∷ []
+
+-- something is left of a path below another: the other is the path or an ancestor of it
+abbrev pub someBelow : Option Parts → Bool
+someBelow none = false
+someBelow (some r) = true

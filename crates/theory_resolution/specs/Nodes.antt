@@ -6,7 +6,7 @@ use mathlib.Core.Bool.{Bool, true, false, cond, not, _&&_, _||_}
 use mathlib.Core.List.{List, [], _∷_, _++_, foldl, List·Memᴰ}
 use lib.Dec.{eqb}
 use lib.ListN.{getD}
-use Rattle.theory_resolution.specs.Lists.{memberBy, addBy, indexBy}
+use Rattle.base_lists.specs.Lists.{memberBy, addBy, indexBy}
 use Rattle.theory_resolution.specs.Names.{Parts, sameParts, properAncestor, Above, longer}
 use Rattle.theory_resolution.specs.Table.{Urn, urn, Table}
 

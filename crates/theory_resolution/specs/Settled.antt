@@ -7,7 +7,7 @@ use mathlib.Core.Option.{Option}
 use mathlib.Core.List.{List, [], _∷_, _++_, foldl, List·Memᴰ}
 use lib.Dec.{eqb}
 use lib.ListN.{length, take}
-use Rattle.theory_resolution.specs.Lists.{allBelow}
+use Rattle.base_lists.specs.Lists.{allBelow}
 use Rattle.theory_resolution.specs.Table.{Urn, Table}
 use Rattle.theory_resolution.specs.Direct.{State, start, step, envOf, direct, usedOf, stepUri, StateOf, Used, AllUsed}
 use Rattle.theory_resolution.specs.Symbols.{symbols, bySymbols, stepAt}

@@ -4,7 +4,7 @@ use mathlib.Core.Bool.{Bool, true, false, cond, not, _&&_, _||_}
 use mathlib.Core.List.{List, [], _∷_, _++_, foldl}
 use lib.Dec.{eqb}
 use lib.ListN.{getD}
-use Rattle.theory_resolution.specs.Lists.{indexBy}
+use Rattle.base_lists.specs.Lists.{indexBy}
 use Rattle.theory_resolution.specs.Names.{Parts, sameParts}
 use Rattle.theory_resolution.specs.Table.{Urn, urn, Table}
 use Rattle.theory_resolution.specs.Direct.{State, start, step, envOf}

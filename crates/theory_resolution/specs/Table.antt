@@ -7,7 +7,7 @@ use mathlib.Core.Option.{Option, none, some}
 use mathlib.Core.List.{List, [], _∷_, List·Memᴰ}
 use lib.Dec.{eqb}
 use lib.ListN.{getD, length}
-use Rattle.theory_resolution.specs.Lists.{sameList}
+use Rattle.base_lists.specs.Lists.{sameList}
 use Rattle.theory_resolution.specs.Names.{Name, Parts, sameParts}
 
 -- an alert URN: its category's number and its path

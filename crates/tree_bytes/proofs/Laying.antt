@@ -7,52 +7,26 @@ use mathlib.Core.List.{List, [], _∷_, _++_, map, foldl, foldl-append, append-a
 use native.Mathlib.Nat.{zero-add}
 use native.Mathlib.Numerals.{add-one}
 use native.Mathlib.Omega.{arith}
-use lib.ListN.{length, length-set, getD, set, take, drop, replicate, length-append, length-drop, length-take, drop-of-length-le, List·getD-eq-default}
-use lib.Seq.{take-all, take-nil, take-suc, drop-cons, set-at, take-append-le, take-at, length-take-le}
+use lib.ListN.{length, length-set, getD, set, take, drop, replicate, length-append, length-drop, drop-of-length-le, List·getD-eq-default}
+use lib.Seq.{take-all, take-suc, take-at, length-take-le, set-out}
 use lib.Dec.{eqb, leb, ltb}
 use borrow.Author.Tests.{eq-eqb, ne-eqb, ltb-true, ltb-false, leb-true, leb-false, lt-ltb, le-ltb, le-leb, lt-leb}
 use borrow.Rule.Slice.PartMut.{putMid}
-use Rattle.theory_resolution.specs.Lists.{tabulate}
-use Rattle.theory_resolution.proofs.Lists.{mem-at, tabulate-length, tabulate-same}
-use Rattle.base_text.proofs.Fields.{byTest}
+use Rattle.base_numbers.specs.Numbers.{mostTableUrns}
+use Rattle.base_lists.proofs.Each.{each-append}
+use Rattle.base_lists.specs.Cuts.{stretch}
+use Rattle.base_lists.proofs.Over.{laid-fits, length-laid, laid-set, laid-out}
+use Rattle.base_lists.proofs.Bools.{byTest}
+use Rattle.base_lists.proofs.Tabulated.{tabulate-length, tabulate-same, tab-suc, tab-same-end, tab-list}
+use Rattle.base_lists.proofs.Lists.{mem-at}
+use Rattle.base_lists.specs.Lists.{tabulate, laid, each}
 use Rattle.table_sections.specs.Held.{Tagged, tag, taggedFrom}
-use Rattle.table_sections.proofs.Tabulated.{tab-suc, tab-same-end}
-use Rattle.table_places.proofs.Flat.{tab-list}
-use Rattle.node_search.specs.Arrays.{stretch}
 use Rattle.tree_sections.specs.Held.{numberAt}
-use Rattle.tree_forms.specs.Bytes.{each, section, textBytes}
+use Rattle.tree_forms.specs.Bytes.{section, textBytes}
 use Rattle.tree_forms.specs.Conversion.{filled, converted}
 use Rattle.tree_forms.proofs.Writing.{Every}
-use Rattle.tree_bytes.specs.Laid.{answer, finished, Spot, spot, putByte, putAll, Wrote, laid, Puts, ofSignal, countOf, namesAt, Eight}
-use Rattle.tree_bytes.specs.declared.Converted.{Converted as Answer}
-
-pub laid-nil : (b : List ℕ) → b ≡ laid [] b
-unfolding laid
-laid-nil b = ap (λ (l : List ℕ). l ++ b) (sym (take-nil (length b)))
-
-module _ (p b : List ℕ) where
-  pub laid-fits : length p ≤ length b → laid p b ≡ p ++ drop (length p) b
-  unfolding laid
-  laid-fits h = ap (λ (l : List ℕ). l ++ drop (length p) b) (take-all (length b) p h)
-
-  pub length-laid : length (laid p b) ≡ length b
-  unfolding laid
-  length-laid = omega (arith, length-append (take (length b) p) (drop (length p) b), length-take (length b) p, length-drop (length p) b)
-
-  laid-set : (a v : ℕ) → length p ≡ a → a < length b → set (laid p b) a v ≡ laid (p ++ v ∷ []) b
-  unfolding laid
-  laid-set a v e h =
-      ap (λ (l : List ℕ). set l a v) (laid-fits (omega arith))
-      ∙ ap (λ (l : List ℕ). set (p ++ l) a v) (drop-cons b (length p) 0 (omega arith))
-      ∙ set-at p (getD b (length p) 0) (drop (suc (length p)) b) v a e
-      ∙ sym (append-assoc p (v ∷ []) (drop (suc (length p)) b))
-      ∙ ap₂ (λ (l : List ℕ) (n : ℕ). l ++ drop n b) (sym (take-all (length b) (p ++ v ∷ []) (omega (arith, length-append p (v ∷ []))))) (sym (add-one (length p)) ∙ sym (length-append p (v ∷ [])))
-
-  laid-out : (v : ℕ) → length b ≤ length p → laid p b ≡ laid (p ++ v ∷ []) b
-  unfolding laid
-  laid-out v h =
-      ap₂ _++_ (sym (take-append-le (length b) p (v ∷ []) h))
-      (drop-of-length-le b {i = length p} h ∙ sym (drop-of-length-le b {i = length (p ++ v ∷ [])} (omega (arith, length-append p (v ∷ [])))))
+use Rattle.tree_bytes.specs.Laid.{answer, finished, Spot, spot, putByte, putAll, Wrote, Puts, ofSignal, countOf, namesAt, Eight, farthest}
+use Rattle.base_bytes.specs.declared.Built.{Built as Answer}
 
 -- one byte
 pub put-in : (old : List ℕ) (at v : ℕ) → at < length old → Puts old (set old at v) at (v ∷ []) (at + 1)
@@ -82,37 +56,32 @@ puts-none x a = record { end = omega arith; long = refl; goes-on = λ p b l e. e
 pub puts-same : {x y : List ℕ} {a r : ℕ} {xs ys : List ℕ} → xs ≡ ys → Puts x y a xs r → Puts x y a ys r
 puts-same {x} {y} {a} {r} e F = subst (λ (w : List ℕ). Puts x y a w r) e F
 
--- a byte past the end changes nothing
-set-past : (l : List ℕ) (i v : ℕ) → length l ≤ i → set l i v ≡ l
-set-past [] i v h = refl
-set-past (x ∷ l) zero v h = absurd (omega arith)
-set-past (x ∷ l) (suc i) v h = ap (λ (r : List ℕ). x ∷ r) (set-past l i v (omega arith))
-
 module _ (old : List ℕ) (at v : ℕ) where
-  step-on : at < max (length old) 1000000000 → putByte (spot old at) v ≡ spot (set old at v) (at + 1)
-  step-on h = ap (λ (b : Bool). spot (set old at v) (cond b (at + 1) at)) (lt-ltb at (max (length old) 1000000000) h)
+  step-on : at < max (length old) farthest → putByte (spot old at) v ≡ spot (set old at v) (at + 1)
+  step-on h = ap (λ (b : Bool). spot (set old at v) (cond b (at + 1) at)) (lt-ltb at (max (length old) farthest) h)
 
   pub byte-in : at < length old → Wrote old (set old at v) at (v ∷ []) (at + 1)
   unfolding putAll
   byte-in h = record { is = sym (step-on (omega arith)) }
 
-  pub byte-past : length old ≤ at → at < 1000000000 → Wrote old old at (v ∷ []) (at + 1)
+  pub byte-past : length old ≤ at → at < farthest → Wrote old old at (v ∷ []) (at + 1)
   unfolding putAll
-  byte-past h l = record { is = ap (λ (b : List ℕ). spot b (at + 1)) (sym (set-past old at v h)) ∙ sym (step-on (omega arith)) }
+  byte-past h l = record { is = ap (λ (b : List ℕ). spot b (at + 1)) (sym (set-out old at v h)) ∙ sym (step-on (omega arith)) }
 
-  pub byte-stays : length old ≤ at → 1000000000 ≤ at → Wrote old old at (v ∷ []) at
+  pub byte-stays : length old ≤ at → farthest ≤ at → Wrote old old at (v ∷ []) at
   unfolding putAll
   byte-stays h l = record {
-    is = ap (λ (b : List ℕ). spot b at) (sym (set-past old at v h))
-        ∙ sym (ap (λ (b : Bool). spot (set old at v) (cond b (at + 1) at)) (le-ltb at (max (length old) 1000000000) (omega arith)));
+    is = ap (λ (b : List ℕ). spot b at) (sym (set-out old at v h))
+        ∙ sym (ap (λ (b : Bool). spot (set old at v) (cond b (at + 1) at)) (le-ltb at (max (length old) farthest) (omega arith)));
   }
 
-  one-puts : at < 1000000000 → Puts old (set old at v) at (v ∷ []) (at + 1)
+  one-puts : at < farthest → Puts old (set old at v) at (v ∷ []) (at + 1)
   one-puts l =
       byTest (ltb at (length old)) (λ h. put-in old at v (ltb-true at (length old) h))
-      (λ h. let k = ltb-false at (length old) h in subst (λ (b : List ℕ). Puts old b at (v ∷ []) (at + 1)) (sym (set-past old at v k)) (put-out old at v k))
+      (λ h. let k = ltb-false at (length old) h in subst (λ (b : List ℕ). Puts old b at (v ∷ []) (at + 1)) (sym (set-out old at v k)) (put-out old at v k))
 
-puts-fold : (bytes old : List ℕ) (at : ℕ) → at + length bytes ≤ 1000000000 → Puts old (putAll (spot old at) bytes .buffer) at bytes (putAll (spot old at) bytes .at)
+puts-fold : (bytes old : List ℕ) (at : ℕ) → at + length bytes ≤ farthest
+    → Puts old (putAll (spot old at) bytes .buffer) at bytes (putAll (spot old at) bytes .at)
 unfolding putAll
 puts-fold [] old at h = puts-none old at
 puts-fold (v ∷ bytes) old at h =
@@ -120,12 +89,12 @@ puts-fold (v ∷ bytes) old at h =
     (puts-join (one-puts old at v (omega arith)) (puts-fold bytes (set old at v) (at + 1) (omega arith)))
 
 -- bytes that do not go past 1,000,000,000 are laid behind what was laid
-pub puts-of : {old new : List ℕ} {at r : ℕ} {bytes : List ℕ} → Wrote old new at bytes r → at + length bytes ≤ 1000000000 → Puts old new at bytes r
+pub puts-of : {old new : List ℕ} {at r : ℕ} {bytes : List ℕ} → Wrote old new at bytes r → at + length bytes ≤ farthest → Puts old new at bytes r
 puts-of {old} {new} {at} {r} {bytes} w h = subst (λ (z : Spot). Puts old (z .buffer) at bytes (z .at)) (sym (w .is)) (puts-fold bytes old at h)
 
 -- the position after them is no further than their number
 step-most : (s : Spot) (v : ℕ) → (s .at ≤ putByte s v .at) × (putByte s v .at ≤ s .at + 1)
-step-most s v = go (ltb (s .at) (max (length (s .buffer)) 1000000000))
+step-most s v = go (ltb (s .at) (max (length (s .buffer)) farthest))
   where
     go : (b : Bool) → (s .at ≤ cond b (s .at + 1) (s .at)) × (cond b (s .at + 1) (s .at) ≤ s .at + 1)
     go true = (omega arith, omega arith)
@@ -140,14 +109,14 @@ pub wrote-most : {old new : List ℕ} {at r : ℕ} {bytes : List ℕ} → Wrote 
 wrote-most {old} {new} {at} {r} {bytes} w = omega (arith, at-most bytes (spot old at), ap (λ (z : Spot). z .at) (w .is))
 
 -- and where it is less than 1,000,000,000 none of them went past that
-far : (bytes : List ℕ) (old : List ℕ) (at : ℕ) → 1000000000 < at + length bytes → 1000000000 ≤ putAll (spot old at) bytes .at
+far : (bytes : List ℕ) (old : List ℕ) (at : ℕ) → farthest < at + length bytes → farthest ≤ putAll (spot old at) bytes .at
 unfolding putAll
 far [] old at h = omega arith
 far (v ∷ bytes) old at h =
-    byTest (ltb at 1000000000)
-    (λ b. let l = ltb-true at 1000000000 b in
-    subst (λ (z : Spot). 1000000000 ≤ foldl putByte z bytes .at) (sym (step-on old at v (omega arith))) (far bytes (set old at v) (at + 1) (omega arith)))
-    (λ b. omega (arith, ltb-false at 1000000000 b, at-most bytes (putByte (spot old at) v), step-most (spot old at) v))
+    byTest (ltb at farthest)
+    (λ b. let l = ltb-true at farthest b in
+    subst (λ (z : Spot). farthest ≤ foldl putByte z bytes .at) (sym (step-on old at v (omega arith))) (far bytes (set old at v) (at + 1) (omega arith)))
+    (λ b. omega (arith, ltb-false at farthest b, at-most bytes (putByte (spot old at) v), step-most (spot old at) v))
 
 pub wrote-none : (x : List ℕ) (a : ℕ) → Wrote x x a [] a
 unfolding putAll
@@ -162,34 +131,31 @@ pub wrote-same : {x y : List ℕ} {a r : ℕ} {xs ys : List ℕ} → xs ≡ ys �
 wrote-same {x} {y} {a} {r} e F = subst (λ (w : List ℕ). Wrote x y a w r) e F
 
 -- one byte more of a list, and all of them
-pub wrote-more : {x y z : List ℕ} {a r s : ℕ} (w : List ℕ) (i : ℕ) → i < length w → Wrote x y a (take i w) r → Wrote y z r (getD w i 0 ∷ []) s → Wrote x z a (take (i + 1) w) s
+pub wrote-more : {x y z : List ℕ} {a r s : ℕ} (w : List ℕ) (i : ℕ) → i < length w → Wrote x y a (take i w) r
+    → Wrote y z r (getD w i 0 ∷ []) s → Wrote x z a (take (i + 1) w) s
 wrote-more w i h F G = wrote-same (sym (ap (λ n. take n w) (add-one i) ∙ take-suc w i 0 h)) (wrote-join F G)
 
 pub wrote-all : {x y : List ℕ} {a r : ℕ} (w : List ℕ) (i : ℕ) → length w ≤ i → Wrote x y a (take i w) r → Wrote x y a w r
 wrote-all w i h F = wrote-same (take-all i w h) F
 
 -- a text after its length, and one whose length is one byte
-pub wrote-text : {x y z : List ℕ} {a r s k : ℕ} (w : List ℕ) → k ≡ length w % 256 → Wrote x y a (k ∷ []) r → Wrote y z r w s → Wrote x z a (length w % 256 ∷ w) s
+pub wrote-text : {x y z : List ℕ} {a r s k : ℕ} (w : List ℕ) → k ≡ length w % 256 → Wrote x y a (k ∷ []) r → Wrote y z r w s
+    → Wrote x z a (length w % 256 ∷ w) s
 wrote-text w e F G = wrote-same (ap (λ n. n ∷ w) e) (wrote-join F G)
 
 pub text-as : {x y : List ℕ} {a r : ℕ} (w : List ℕ) → Wrote x y a (length w % 256 ∷ w) r → length w ≤ 255 → Wrote x y a (textBytes w) r
 text-as w F h = wrote-same (ap (λ n. n ∷ w) (omega arith)) F
 
-pub puts-text-of : {x y : List ℕ} {a r : ℕ} (w : List ℕ) → Wrote x y a (length w % 256 ∷ w) r → a < 900000000 → length w ≤ 255 → Puts x y a (textBytes w) r
+pub puts-text-of : {x y : List ℕ} {a r : ℕ} (w : List ℕ) → Wrote x y a (length w % 256 ∷ w) r → a + mostTableUrns ≤ farthest
+    → length w ≤ 255 → Puts x y a (textBytes w) r
 puts-text-of w F h l = puts-of (text-as w F l) (omega arith)
-
--- things, one more
-pub each-join : {A : Type 0} (w : A → List ℕ) (xs ys : List A) → each w (xs ++ ys) ≡ each w xs ++ each w ys
-unfolding each
-each-join w [] ys = refl
-each-join w (x ∷ xs) ys = ap (λ (l : List ℕ). w x ++ l) (each-join w xs ys) ∙ sym (append-assoc (w x) (each w xs) (each w ys))
 
 each-one : {A : Type 0} (w : A → List ℕ) (x : A) → each w (x ∷ []) ≡ w x
 unfolding each
 each-one w x = append-nil (w x)
 
 pub each-more : {A : Type 0} (w : A → List ℕ) (f : ℕ → A) (i : ℕ) → each w (tabulate f (i + 1)) ≡ each w (tabulate f i) ++ w (f i)
-each-more w f i = ap (each w) (tab-suc f i) ∙ each-join w (tabulate f i) (f i ∷ []) ∙ ap (λ (l : List ℕ). each w (tabulate f i) ++ l) (each-one w (f i))
+each-more w f i = ap (each w) (tab-suc f i) ∙ each-append w (tabulate f i) (f i ∷ []) ∙ ap (λ (l : List ℕ). each w (tabulate f i) ++ l) (each-one w (f i))
 
 module _ {A : Type 0} (w : A → List ℕ) (f : ℕ → A) where
   pub each-none : each w (tabulate f 0) ≡ []
@@ -241,9 +207,9 @@ module _ (t nameAt nameLen : List ℕ) (n : ℕ) where
   pub names-put : (x y : List ℕ) (r : ℕ) → spot y r ≡ namesAt t nameAt nameLen n x → n ≤ 8 → r ≤ 4000 → Puts x y 0 of-names r
   names-put x y r e h l =
       let f : Wrote x y 0 of-names r = record { is = e ∙ names-in x h } in
-      byTest (leb (0 + length of-names) 1000000000)
-      (λ b. puts-of f (leb-true (0 + length of-names) 1000000000 b))
-      (λ b. absurd (omega (arith, far of-names x 0 (leb-false (0 + length of-names) 1000000000 b), ap (λ (z : Spot). z .at) (f .is))))
+      byTest (leb (0 + length of-names) farthest)
+      (λ b. puts-of f (leb-true (0 + length of-names) farthest b))
+      (λ b. absurd (omega (arith, far of-names x 0 (leb-false (0 + length of-names) farthest b), ap (λ (z : Spot). z .at) (f .is))))
 
 -- the things of one signal
 of-join : {A : Type 0} (s : ℕ) (xs ys : List (Tagged A)) → ofSignal s (xs ++ ys) ≡ ofSignal s xs ++ ofSignal s ys
@@ -257,12 +223,14 @@ of-join s (x ∷ xs) ys =
 module _ {A : Type 0} (s : ℕ) (f : ℕ → Tagged A) (i : ℕ) where
   pub of-hit : f i .signal ≡ s → ofSignal s (tabulate f (i + 1)) ≡ ofSignal s (tabulate f i) ++ (f i .what ∷ [])
   unfolding ofSignal
-  of-hit e = ap (ofSignal s) (tab-suc f i) ∙ of-join s (tabulate f i) (f i ∷ []) ∙ ap (λ (b : Bool). ofSignal s (tabulate f i) ++ cond b (f i .what ∷ []) []) (eq-eqb (f i .signal) s e)
+  of-hit e = ap (ofSignal s) (tab-suc f i) ∙ of-join s (tabulate f i) (f i ∷ [])
+      ∙ ap (λ (b : Bool). ofSignal s (tabulate f i) ++ cond b (f i .what ∷ []) []) (eq-eqb (f i .signal) s e)
 
   pub of-miss : f i .signal ≢ s → ofSignal s (tabulate f (i + 1)) ≡ ofSignal s (tabulate f i)
   unfolding ofSignal
   of-miss n =
-      ap (ofSignal s) (tab-suc f i) ∙ of-join s (tabulate f i) (f i ∷ []) ∙ ap (λ (b : Bool). ofSignal s (tabulate f i) ++ cond b (f i .what ∷ []) []) (ne-eqb (f i .signal) s n)
+      ap (ofSignal s) (tab-suc f i) ∙ of-join s (tabulate f i) (f i ∷ [])
+      ∙ ap (λ (b : Bool). ofSignal s (tabulate f i) ++ cond b (f i .what ∷ []) []) (ne-eqb (f i .signal) s n)
       ∙ append-nil (ofSignal s (tabulate f i))
 
   pub count-hit : {n x : ℕ} → n ≡ length (ofSignal s (tabulate f i)) → x ≡ f i .signal → x ≡ s → n + 1 ≡ length (ofSignal s (tabulate f (i + 1)))
@@ -281,18 +249,18 @@ module _ {A : Type 0} (s : ℕ) (f : ℕ → Tagged A) where
 
 -- how many numbers a signal has
 module _ (signal number : List ℕ) (m s : ℕ) where
-  pub count-over : 256 < m → 0 ≡ countOf signal number m s
+  pub count-over : mostTableUrns < m → 0 ≡ countOf signal number m s
   unfolding countOf
-  count-over h = sym (ap (λ (b : Bool). cond b (length (ofSignal s (tabulate (numberAt signal number) m))) 0) (lt-leb m 256 h))
+  count-over h = sym (ap (λ (b : Bool). cond b (length (ofSignal s (tabulate (numberAt signal number) m))) 0) (lt-leb m mostTableUrns h))
 
-  count-in : m ≤ 256 → countOf signal number m s ≡ length (ofSignal s (tabulate (numberAt signal number) m))
+  count-in : m ≤ mostTableUrns → countOf signal number m s ≡ length (ofSignal s (tabulate (numberAt signal number) m))
   unfolding countOf
-  count-in h = ap (λ (b : Bool). cond b (length (ofSignal s (tabulate (numberAt signal number) m))) 0) (le-leb m 256 h)
+  count-in h = ap (λ (b : Bool). cond b (length (ofSignal s (tabulate (numberAt signal number) m))) 0) (le-leb m mostTableUrns h)
 
-  pub count-all : {n : ℕ} → m ≤ 256 → n ≡ length (ofSignal s (tabulate (numberAt signal number) m)) → n ≡ countOf signal number m s
+  pub count-all : {n : ℕ} → m ≤ mostTableUrns → n ≡ length (ofSignal s (tabulate (numberAt signal number) m)) → n ≡ countOf signal number m s
   count-all h e = e ∙ sym (count-in h)
 
-  pub count-is : {n : ℕ} → n ≡ countOf signal number m s → m ≤ 256 → n ≡ length (ofSignal s (tabulate (numberAt signal number) m))
+  pub count-is : {n : ℕ} → n ≡ countOf signal number m s → m ≤ mostTableUrns → n ≡ length (ofSignal s (tabulate (numberAt signal number) m))
   count-is e h = e ∙ count-in h
 
 -- where the form ends
@@ -341,7 +309,8 @@ finish-laid old new n fits w form b g l o e =
     (w .0 ∙ ap answer q, w .1 ∙ ap (λ c. c .buffer) q)
 
 -- a count, and what it counts
-pub section-from : {A : Type 0} (w : A → List ℕ) (f : ℕ → A) {x y z : List ℕ} {a r s k : ℕ} (i n : ℕ) → k ≡ n → i ≤ n → n ≤ i → Puts x y a (k ∷ []) r → Puts y z r (each w (tabulate f i)) s
+pub section-from : {A : Type 0} (w : A → List ℕ) (f : ℕ → A) {x y z : List ℕ} {a r s k : ℕ} (i n : ℕ) → k ≡ n → i ≤ n → n ≤ i
+    → Puts x y a (k ∷ []) r → Puts y z r (each w (tabulate f i)) s
     → Puts x z a (section w (tabulate f n)) s
 section-from {A} w f i n e h l F G =
     puts-same (ap₂ (λ (m : ℕ) (t : List A). m ∷ each w t) (e ∙ sym (tabulate-length f n)) (tab-same-end f i n h l)) (puts-join F G)
@@ -351,18 +320,21 @@ module _ {A : Type 0} (w : A → List ℕ) (s : ℕ) (f : ℕ → Tagged A) wher
   unfolding each ofSignal tabulate
   of-start x a = puts-none x a
 
-  pub of-next : {x y z : List ℕ} {a r t k : ℕ} {bytes : List ℕ} (i : ℕ) → Puts x y a (each w (ofSignal s (tabulate f i))) r → Puts y z r bytes t → bytes ≡ w (f i .what)
+  pub of-next : {x y z : List ℕ} {a r t k : ℕ} {bytes : List ℕ} (i : ℕ) → Puts x y a (each w (ofSignal s (tabulate f i))) r
+      → Puts y z r bytes t → bytes ≡ w (f i .what)
       → k ≡ f i .signal → k ≡ s → Puts x z a (each w (ofSignal s (tabulate f (i + 1)))) t
   of-next i F G e g h =
       puts-same
       (ap (λ (l : List ℕ). each w (ofSignal s (tabulate f i)) ++ l) (e ∙ sym (each-one w (f i .what)))
-      ∙ sym (each-join w (ofSignal s (tabulate f i)) (f i .what ∷ [])) ∙ ap (each w) (sym (of-hit s f i (sym g ∙ h))))
+      ∙ sym (each-append w (ofSignal s (tabulate f i)) (f i .what ∷ [])) ∙ ap (each w) (sym (of-hit s f i (sym g ∙ h))))
       (puts-join F G)
 
-  pub of-pass : {x y : List ℕ} {a r k : ℕ} (i : ℕ) → Puts x y a (each w (ofSignal s (tabulate f i))) r → k ≡ f i .signal → (k ≡ s → ⊥) → Puts x y a (each w (ofSignal s (tabulate f (i + 1)))) r
+  pub of-pass : {x y : List ℕ} {a r k : ℕ} (i : ℕ) → Puts x y a (each w (ofSignal s (tabulate f i))) r → k ≡ f i .signal → (k ≡ s → ⊥)
+      → Puts x y a (each w (ofSignal s (tabulate f (i + 1)))) r
   of-pass i F g h = puts-same (ap (each w) (sym (of-miss s f i (λ q. h (g ∙ q))))) F
 
-  pub of-end : {x y z : List ℕ} {a r t k n : ℕ} (i m : ℕ) → k ≡ n → n ≡ length (ofSignal s (tabulate f m)) → i ≤ m → m ≤ i → Puts x y a (k ∷ []) r → Puts y z r (each w (ofSignal s (tabulate f i))) t
+  pub of-end : {x y z : List ℕ} {a r t k n : ℕ} (i m : ℕ) → k ≡ n → n ≡ length (ofSignal s (tabulate f m)) → i ≤ m → m ≤ i
+      → Puts x y a (k ∷ []) r → Puts y z r (each w (ofSignal s (tabulate f i))) t
       → Puts x z a (section w (ofSignal s (tabulate f m))) t
   of-end i m e v h l F G = puts-same (ap₂ (λ (c : ℕ) (t : List (Tagged A)). c ∷ each w (ofSignal s t)) (e ∙ v) (tab-same-end f i m h l)) (puts-join F G)
 
@@ -388,10 +360,12 @@ module _ {A : Type 0} where
   of-tagged s k [] = refl
   of-tagged zero k (sig ∷ ss) =
       let e : k + zero ≡ k = omega arith in
-      ap (λ j. ofSignal j (map (tag k) sig ++ taggedFrom (suc k) ss)) e ∙ of-own k sig (taggedFrom (suc k) ss) ∙ ap (λ (l : List A). sig ++ l) (of-later k (suc k) ss (omega arith)) ∙ append-nil sig
+      ap (λ j. ofSignal j (map (tag k) sig ++ taggedFrom (suc k) ss)) e ∙ of-own k sig (taggedFrom (suc k) ss)
+      ∙ ap (λ (l : List A). sig ++ l) (of-later k (suc k) ss (omega arith)) ∙ append-nil sig
   of-tagged (suc s) k (sig ∷ ss) =
       let e : k + suc s ≡ suc k + s = omega arith in
-      ap (λ j. ofSignal j (map (tag k) sig ++ taggedFrom (suc k) ss)) e ∙ of-other (suc k + s) k sig (taggedFrom (suc k) ss) (λ e. omega arith) ∙ of-tagged s (suc k) ss
+      ap (λ j. ofSignal j (map (tag k) sig ++ taggedFrom (suc k) ss)) e ∙ of-other (suc k + s) k sig (taggedFrom (suc k) ss)
+      (λ e. omega arith) ∙ of-tagged s (suc k) ss
 
   pub of-signal : (s : ℕ) (ss : List (List A)) → ofSignal s (taggedFrom 0 ss) ≡ getD ss s []
   of-signal s ss = ap (λ j. ofSignal j (taggedFrom 0 ss)) (sym (zero-add s)) ∙ of-tagged s 0 ss

@@ -3,15 +3,16 @@ use Prim.Native.Nat.{ℕ, _+_, _≤_, max}
 use mathlib.Core.Path.{_≡_}
 use mathlib.Core.Bool.{Bool, cond, _&&_}
 use mathlib.Core.List.{List, [], _∷_, _++_, foldl}
-use lib.ListN.{length, take, drop, set}
+use lib.ListN.{length, take, set}
 use lib.Dec.{eqb, leb, ltb}
-use Rattle.theory_resolution.specs.Lists.{tabulate}
+use Rattle.base_numbers.specs.Numbers.{mostCategories, mostTableUrns, mostUrns}
+use Rattle.base_lists.specs.Cuts.{stretch}
+use Rattle.base_lists.specs.Lists.{tabulate, laid}
 use Rattle.table_sections.specs.Held.{Tagged}
-use Rattle.node_search.specs.Arrays.{stretch}
 use Rattle.tree_sections.specs.Held.{numberAt}
 use Rattle.tree_forms.specs.Bytes.{textBytes, section}
 use Rattle.tree_forms.specs.Conversion.{Converted, converted}
-use Rattle.tree_bytes.specs.declared.Converted.{Converted as Answer}
+use Rattle.base_bytes.specs.declared.Built.{Built as Answer}
 
 -- what a conversion answers, without the buffer
 abbrev pub answer : Converted → Answer
@@ -29,9 +30,13 @@ pub record Spot : Type 0 where
 abbrev pub spot : List ℕ → ℕ → Spot
 spot b at = record { buffer = b; at = at }
 
--- one byte at the position, if that is in the buffer, and the position after it; 1,000,000,000 is passed only inside a buffer
+-- the position up to which bytes are counted that there is no room for; no form is as long
+abbrev pub farthest : ℕ
+farthest = 1000000000
+
+-- one byte at the position, if that is in the buffer, and the position after it; the farthest is passed only inside a buffer
 abbrev pub putByte : Spot → ℕ → Spot
-putByte s v = spot (set (s .buffer) (s .at) v) (cond (ltb (s .at) (max (length (s .buffer)) 1000000000)) (s .at + 1) (s .at))
+putByte s v = spot (set (s .buffer) (s .at) v) (cond (ltb (s .at) (max (length (s .buffer)) farthest)) (s .at + 1) (s .at))
 
 -- these bytes, one after the other
 unfoldable pub putAll : Spot → List ℕ → Spot
@@ -40,10 +45,6 @@ putAll s bytes = foldl putByte s bytes
 -- these bytes were put into the buffer old from a position on: the buffer is new then, and r the position after them
 pub record Wrote (old new : List ℕ) (at : ℕ) (bytes : List ℕ) (r : ℕ) : Type 0 where
   pub is : spot new r ≡ putAll (spot old at) bytes
-
--- p laid over the front of b, as far as b goes
-unfoldable pub laid : List ℕ → List ℕ → List ℕ
-laid p b = take (length b) p ++ drop (length p) b
 
 -- where a form was laid up to `at`, these bytes are laid behind it; r is the position after them
 pub record Puts (old new : List ℕ) (at : ℕ) (bytes : List ℕ) (r : ℕ) : Type 0 where
@@ -58,12 +59,12 @@ ofSignal s (x ∷ xs) = cond (eqb (x .signal) s) (x .what ∷ ofSignal s xs) (of
 
 -- how many of the first m numbers are of signal s; 0 for over 256
 unfoldable pub countOf : List ℕ → List ℕ → ℕ → ℕ → ℕ
-countOf signal number m s = cond (leb m 256) (length (ofSignal s (tabulate (numberAt signal number) m))) 0
+countOf signal number m s = cond (leb m mostTableUrns) (length (ofSignal s (tabulate (numberAt signal number) m))) 0
 
 -- the section of n categories at the front of the buffer b; nothing for over 8
 unfoldable pub namesAt : (t nameAt nameLen : List ℕ) → ℕ → List ℕ → Spot
-namesAt t nameAt nameLen n b = cond (leb n 8) (putAll (spot b 0) (section textBytes (tabulate (stretch t nameAt nameLen) n))) (spot b 0)
+namesAt t nameAt nameLen n b = cond (leb n mostCategories) (putAll (spot b 0) (section textBytes (tabulate (stretch t nameAt nameLen) n))) (spot b 0)
 
 -- no signal has over 8 numbers
 abbrev pub Eight : (signal number : List ℕ) → ℕ → Type 0
-Eight signal number m = (s : ℕ) → length (ofSignal s (tabulate (numberAt signal number) m)) ≤ 8
+Eight signal number m = (s : ℕ) → length (ofSignal s (tabulate (numberAt signal number) m)) ≤ mostUrns

@@ -1,11 +1,15 @@
-use table_sections::bytes::small;
+// Bytes and texts written to a lent buffer at a position, as far as there is room.
+use base_bytes::numbers::small;
 ghost use mathlib.Core.List.{[], _∷_};
 ghost use Prim.Native.Nat.{_%_};
 ghost use lib.ListN.{length};
 ghost use Rattle.tree_bytes.specs.Laid.{Wrote};
 
-// One byte at a position, if it is in the buffer: the position after it, or the same where it is past the buffer's end and
-// 1,000,000,000.
+// The position up to which bytes are counted that there is no room for.
+const FARTHEST: usize = 1000000000;
+
+// One byte at a position, if it is in the buffer: the position after it, or the same where it is past the buffer's end and the
+// farthest.
 pub fn byte(buf: &mut [u8], at: usize, v: u8) -> usize
     ensures { λ r. ⌜ Wrote (now (buf .entry)) (now (buf .exit)) at (v ∷ []) r ⌝ }
 {
@@ -13,7 +17,7 @@ pub fn byte(buf: &mut [u8], at: usize, v: u8) -> usize
         buf[at] = v;
         return at + 1;
     }
-    if at < 1000000000 {
+    if at < FARTHEST {
         return at + 1;
     }
     at

@@ -1,17 +1,26 @@
+// The section of the categories written, and how many URNs a signal has.
 use crate::put;
-use base_text::cut::wide;
+use base_bytes::numbers::small;
+use base_bytes::numbers::wide;
+use base_numbers::MOST_CATEGORIES;
+use base_numbers::MOST_TABLE_URNS;
 use node_search::texts::name_text;
-use table_sections::bytes::small;
 ghost use mathlib.Core.Path.{_≡_};
 ghost use Prim.Native.Nat.{_≤_};
 ghost use Rattle.tree_bytes.specs.Laid.{spot, countOf, namesAt};
 
 // The section of the categories, at the front; nothing for over 8.
-pub fn names(t: &[u8], n: usize, name_at: &[u16; 8], name_len: &[u8; 8], buf: &mut [u8]) -> usize
+pub fn names<'a>(
+    t: &[u8],
+    n: usize,
+    name_at: &'a [u16; MOST_CATEGORIES],
+    name_len: &'a [u8; MOST_CATEGORIES],
+    buf: &mut [u8],
+) -> usize
     ensures { λ r. ⌜ spot (now (buf .exit)) r ≡ namesAt (now (t .entry)) (now («name_at» .entry)) (now («name_len» .entry)) n (now (buf .entry)) ⌝ }
     ensures few { λ r. ⌜ r ≤ 4000 ⌝ }
 {
-    if 8 < n {
+    if MOST_CATEGORIES < n {
         return 0;
     }
     let mut p = put::byte(buf, 0, small(n));
@@ -24,10 +33,15 @@ pub fn names(t: &[u8], n: usize, name_at: &[u16; 8], name_len: &[u8; 8], buf: &m
 }
 
 // How many of the first m are of signal s; 0 for over 256.
-pub fn count_of(m: usize, signal: &[u8; 256], s: usize, number: &[u8; 256]) -> usize
+pub fn count_of<'a>(
+    m: usize,
+    signal: &'a [u8; MOST_TABLE_URNS],
+    s: usize,
+    number: &'a [u8; MOST_TABLE_URNS],
+) -> usize
     ensures { λ r. ⌜ r ≡ countOf (now (signal .entry)) (now (number .entry)) m s ⌝ }
 {
-    if 256 < m {
+    if MOST_TABLE_URNS < m {
         return 0;
     }
     let mut n: usize = 0;

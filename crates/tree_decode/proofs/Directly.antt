@@ -8,24 +8,25 @@ use native.Mathlib.Omega.{arith}
 use lib.ListN.{length, getD, length-append}
 use lib.Dec.{eqb, leb}
 use borrow.Author.Tests.{le-leb, lt-leb, leb-true, leb-false, eq-eqb, eqb-true}
-use Rattle.theory_resolution.specs.Lists.{tabulate, memberBy, indexBy, Distinct}
+use Rattle.base_numbers.specs.Numbers.{mostNodes, mostUrnBytes}
+use Rattle.base_lists.proofs.Tabulated.{tab-list}
+use Rattle.base_lists.proofs.Tests.{all-mem, all-alike}
+use Rattle.base_lists.specs.Tests.{all, any, noTwo}
+use Rattle.base_lists.specs.Numbers.{within}
+use Rattle.base_lists.proofs.Bools.{same-test, byTest}
+use Rattle.base_lists.proofs.Lists.{mem-at, member-of, index-at}
+use Rattle.base_lists.specs.Lists.{tabulate, memberBy, indexBy, Distinct}
 use Rattle.theory_resolution.specs.Names.{Name, Parts, sameName}
 use Rattle.theory_resolution.specs.Table.{Urn, urn, Table}
 use Rattle.theory_resolution.specs.Nodes.{nodes}
-use Rattle.theory_resolution.proofs.Lists.{mem-at, member-of, index-at, same-test}
 use Rattle.theory_resolution.proofs.Names.{name-exact}
-use Rattle.base_ascii.specs.Ascii.{within}
-use Rattle.base_text.specs.Text.{all, fields, afterColons}
+use Rattle.base_text.specs.Text.{fields, afterColons}
 use Rattle.urn_names.specs.Names.{nameOk}
 use Rattle.urn_names.specs.Urn.{storedName, urnOk, categoryOf}
-use Rattle.base_text.proofs.Fields.{byTest}
-use Rattle.table_places.specs.Tests.{any, noTwo}
 use Rattle.table_decode.specs.Tables.{formed, uses, listed, tableIn, judged}
 use Rattle.table_names.specs.Categories.{isListed}
 use Rattle.table_places.specs.Verdict.{single, zeroSilent, distinct, fewNodes, verdict}
 use Rattle.table_decode.proofs.Judging.{two-distinct}
-use Rattle.table_decode.proofs.Accepting.{all-mem}
-use Rattle.table_places.proofs.Flat.{tab-list, all-alike}
 use Rattle.tree_sections.specs.Tree.{Tree}
 use Rattle.tree_forms.specs.Meaning.{tableOfTree, urnText, storedIn}
 use Rattle.tree_forms.specs.Refusals.{named, grown, short, treeJudged}
@@ -58,8 +59,10 @@ text-parts names u o s = go (u .path) (s .some-part) (s .named)
     go (x ∷ p) n e =
         let a = and-eq-true-iff (storedName x) (all storedName p) .0 e in
         let k = all-mem storedName names (getD names (u .cat) []) o (mem-at names (u .cat) [] (s .known)) in
-        let l = name-plain (getD names (u .cat) []) k .1 in
-        (text-read (getD names (u .cat) []) x p l (name-plain x (a .0) .1) (names-plain p (a .1)) .0, fields-path (getD names (u .cat) []) (x ∷ p) l (names-plain (x ∷ p) e))
+        let l = name-plain (getD names (u .cat) []) k .1 in (
+          text-read (getD names (u .cat) []) x p l (name-plain x (a .0) .1) (names-plain p (a .1)) .0,
+          fields-path (getD names (u .cat) []) (x ∷ p) l (names-plain (x ∷ p) e),
+        )
 
 module _ (names : List Name) (T : Table) (o : all storedName names ≡ true) (c : T .cats ≡ length names) (s : Every (Every (Sound names)) (T .signals)) where
   urn-formed : (u : Urn) → Sound names u → urnOk (urnText names u) ≡ leb (length (u .path)) 8
@@ -68,15 +71,23 @@ module _ (names : List Name) (T : Table) (o : all storedName names ≡ true) (c 
       let f = text-parts names u o v .1 in
       let k = all-mem storedName names (getD names (u .cat) []) o (mem-at names (u .cat) [] (v .known)) in
       let n : all nameOk (getD names (u .cat) [] ∷ u .path) ≡ true = names-plain (getD names (u .cat) [] ∷ u .path) (ap₂ _&&_ k (v .named)) in
-      ap (λ b. b && (within 2 9 (length (fields 58 (urnText names u))) && all nameOk (fields 58 (urnText names u)))) (text-small (getD names (u .cat) []) (u .path) k (v .named))
-      ∙ ap (λ (l : List Name). within 2 9 (length l) && all nameOk l) f ∙ ap (λ b. within 2 9 (suc (length (u .path))) && b) n ∙ and-true _ ∙ count (u .path) (v .some-part)
+      ap (λ b. b && (within 2 9 (length (fields 58 (urnText names u))) && all nameOk (fields 58 (urnText names u))))
+      (text-small (getD names (u .cat) []) (u .path) k (v .named))
+      ∙ ap (λ (l : List Name). within 2 9 (length l) && all nameOk l) f ∙ ap (λ b. within 2 9 (suc (length (u .path))) && b) n ∙ and-true _
+      ∙ count (u .path) (v .some-part)
     where
       count : (p : Parts) → p ≢ [] → within 2 9 (suc (length p)) ≡ leb (length p) 8
       count [] n = absurd (n refl)
       count (x ∷ p) n =
           byTest (leb (length (x ∷ p)) 8)
-          (λ h. ap₂ _&&_ (le-leb 2 (suc (length (x ∷ p))) (omega arith)) (le-leb (suc (length (x ∷ p))) 9 (omega (arith, leb-true (length (x ∷ p)) 8 h))) ∙ sym h)
-          (λ h. ap₂ _&&_ (le-leb 2 (suc (length (x ∷ p))) (omega arith)) (lt-leb (suc (length (x ∷ p))) 9 (omega (arith, leb-false (length (x ∷ p)) 8 h))) ∙ sym h)
+          (λ h. ap₂ _&&_ (le-leb 2 (suc (length (x ∷ p))) (omega arith)) (le-leb (suc (length (x ∷ p))) 9 (omega (
+            arith,
+            leb-true (length (x ∷ p)) 8 h,
+          ))) ∙ sym h)
+          (λ h. ap₂ _&&_ (le-leb 2 (suc (length (x ∷ p))) (omega arith)) (lt-leb (suc (length (x ∷ p))) 9 (omega (
+            arith,
+            leb-false (length (x ∷ p)) 8 h,
+          ))) ∙ sym h)
 
   -- 7
   formed-is : formed (storedIn names T) ≡ fewParts T
@@ -90,8 +101,8 @@ module _ (names : List Name) (T : Table) (o : all storedName names ≡ true) (c 
   short-is : short (storedIn names T) ≡ shortIn names T
   unfolding short storedIn shortIn
   short-is =
-      all-map (all (λ u. leb (length u) 255)) (all (λ u. leb (length (urnText names u)) 255)) (map (urnText names)) (T .signals)
-      (λ sig m. all-map (λ u. leb (length u) 255) (λ u. leb (length (urnText names u)) 255) (urnText names) sig (λ u i. refl))
+      all-map (all (λ u. leb (length u) mostUrnBytes)) (all (λ u. leb (length (urnText names u)) mostUrnBytes)) (map (urnText names)) (T .signals)
+      (λ sig m. all-map (λ u. leb (length u) mostUrnBytes) (λ u. leb (length (urnText names u)) mostUrnBytes) (urnText names) sig (λ u i. refl))
 
   -- 8
   all-listed : all (all (isListed names)) (map (map (urnText names)) (T .signals)) ≡ true
@@ -101,17 +112,22 @@ module _ (names : List Name) (T : Table) (o : all storedName names ≡ true) (c 
       (λ sig m. all-map (isListed names) (λ u. true) (urnText names) sig
       (λ u i.
       let v = s sig m u i in
-      ap (λ (x : Name). memberBy sameName x names) (text-parts names u o v .0) ∙ member-of sameName name-exact (getD names (u .cat) []) names (mem-at names (u .cat) [] (v .known))))
+      ap (λ (x : Name). memberBy sameName x names) (text-parts names u o v .0) ∙ member-of sameName name-exact (getD names (u .cat) [])
+      names (mem-at names (u .cat) [] (v .known))))
       ∙ all-every (all (λ u. true)) (T .signals) (λ sig m. all-every (λ u. true) sig (λ u i. refl))
 
-  same-category : Distinct sameName names → (k : ℕ) → k < length names → (u : Urn) → Sound names u → sameName (categoryOf (urnText names u)) (getD names k []) ≡ eqb (u .cat) k
+  same-category : Distinct sameName names → (k : ℕ) → k < length names → (u : Urn) → Sound names u
+      → sameName (categoryOf (urnText names u)) (getD names k []) ≡ eqb (u .cat) k
   same-category d k h u v =
       ap (λ (x : Name). sameName x (getD names k [])) (text-parts names u o v .0)
       ∙ same-test (sameName (getD names (u .cat) []) (getD names k [])) (eqb (u .cat) k)
-      (λ e. eq-eqb (u .cat) k (sym (index-at sameName name-exact [] names d (u .cat) (v .known)) ∙ ap (λ (x : Name). indexBy sameName x names) (name-exact .to (getD names (u .cat) []) (getD names k []) e) ∙ index-at sameName name-exact [] names d k h))
+      (λ e. eq-eqb (u .cat) k (sym (index-at sameName name-exact [] names d (u .cat) (v .known))
+      ∙ ap (λ (x : Name). indexBy sameName x names) (name-exact .to (getD names (u .cat) []) (getD names k []) e)
+      ∙ index-at sameName name-exact [] names d k h))
       (λ e. ap (λ i. sameName (getD names i []) (getD names k [])) (eqb-true (u .cat) k e) ∙ name-exact .self (getD names k []))
 
-  used-is : noTwo sameName names ≡ true → all (λ x. any (uses x) (map (map (urnText names)) (T .signals))) names ≡ all (usedBy T) (tabulate (λ k. k) (length names))
+  used-is : noTwo sameName names ≡ true → all (λ x. any (uses x) (map (map (urnText names)) (T .signals))) names
+      ≡ all (usedBy T) (tabulate (λ k. k) (length names))
   unfolding uses
   used-is t =
       ap (all (λ x. any (uses x) (map (map (urnText names)) (T .signals)))) (sym (tab-list names []))
@@ -146,7 +162,7 @@ module _ (names : List Name) (T : Table) (o : all storedName names ≡ true) (c 
 -- there are at most 64 nodes
 few-nodes : (x : Tree) → FitsTree x → Grown x → fewNodes (tableOfTree x) ≡ true
 unfolding fewNodes
-few-nodes x f g = le-leb (length (nodes (tableOfTree x))) 64 (omega (arith, ap length (g .order), after-length [] (x .nodes), f .nodes .0 .1))
+few-nodes x f g = le-leb (length (nodes (tableOfTree x))) mostNodes (omega (arith, ap length (g .order), after-length [] (x .nodes), f .nodes .0 .1))
 
 -- the refusal of a tree
 pub tree-direct : (x : Tree) → treeJudged x ≡ treeDirect x

@@ -9,11 +9,11 @@ use lib.ListN.{length, getD, set, drop, length-take, length-drop}
 use lib.Seq.{getD-set-same, getD-set-other}
 use lib.Dec.{eqb, leb}
 use borrow.Author.Tests.{eq-eqb, ne-eqb, eqb-false, le-leb, lt-leb}
-use Rattle.base_text.specs.Text.{all}
-use Rattle.base_text.proofs.Fields.{byTest}
-use Rattle.theory_resolution.specs.Lists.{tabulate}
-use Rattle.node_search.specs.Arrays.{stretch}
-use Rattle.table_places.proofs.TestLaws.{all-next, all-fails}
+use Rattle.base_lists.specs.Cuts.{stretch}
+use Rattle.base_lists.proofs.Tests.{all-next, all-fails}
+use Rattle.base_lists.specs.Lists.{tabulate}
+use Rattle.base_lists.proofs.Bools.{byTest}
+use Rattle.base_lists.specs.Tests.{all}
 use Rattle.tree_decode.specs.Stages.{Parented, FromParent, UrnCategories}
 
 pub stretch-le : (t at len : List ℕ) (i : ℕ) → length (stretch t at len i) ≤ length t
@@ -29,7 +29,8 @@ above-node p first out n = sym (rw (ne-eqb p 0 n))
 abbrev pub Bounded : List ℕ → ℕ → Type 0
 Bounded out n = (j : ℕ) → j < n → getD out j 0 ≤ 8193 * (j + 2)
 
-module _ (parent category out : List ℕ) (n i : ℕ) (P : Parented parent category n) (h : i < n) (b : Bounded out i) {p f v : ℕ} (e : p ≡ getD parent i 0) (w : v ≡ cond (eqb p 0) f (getD out (p - 1) 0)) (k : f ≤ 8193) where
+module _ (parent category out : List ℕ) (n i : ℕ) (P : Parented parent category n) (h : i < n) (b : Bounded out i) {p f v : ℕ}
+    (e : p ≡ getD parent i 0) (w : v ≡ cond (eqb p 0) f (getD out (p - 1) 0)) (k : f ≤ 8193) where
   pub base-le : v ≤ 8193 * (i + 1)
   base-le =
       byTest (eqb p 0)
@@ -64,7 +65,8 @@ module _ (parent category out : List ℕ) (n i : ℕ) (P : Parented parent categ
         go : Dec (j ≡ i) → getD (set out i s) j 0 ≡ cond (eqb (getD parent j 0) 0) (first j) (getD (set out i s) (getD parent j 0 - 1) 0) + more j
         go (yes q) =
             subst (λ (z : ℕ). getD (set out i s) z 0 ≡ cond (eqb (getD parent z 0) 0) (first z) (getD (set out i s) (getD parent z 0 - 1) 0) + more z) (sym q)
-            (getD-set-same out i s 0 y ∙ o ∙ ap (λ z. z + more i) (w ∙ ap₂ (λ (p f : ℕ). cond (eqb p 0) f (getD out (p - 1) 0)) e x ∙ sym (same i (getD parent i 0) (first i) (P .low i h) (omega arith))))
+            (getD-set-same out i s 0 y ∙ o ∙ ap (λ z. z + more i) (w ∙ ap₂ (λ (p f : ℕ). cond (eqb p 0) f (getD out (p - 1) 0)) e x
+            ∙ sym (same i (getD parent i 0) (first i) (P .low i h) (omega arith))))
         go (no q) =
             let m : j < i = omega arith in
             kept j m ∙ r j m ∙ ap (λ z. z + more j) (sym (same j (getD parent j 0) (first j) (P .low j (omega arith)) (omega arith)))
@@ -75,14 +77,17 @@ pub categories-more : (number category out : List ℕ) (i : ℕ) {k : ℕ} → k
 categories-more number category out i {k} e h r j l = go (ℕ-discrete j i)
   where
     go : Dec (j ≡ i) → getD (set out i (getD category (k - 1) 0)) j 0 ≡ getD category (getD number j 0 - 1) 0
-    go (yes q) = ap (λ z. getD (set out i (getD category (k - 1) 0)) z 0) q ∙ getD-set-same out i (getD category (k - 1) 0) 0 h ∙ ap (λ z. getD category (z - 1) 0) e ∙ ap (λ z. getD category (getD number z 0 - 1) 0) (sym q)
+    go (yes q) = ap (λ z. getD (set out i (getD category (k - 1) 0)) z 0) q ∙ getD-set-same out i (getD category (k - 1) 0) 0 h
+        ∙ ap (λ z. getD category (z - 1) 0) e ∙ ap (λ z. getD category (getD number z 0 - 1) 0) (sym q)
     go (no q) = getD-set-other out i j (getD category (k - 1) 0) 0 q ∙ r j (omega arith)
 
 -- a number whose node has at most so much, or not
 module _ (number out : List ℕ) (most i : ℕ) {k : ℕ} (e : k ≡ getD number i 0) where
   pub most-next : all (λ k. leb (getD out (k - 1) 0) most) (tabulate (λ j. getD number j 0) i) ≡ true → getD out (k - 1) 0 ≤ most
       → all (λ k. leb (getD out (k - 1) 0) most) (tabulate (λ j. getD number j 0) (i + 1)) ≡ true
-  most-next v h = all-next (λ k. leb (getD out (k - 1) 0) most) (λ j. getD number j 0) i v refl (ap (λ z. leb (getD out (z - 1) 0) most) (sym e) ∙ le-leb (getD out (k - 1) 0) most h)
+  most-next v h = all-next (λ k. leb (getD out (k - 1) 0) most) (λ j. getD number j 0) i v refl
+      (ap (λ z. leb (getD out (z - 1) 0) most) (sym e) ∙ le-leb (getD out (k - 1) 0) most h)
 
   pub most-fails : (m : ℕ) → i < m → most < getD out (k - 1) 0 → false ≡ all (λ k. leb (getD out (k - 1) 0) most) (tabulate (λ j. getD number j 0) m)
-  most-fails m l h = all-fails (λ k. leb (getD out (k - 1) 0) most) (λ j. getD number j 0) i m l refl (ap (λ z. leb (getD out (z - 1) 0) most) (sym e) ∙ lt-leb (getD out (k - 1) 0) most h)
+  most-fails m l h = all-fails (λ k. leb (getD out (k - 1) 0) most) (λ j. getD number j 0) i m l refl
+      (ap (λ z. leb (getD out (z - 1) 0) most) (sym e) ∙ lt-leb (getD out (k - 1) 0) most h)

@@ -6,22 +6,23 @@ use mathlib.Core.Bool.{Bool, cond, _&&_, and-eq-true-iff}
 use mathlib.Core.List.{List, [], _∷_, map}
 use native.Mathlib.Nat.{zero-add}
 use native.Mathlib.Omega.{arith}
-use lib.ListN.{length, getD, length-append}
+use lib.ListN.{length, getD, length-append, length-map}
 use lib.Dec.{eqb, leb, ltb}
 use borrow.Author.Tests.{eq-eqb, ltb-true, leb-true}
-use Rattle.theory_resolution.specs.Lists.{tabulate}
+use Rattle.base_numbers.specs.Numbers.{mostSignals, mostTableUrns}
+use Rattle.base_lists.proofs.Tests.{all-mem, all-joined, any-joined, all-alike}
+use Rattle.base_lists.specs.Tests.{all, any, noTwo}
+use Rattle.base_lists.specs.Numbers.{within}
+use Rattle.base_lists.proofs.Lists.{mem-at}
+use Rattle.base_lists.proofs.Tabulated.{tabulate-same, tabulate-at, tabulate-length, map-tab}
+use Rattle.base_lists.specs.Lists.{tabulate, joined}
 use Rattle.theory_resolution.specs.Names.{Parts, sameName}
 use Rattle.theory_resolution.specs.Table.{Urn, urn, Table}
-use Rattle.theory_resolution.specs.Nodes.{nodes, number, nodeAt}
-use Rattle.theory_resolution.proofs.Lists.{tabulate-same, mem-at, tabulate-at, tabulate-length}
-use Rattle.base_ascii.specs.Ascii.{within}
-use Rattle.base_text.specs.Text.{all, afterColons}
+use Rattle.theory_resolution.specs.Nodes.{number, nodeAt}
+use Rattle.base_text.specs.Text.{afterColons}
 use Rattle.table_places.specs.Slots.{urnOf as listedUrn, Listing, Numbering}
-use Rattle.table_places.specs.Tests.{any, noTwo}
-use Rattle.table_sections.specs.Held.{tag, taggedFrom, joined}
-use Rattle.table_decode.proofs.Judging.{map-length}
-use Rattle.table_decode.proofs.Accepting.{all-mem}
-use Rattle.table_places.proofs.Flat.{map-tab, onWhat, tagged-map, all-joined, any-joined, all-alike, whatOf, tagged-what}
+use Rattle.table_sections.specs.Held.{tag, taggedFrom}
+use Rattle.table_places.proofs.Flat.{onWhat, tagged-map, whatOf, tagged-what}
 use Rattle.tree_sections.specs.Tree.{Node, nodeOf, Tree}
 use Rattle.tree_forms.specs.Meaning.{urnOf, urnsOf, tableOfTree, numberIn, urnText}
 use Rattle.tree_decode.specs.Direct.{shortIn, fewParts, usedBy, usedOnce}
@@ -78,7 +79,8 @@ module _ (x : Tree) (g : Grown x) where
 
   -- how many bytes each node's URN has in the old form
   pub size-is : (d : ℕ → ℕ)
-      → ((i : ℕ) → i < length ns → d i ≡ cond (eqb (nodeOf ns i .parent) 0) (length (getD (x .names) (nodeOf ns i .category) [])) (d (nodeOf ns i .parent - 1)) + suc (length (nodeOf ns i .last)))
+      → ((i : ℕ) → i < length ns → d i ≡ cond (eqb (nodeOf ns i .parent) 0) (length (getD (x .names) (nodeOf ns i .category) []))
+      (d (nodeOf ns i .parent - 1)) + suc (length (nodeOf ns i .last)))
       → (i : ℕ) → i < length ns → d i ≡ length (urnText (x .names) (nodeAt us i))
   unfolding afterColons
   size-is d e i h =
@@ -88,42 +90,57 @@ module _ (x : Tree) (g : Grown x) where
       (suc i) i (omega arith) h
     where
       long : (i : ℕ) → i < length ns
-          → length (urnText (x .names) (nodeAt us i)) ≡ length (getD (x .names) (nodeOf ns i .category) []) + (length (afterColons (urnOf us (nodeOf ns i .parent) .path)) + suc (length (nodeOf ns i .last)))
+          → length (urnText (x .names) (nodeAt us i)) ≡ length (getD (x .names) (nodeOf ns i .category) []) +
+          (length (afterColons (urnOf us (nodeOf ns i .parent) .path)) + suc (length (nodeOf ns i .last)))
       long i h =
           let f = facts i h in
           length-append (getD (x .names) (nodeAt us i .cat) []) (afterColons (nodeAt us i .path))
           ∙ ap₂ (λ (c : ℕ) (p : Parts). length (getD (x .names) c []) + length (afterColons p)) (f .cat) (f .path)
           ∙ ap (λ k. length (getD (x .names) (nodeOf ns i .category) []) + k) (colons-more (urnOf us (nodeOf ns i .parent) .path) (nodeOf ns i .last))
 
-      below : (i j : ℕ) → i < length ns → nodeOf ns i .parent ≡ suc j → (nodeOf ns i .parent ≡ 0) ⊎ (urnOf us (nodeOf ns i .parent) .cat ≡ nodeOf ns i .category)
+      below : (i j : ℕ) → i < length ns → nodeOf ns i .parent ≡ suc j → (nodeOf ns i .parent ≡ 0)
+          ⊎ (urnOf us (nodeOf ns i .parent) .cat ≡ nodeOf ns i .category)
           → length (urnText (x .names) (nodeAt us i)) ≡ length (urnText (x .names) (nodeAt us j)) + suc (length (nodeOf ns i .last))
       below i j h q (inl z) = absurd (omega (arith, q, z))
       below i j h q (inr c) =
           let k : nodeAt us j .cat ≡ nodeOf ns i .category = ap (λ p. urnOf us p .cat) (sym q) ∙ c in
-          omega (arith, long i h, ap (λ p. length (afterColons (urnOf us p .path))) q, length-append (getD (x .names) (nodeAt us j .cat) []) (afterColons (nodeAt us j .path)), ap (λ c. length (getD (x .names) c [])) k)
+          omega (
+            arith,
+            long i h,
+            ap (λ p. length (afterColons (urnOf us p .path))) q,
+            length-append (getD (x .names) (nodeAt us j .cat) []) (afterColons (nodeAt us j .path)),
+            ap (λ c. length (getD (x .names) c [])) k,
+          )
 
   -- a test of every signal's URNs, by the numbers
-  pub all-numbers : (p : Urn → Bool) (q : ℕ → Bool) → ((j : ℕ) → j < length ns → p (nodeAt us j) ≡ q (suc j)) → all (all p) (T .signals) ≡ all q (joined (x .signals))
+  pub all-numbers : (p : Urn → Bool) (q : ℕ → Bool) → ((j : ℕ) → j < length ns → p (nodeAt us j) ≡ q (suc j)) → all (all p) (T .signals)
+      ≡ all q (joined (x .signals))
   all-numbers p q h =
       all-map (all p) (all q) (map (urnOf us)) (x .signals)
-      (λ sig m. all-map p q (urnOf us) sig (λ k i. let w = signal-number x g sig m k i in ap (λ z. p (urnOf us z)) (w .1) ∙ h (w .0) (omega (arith, w .2, size)) ∙ ap q (sym (w .1))))
+      (λ sig m. all-map p q (urnOf us) sig (λ k i. let w = signal-number x g sig m k i in ap (λ z. p (urnOf us z)) (w .1)
+      ∙ h (w .0) (omega (arith, w .2, size)) ∙ ap q (sym (w .1))))
       ∙ all-joined q (x .signals)
 
-  pub any-numbers : (p : Urn → Bool) (q : ℕ → Bool) → ((j : ℕ) → j < length ns → p (nodeAt us j) ≡ q (suc j)) → any (any p) (T .signals) ≡ any q (joined (x .signals))
+  pub any-numbers : (p : Urn → Bool) (q : ℕ → Bool) → ((j : ℕ) → j < length ns → p (nodeAt us j) ≡ q (suc j)) → any (any p) (T .signals)
+      ≡ any q (joined (x .signals))
   any-numbers p q h =
       any-map (any p) (any q) (map (urnOf us)) (x .signals)
-      (λ sig m. any-map p q (urnOf us) sig (λ k i. let w = signal-number x g sig m k i in ap (λ z. p (urnOf us z)) (w .1) ∙ h (w .0) (omega (arith, w .2, size)) ∙ ap q (sym (w .1))))
+      (λ sig m. any-map p q (urnOf us) sig (λ k i. let w = signal-number x g sig m k i in ap (λ z. p (urnOf us z)) (w .1)
+      ∙ h (w .0) (omega (arith, w .2, size)) ∙ ap q (sym (w .1))))
       ∙ any-joined q (x .signals)
 
   -- 6
-  pub short-by : (d : ℕ → ℕ) → ((i : ℕ) → i < length ns → d i ≡ length (urnText (x .names) (nodeAt us i))) → shortIn (x .names) T ≡ all (λ k. leb (d (k - 1)) 255) (joined (x .signals))
+  pub short-by : (d : ℕ → ℕ) → ((i : ℕ) → i < length ns → d i ≡ length (urnText (x .names) (nodeAt us i))) → shortIn (x .names) T
+      ≡ all (λ k. leb (d (k - 1)) 255) (joined (x .signals))
   unfolding shortIn
-  short-by d e = all-numbers (λ u. leb (length (urnText (x .names) u)) 255) (λ k. leb (d (k - 1)) 255) (λ j h. let o : suc j - 1 ≡ j = omega arith in ap (λ n. leb n 255) (sym (e j h)) ∙ ap (λ z. leb (d z) 255) (sym o))
+  short-by d e = all-numbers (λ u. leb (length (urnText (x .names) u)) 255) (λ k. leb (d (k - 1)) 255) (λ j h. let o : suc j - 1 ≡ j =
+      omega arith in ap (λ n. leb n 255) (sym (e j h)) ∙ ap (λ z. leb (d z) 255) (sym o))
 
   -- 7
   pub few-by : (d : ℕ → ℕ) → ((i : ℕ) → i < length ns → d i ≡ length (nodeAt us i .path)) → fewParts T ≡ all (λ k. leb (d (k - 1)) 8) (joined (x .signals))
   unfolding fewParts
-  few-by d e = all-numbers (λ u. leb (length (u .path)) 8) (λ k. leb (d (k - 1)) 8) (λ j h. let o : suc j - 1 ≡ j = omega arith in ap (λ n. leb n 8) (sym (e j h)) ∙ ap (λ z. leb (d z) 8) (sym o))
+  few-by d e = all-numbers (λ u. leb (length (u .path)) 8) (λ k. leb (d (k - 1)) 8) (λ j h. let o : suc j - 1 ≡ j = omega arith in
+      ap (λ n. leb n 8) (sym (e j h)) ∙ ap (λ z. leb (d z) 8) (sym o))
 
   -- 8
   pub used-by : usedOnce (x .names) T
@@ -146,9 +163,15 @@ module _ (x : Tree) (g : Grown x) where
         let v = tabulate-at (λ i. getD numbers i 0) m i 0 k in
         let l = tabulate-length (λ i. getD numbers i 0) m in
         let w = all-mem (within 1 (length ns)) (tabulate (λ i. getD numbers i 0) m) (getD (tabulate (λ i. getD numbers i 0) m) i 0)
-        (ap (all (within 1 (length ns))) flat ∙ sym (all-joined (within 1 (length ns)) (x .signals)) ∙ g .numbers) (mem-at (tabulate (λ i. getD numbers i 0) m) i 0 (omega (arith, l))) in
-        let b = and-eq-true-iff (leb 1 (getD (tabulate (λ i. getD numbers i 0) m) i 0)) (leb (getD (tabulate (λ i. getD numbers i 0) m) i 0) (length ns)) .0 w in
-        go (getD numbers i 0) (omega (arith, leb-true 1 (getD (tabulate (λ i. getD numbers i 0) m) i 0) (b .0), v)) (omega (arith, leb-true (getD (tabulate (λ i. getD numbers i 0) m) i 0) (length ns) (b .1), v))
+        (ap (all (within 1 (length ns))) flat ∙ sym (all-joined (within 1 (length ns)) (x .signals)) ∙ g .numbers)
+        (mem-at (tabulate (λ i. getD numbers i 0) m) i 0 (omega (arith, l))) in
+        let b = and-eq-true-iff (leb 1 (getD (tabulate (λ i. getD numbers i 0) m) i 0))
+        (leb (getD (tabulate (λ i. getD numbers i 0) m) i 0) (length ns)) .0 w in
+        go (getD numbers i 0) (omega (arith, leb-true 1 (getD (tabulate (λ i. getD numbers i 0) m) i 0) (b .0), v)) (omega (
+          arith,
+          leb-true (getD (tabulate (λ i. getD numbers i 0) m) i 0) (length ns) (b .1),
+          v,
+        ))
       where
         go : (k : ℕ) → 1 ≤ k → k ≤ length ns → (j : ℕ) × (k ≡ suc j) × (j < length ns)
         go zero a b = absurd (omega arith)
@@ -164,10 +187,10 @@ module _ (x : Tree) (g : Grown x) where
     abbrev path : ℕ → Parts
     path i = urnOf us (getD numbers i 0) .path
 
-    pub tree-listing : (n : ℕ) → length (x .signals) ≡ n → n ≤ 32 → m ≤ 256 → Listing T signal category path n m
+    pub tree-listing : (n : ℕ) → length (x .signals) ≡ n → n ≤ mostSignals → m ≤ mostTableUrns → Listing T signal category path n m
     tree-listing n q l o =
         record {
-          signals = map-length (map (urnOf us)) (x .signals) ∙ q;
+          signals = length-map (x .signals) (map (urnOf us)) ∙ q;
           urns =
               tabulate-same (listedUrn signal category path) (λ i. onWhat (urnOf us) (numberAt signal numbers i)) m
               (λ i k. ap (λ z. tag (getD signal i 0) (urn z (path i))) (same-cat i k))
@@ -176,7 +199,13 @@ module _ (x : Tree) (g : Grown x) where
               let w = is-node i k in
               let o : getD numbers i 0 - 1 ≡ w .0 = omega (arith, w .1) in
               let q : getD category i 0 ≡ nodeOf ns (w .0) .category = c i k ∙ ap (λ z. nodeOf ns z .category) o in
-              omega (arith, q, ltb-true (nodeOf ns (w .0) .category) (length (x .names)) (all-mem (λ n. ltb (n .category) (length (x .names))) ns (nodeOf ns (w .0)) (g .categories) (mem-at ns (w .0) (record { category = 0; parent = 0; last = [] }) (w .2))));
+              omega (
+                arith,
+                q,
+                ltb-true (nodeOf ns (w .0) .category) (length (x .names))
+                    (all-mem (λ n. ltb (n .category) (length (x .names))) ns (nodeOf ns (w .0)) (g .categories)
+                    (mem-at ns (w .0) (record { category = 0; parent = 0; last = [] }) (w .2))),
+              );
           few-categories = f .names .0 .1;
           few-signals = l;
           few-urns = o;

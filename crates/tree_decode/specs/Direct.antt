@@ -4,11 +4,11 @@ use mathlib.Core.Bool.{Bool, cond, _&&_}
 use mathlib.Core.List.{List}
 use lib.ListN.{length}
 use lib.Dec.{leb, eqb}
-use Rattle.theory_resolution.specs.Lists.{tabulate}
+use Rattle.base_numbers.specs.Numbers.{badTree, mostUrnBytes, mostUrnParts, tableBadCategory, tableBadForm, tableOutOfRange}
+use Rattle.base_lists.specs.Tests.{all, any, noTwo}
+use Rattle.base_lists.specs.Lists.{tabulate}
 use Rattle.theory_resolution.specs.Names.{Name, sameName}
 use Rattle.theory_resolution.specs.Table.{Table}
-use Rattle.base_text.specs.Text.{all}
-use Rattle.table_places.specs.Tests.{any, noTwo}
 use Rattle.table_places.specs.Verdict.{verdict}
 use Rattle.tree_sections.specs.Tree.{Tree}
 use Rattle.tree_forms.specs.Meaning.{tableOfTree, urnText}
@@ -16,11 +16,11 @@ use Rattle.tree_forms.specs.Refusals.{named, grown}
 
 -- 6: no URN of the old form is longer than 255 bytes
 unfoldable pub shortIn : List Name → Table → Bool
-shortIn names T = all (all (λ u. leb (length (urnText names u)) 255)) (T .signals)
+shortIn names T = all (all (λ u. leb (length (urnText names u)) mostUrnBytes)) (T .signals)
 
 -- 7: no URN has over 8 parts
 unfoldable pub fewParts : Table → Bool
-fewParts T = all (all (λ u. leb (length (u .path)) 8)) (T .signals)
+fewParts T = all (all (λ u. leb (length (u .path)) mostUrnParts)) (T .signals)
 
 -- some signal has a URN of category c
 abbrev pub usedBy : Table → ℕ → Bool
@@ -32,8 +32,8 @@ usedOnce names T = noTwo sameName names && all (usedBy T) (tabulate (λ c. c) (l
 
 -- the first of 6 to 12 that holds of a table with these categories' names, or 0
 unfoldable pub meant : List Name → Table → ℕ
-meant names T = cond (shortIn names T) (cond (fewParts T) (cond (usedOnce names T) (verdict T) 8) 7) 6
+meant names T = cond (shortIn names T) (cond (fewParts T) (cond (usedOnce names T) (verdict T) tableBadCategory) tableBadForm) tableOutOfRange
 
 -- the refusal of a tree
 unfoldable pub treeDirect : Tree → ℕ
-treeDirect x = cond (named x) (cond (grown x) (meant (x .names) (tableOfTree x)) 21) 7
+treeDirect x = cond (named x) (cond (grown x) (meant (x .names) (tableOfTree x)) badTree) tableBadForm

@@ -5,7 +5,8 @@ use mathlib.Core.Bool.{true, cond}
 use mathlib.Core.List.{List}
 use lib.ListN.{length, getD}
 use lib.Dec.{eqb}
-use Rattle.node_search.specs.Arrays.{stretch}
+use Rattle.base_numbers.specs.Numbers.{mostCategories, mostNodes}
+use Rattle.base_lists.specs.Cuts.{stretch}
 use Rattle.tree_sections.specs.Held.{treeHeld, TreeHeld}
 use Rattle.tree_sections.specs.declared.Counts.{Counts}
 use Rattle.tree_forms.specs.Meaning.{tableOfTree}
@@ -16,7 +17,7 @@ use Rattle.tree_decode.specs.declared.Decoded.{Decoded}
 -- every parent comes before its node, and every category is one of 8
 pub record Parented (parent category : List ℕ) (n : ℕ) : Type 0 where
   pub low : (i : ℕ) → i < n → getD parent i 0 ≤ i
-  pub few : (i : ℕ) → i < n → getD category i 0 < 8
+  pub few : (i : ℕ) → i < n → getD category i 0 < mostCategories
 
 -- each node's value is its parent's, or a first one under the root, and something more
 abbrev pub FromParent : List ℕ → (ℕ → ℕ) → (ℕ → ℕ) → List ℕ → ℕ → Type 0
@@ -39,7 +40,7 @@ pub record Measured (t nameAt nameLen category parent at len : List ℕ) (n : �
 
 -- every number is that of a node
 abbrev pub Nodes : List ℕ → ℕ → Type 0
-Nodes number m = (i : ℕ) → i < m → (1 ≤ getD number i 0) × (getD number i 0 ≤ 64)
+Nodes number m = (i : ℕ) → i < m → (1 ≤ getD number i 0) × (getD number i 0 ≤ mostNodes)
 
 -- the category of each number's node
 abbrev pub UrnCategories : (number category out : List ℕ) → ℕ → Type 0

@@ -5,10 +5,21 @@
 //   sizes.rt  how long each node's URN is: 6 and 7
 mod sizes;
 
+use base_numbers::BAD_TREE;
+use base_numbers::MOST_CATEGORIES;
+use base_numbers::MOST_NODES;
+use base_numbers::MOST_SIGNALS;
+use base_numbers::MOST_TABLE_URNS;
+use base_numbers::MOST_URN_BYTES;
+use base_numbers::MOST_URN_PARTS;
+use base_numbers::TABLE_BAD_CATEGORY;
+use base_numbers::TABLE_BAD_FORM;
+use base_numbers::TABLE_OUT_OF_RANGE;
 use tree_sections::Counts;
 use tree_sections::Sections;
 ghost use mathlib.Core.Path.{_≡_};
 ghost use lib.ListN.{length};
+ghost use Rattle.base_numbers.specs.Numbers.{mostNodes};
 ghost use Rattle.tree_sections.specs.Held.{TreeRead};
 ghost use Rattle.tree_forms.specs.Refusals.{treeRefusal};
 ghost use Rattle.tree_decode.specs.Stages.{GrownAs, FitAs, Measured, Means};
@@ -17,54 +28,54 @@ ghost use Rattle.tree_decode.specs.Stages.{GrownAs, FitAs, Measured, Mea
 pub struct Decoded {
     pub refusal: u8,
     pub sections: Sections,
-    pub size: [usize; 64],
-    pub depth: [usize; 64],
+    pub size: [usize; MOST_NODES],
+    pub depth: [usize; MOST_NODES],
 }
 
-// Refusals 8 to 11.
-fn listed(
+// The names are compared and the signals placed: refusals 8 to 11.
+fn judge_names(
     t: &[u8],
     l: Counts,
-    name_at: &[u16; 8],
-    name_len: &[u8; 8],
-    category: &[u8; 64],
-    parent: &[u8; 64],
-    at: &[u16; 64],
-    len: &[u8; 64],
-    number: &[u8; 256],
-    signal: &[u8; 256],
+    name_at: &[u16; MOST_CATEGORIES],
+    name_len: &[u8; MOST_CATEGORIES],
+    category: &[u8; MOST_NODES],
+    parent: &[u8; MOST_NODES],
+    at: &[u16; MOST_NODES],
+    len: &[u8; MOST_NODES],
+    number: &[u8; MOST_TABLE_URNS],
+    signal: &[u8; MOST_TABLE_URNS],
 ) -> u8
     requires { ⌜ FitAs (now t) (now «name_at») (now «name_len») (now category) (now parent) (now at) (now len) (now signal) (now number) l ⌝ }
     ensures { λ r. ⌜ r ≡ treeRefusal (now (t .entry)) ⌝ }
 {
     if table_names::names_distinct(t, l.categories, name_at, name_len) {
-        let mut urn = [0u8; 256];
+        let mut urn = [0u8; MOST_TABLE_URNS];
         sizes::urn_categories(l.numbers, number, category, &mut urn);
         if table_names::all_used(&urn, l.numbers, l.categories) {
-            let mut rows = [0u64; 32];
+            let mut rows = [0u64; MOST_SIGNALS];
             return table_places::by_nodes(l.signals, l.numbers, signal, &urn, number, &mut rows);
         }
-        return 8;
+        return TABLE_BAD_CATEGORY;
     }
-    8
+    TABLE_BAD_CATEGORY
 }
 
-// Refusals 6 and 7 after 21, then 8 to 11.
-fn meaning(
+// The URNs are measured: refusals 6 and 7, then the rest.
+fn judge_sizes(
     t: &[u8],
     l: Counts,
-    name_at: &[u16; 8],
-    name_len: &[u8; 8],
-    category: &[u8; 64],
-    parent: &[u8; 64],
-    at: &[u16; 64],
-    len: &[u8; 64],
-    number: &[u8; 256],
-    signal: &[u8; 256],
-    size: &mut [usize; 64],
-    depth: &mut [usize; 64],
+    name_at: &[u16; MOST_CATEGORIES],
+    name_len: &[u8; MOST_CATEGORIES],
+    category: &[u8; MOST_NODES],
+    parent: &[u8; MOST_NODES],
+    at: &[u16; MOST_NODES],
+    len: &[u8; MOST_NODES],
+    number: &[u8; MOST_TABLE_URNS],
+    signal: &[u8; MOST_TABLE_URNS],
+    size: &mut [usize; MOST_NODES],
+    depth: &mut [usize; MOST_NODES],
 ) -> u8
-    requires { ⌜ GrownAs (now t) (now «name_at») (now «name_len») (now category) (now parent) (now at) (now len) (now signal) (now number) l × (length (now size) ≡ 64) × (length (now depth) ≡ 64) ⌝ }
+    requires { ⌜ GrownAs (now t) (now «name_at») (now «name_len») (now category) (now parent) (now at) (now len) (now signal) (now number) l × (length (now size) ≡ mostNodes) × (length (now depth) ≡ mostNodes) ⌝ }
     ensures { λ r. ⌜ r ≡ treeRefusal (now (t .entry)) ⌝ }
     ensures { λ _. ⌜ Measured (now (t .entry)) (now («name_at» .entry)) (now («name_len» .entry)) (now (category .entry)) (now (parent .entry)) (now (at .entry)) (now (len .entry)) (l .nodes) (now (size .exit)) (now (depth .exit)) ⌝ }
 {
@@ -80,9 +91,9 @@ fn meaning(
         size,
     );
     sizes::depths(l.nodes, category, parent, depth);
-    if sizes::all_within(l.numbers, number, size, 255) {
-        if sizes::all_within(l.numbers, number, depth, 8) {
-            return listed(
+    if sizes::all_within(l.numbers, number, size, MOST_URN_BYTES) {
+        if sizes::all_within(l.numbers, number, depth, MOST_URN_PARTS) {
+            return judge_names(
                 t,
                 l,
                 name_at,
@@ -95,27 +106,27 @@ fn meaning(
                 signal,
             );
         }
-        return 7;
+        return TABLE_BAD_FORM;
     }
-    6
+    TABLE_OUT_OF_RANGE
 }
 
-// What the reading answered, then refusals 7 and 21, then the others.
-fn judged<'a>(
+// What the reading answered, then refusals 7 and 21, then the rest.
+fn judge<'a>(
     t: &[u8],
     l: Counts,
-    name_at: &'a [u16; 8],
-    name_len: &'a [u8; 8],
-    category: &'a [u8; 64],
-    parent: &'a [u8; 64],
-    at: &'a [u16; 64],
-    len: &'a [u8; 64],
-    number: &'a [u8; 256],
-    signal: &'a [u8; 256],
-    size: &mut [usize; 64],
-    depth: &mut [usize; 64],
+    name_at: &'a [u16; MOST_CATEGORIES],
+    name_len: &'a [u8; MOST_CATEGORIES],
+    category: &'a [u8; MOST_NODES],
+    parent: &'a [u8; MOST_NODES],
+    at: &'a [u16; MOST_NODES],
+    len: &'a [u8; MOST_NODES],
+    number: &'a [u8; MOST_TABLE_URNS],
+    signal: &'a [u8; MOST_TABLE_URNS],
+    size: &mut [usize; MOST_NODES],
+    depth: &mut [usize; MOST_NODES],
 ) -> u8
-    requires { ⌜ TreeRead (now t) (now «name_at») (now «name_len») (now category) (now parent) (now at) (now len) (now signal) (now number) l × (length (now size) ≡ 64) × (length (now depth) ≡ 64) ⌝ }
+    requires { ⌜ TreeRead (now t) (now «name_at») (now «name_len») (now category) (now parent) (now at) (now len) (now signal) (now number) l × (length (now size) ≡ mostNodes) × (length (now depth) ≡ mostNodes) ⌝ }
     ensures { λ r. ⌜ r ≡ treeRefusal (now (t .entry)) ⌝ }
     ensures { λ _. ⌜ (treeRefusal (now (t .entry)) ≡ 0 → Measured (now (t .entry)) (now («name_at» .entry)) (now («name_len» .entry)) (now (category .entry)) (now (parent .entry)) (now (at .entry)) (now (len .entry)) (l .nodes) (now (size .exit)) (now (depth .exit))) ⌝ }
 {
@@ -133,7 +144,7 @@ fn judged<'a>(
                     len,
                     number,
                 ) {
-                    return meaning(
+                    return judge_sizes(
                         t,
                         l,
                         name_at,
@@ -148,11 +159,11 @@ fn judged<'a>(
                         depth,
                     );
                 }
-                return 21;
+                return BAD_TREE;
             }
-            return 7;
+            return TABLE_BAD_FORM;
         }
-        return 7;
+        return TABLE_BAD_FORM;
     }
     l.fault
 }
@@ -170,9 +181,9 @@ pub fn decode(t: &[u8]) -> Decoded
         signals: s.counts.signals,
         numbers: s.counts.numbers,
     };
-    let mut size = [0usize; 64];
-    let mut depth = [0usize; 64];
-    let refusal = judged(
+    let mut size = [0usize; MOST_NODES];
+    let mut depth = [0usize; MOST_NODES];
+    let refusal = judge(
         t,
         l,
         &s.name_at,

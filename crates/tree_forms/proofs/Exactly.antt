@@ -9,6 +9,8 @@ use lib.ListN.{length, replicate}
 use lib.Seq.{take-append-seam}
 use lib.Dec.{eqb, leb, ltb}
 use borrow.Author.Tests.{leb-true, leb-false, eq-eqb, eqb-true}
+use Rattle.base_numbers.specs.Numbers.{mostTableBytes}
+use Rattle.base_lists.proofs.Bools.{unless}
 use Rattle.table_sections.specs.Stored.{Read, fault, got, Stored}
 use Rattle.table_sections.proofs.FaultLaws.{fault-if, fault-some}
 use Rattle.table_decode.specs.Tables.{formed, listed, tableIn, single, zeroSilent, distinct, fewNodes, verdict, judged, tableRefusal}
@@ -20,11 +22,6 @@ use Rattle.tree_forms.specs.Conversion.{treeForm, oldForm, refused, fill
 use Rattle.tree_forms.specs.Claims.{Converts, ToTree22, FromTree22}
 use Rattle.tree_forms.proofs.Theorems.{fault-tree, fits-old, fits-not}
 
--- a test that gives one of two numbers
-unless : (b : Bool) (n x y : ℕ) → x ≢ n → y ≢ n → cond b x y ≢ n
-unless true n x y p q = p
-unless false n x y p q = q
-
 -- what a table or a tree is refused with is not 22
 judged-not-22 : (s : Stored) → judged s ≢ 22
 unfolding judged verdict
@@ -33,7 +30,8 @@ judged-not-22 s =
     (unless (listed s) 22 _ 8
     (unless (single (tableIn s)) 22 _ 9
     (unless (zeroSilent (tableIn s)) 22 _ 10
-    (unless (distinct (tableIn s)) 22 _ 11 (unless (fewNodes (tableIn s)) 22 0 12 (λ e. omega arith) (λ e. omega arith)) (λ e. omega arith)) (λ e. omega arith)) (λ e. omega arith)) (λ e. omega arith)) (λ e. omega arith)
+    (unless (distinct (tableIn s)) 22 _ 11 (unless (fewNodes (tableIn s)) 22 0 12 (λ e. omega arith) (λ e. omega arith))
+    (λ e. omega arith)) (λ e. omega arith)) (λ e. omega arith)) (λ e. omega arith)) (λ e. omega arith)
 
 table-not-22 : (t : List ℕ) → tableRefusal t ≢ 22
 table-not-22 t e = go (refusal-numbers t)
@@ -48,7 +46,7 @@ tree-not-22 t = go (treeSections t) refl
   where
     go : (r : Read Tree) → treeSections t ≡ r → treeJudgedRead r ≢ 22
     go (fault k) e = λ q.
-        let b = fault-if (ltb 8192 (length t)) (fault 4) (tree t) (fault-some 4 (omega arith, omega arith)) (fault-tree t) k e in
+        let b = fault-if (ltb mostTableBytes (length t)) (fault 4) (tree t) (fault-some 4 (omega arith, omega arith)) (fault-tree t) k e in
         omega (arith, b .1)
     go (got x p) e =
         unless (named x) 22 _ 7
@@ -89,10 +87,11 @@ to-tree-22 t room =
 pub from-tree-22 : FromTree22
 unfolding fromTree
 from-tree-22 t room =
-    converts (treeRefusal t) (fitsOld (length (oldForm t)) room) (oldForm t) room ((8192 < length (oldForm t)) ⊎ (room < length (oldForm t))) (tree-not-22 t)
+    converts (treeRefusal t) (fitsOld (length (oldForm t)) room) (oldForm t) room ((mostTableBytes < length (oldForm t))
+    ⊎ (room < length (oldForm t))) (tree-not-22 t)
     (λ e n. let h = fits-old (length (oldForm t)) room e in go (length (oldForm t)) (h .0) (h .1) n)
     (fits-not (length (oldForm t)) room)
   where
-    go : (n : ℕ) → n ≤ 8192 → n ≤ room → (8192 < n) ⊎ (room < n) → ⊥
+    go : (n : ℕ) → n ≤ mostTableBytes → n ≤ room → (mostTableBytes < n) ⊎ (room < n) → ⊥
     go n h k (inl l) = omega arith
     go n h k (inr l) = omega arith

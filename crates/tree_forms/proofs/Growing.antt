@@ -10,19 +10,22 @@ use lib.ListN.{length, getD, take, drop, length-append, length-drop, List·getD-
 use lib.Seq.{drop-cons, take-append-seam, getD-append-seam}
 use lib.Dec.{eqb, leb, ltb}
 use borrow.Author.Tests.{eq-eqb, ne-eqb, eqb-true, leb-true, le-leb}
-use Rattle.theory_resolution.specs.Lists.{sameList, indexBy, Distinct, allBelow as forall}
+use Rattle.base_lists.proofs.Numbers.{within-is}
+use Rattle.base_lists.proofs.Tests.{all-mem}
+use Rattle.base_lists.specs.Tests.{all}
+use Rattle.base_lists.specs.Numbers.{within}
+use Rattle.base_lists.proofs.Lists.{Extends, extends-self, extends-trans, at-extends, mem-at, list-exact, member-of, member-extends, index-member}
+use Rattle.base_lists.proofs.Lists.{index-take, index-at}
+use Rattle.base_lists.proofs.Below.{all-to, all-of}
+use Rattle.base_lists.proofs.Bools.{same-test, byTest}
+use Rattle.base_lists.specs.Lists.{sameList, indexBy, Distinct, allBelow as forall}
 use Rattle.theory_resolution.specs.Names.{Name, Parts}
 use Rattle.theory_resolution.specs.Table.{Urn, urn, Table}
 use Rattle.theory_resolution.specs.Nodes.{sameUrn, member, nodes, isNode, number, nodeAt}
-use Rattle.theory_resolution.proofs.Lists.{same-test, all-to, all-of, Extends, extends-self, extends-trans, at-extends, mem-at, list-exact, member-of, member-extends, index-member, index-take, index-at}
 use Rattle.theory_resolution.proofs.Names.{snoc-view}
 use Rattle.theory_resolution.proofs.Nodes.{urn-exact, root-free, nodes-all, urn-node}
 use Rattle.theory_resolution.proofs.Numbers.{Parents, nodes-ordered, number-node}
-use Rattle.base_ascii.specs.Ascii.{within}
-use Rattle.base_text.specs.Text.{all}
-use Rattle.base_text.proofs.Fields.{byTest}
 use Rattle.table_nodes.specs.Nodes.{Numbered}
-use Rattle.table_decode.proofs.Accepting.{all-mem}
 use Rattle.tree_sections.specs.Tree.{Node, nodeOf, Tree}
 use Rattle.tree_forms.specs.Meaning.{urnOf, nodeUrn, urnsAfter, urnsOf, tableOfTree, front, lastName, nodeIn, numberIn, treeIn}
 use Rattle.tree_forms.specs.Refusals.{numbered, parented, allParented, inOrder, grown}
@@ -120,7 +123,8 @@ module _ (ns : List Node) where
     unfolding under parented
     under-parented = rw is-node (go (n .parent))
       where
-        go : (k : ℕ) → eqb k 0 || (leb k (length a) && eqb (urnOf a k .cat) (n .category)) ≡ eqb k 0 || (leb k (length a) && eqb (nodeOf ns (k - 1) .category) (n .category))
+        go : (k : ℕ) → eqb k 0 || (leb k (length a) && eqb (urnOf a k .cat) (n .category))
+            ≡ eqb k 0 || (leb k (length a) && eqb (nodeOf ns (k - 1) .category) (n .category))
         go zero = refl
         go (suc j) =
             let o : suc j - 1 ≡ j = omega arith in
@@ -175,7 +179,8 @@ grow ns a (u ∷ l) e f ps s =
         let y : lastName (u .path) ≡ x = ap lastName (w .2) ∙ last-snoc p x in
         let k : ℕ = number ns (u .cat) (front (u .path)) in
         let n : Numbered a (u .cat) p k = rw q (first-numbered ns a (record { more = u ∷ l; joined = e }) f (u .cat) p (ps .0 p x (w .2))) in
-        let r : urnOf a k .path ++ lastName (u .path) ∷ [] ≡ u .path = ap₂ (λ (b : Parts) (z : Name). b ++ z ∷ []) (path-numbered a (u .cat) p k n) y ∙ sym (w .2) in
+        let r : urnOf a k .path ++ lastName (u .path) ∷ [] ≡ u .path =
+        ap₂ (λ (b : Parts) (z : Name). b ++ z ∷ []) (path-numbered a (u .cat) p k n) y ∙ sym (w .2) in
         let v : nodeUrn a (nodeIn ns u) ≡ u = ap (urn (u .cat)) r in (
           ap (λ (z : Urn). urnsAfter (a ++ z ∷ []) (map (nodeIn ns) l)) v ∙ ih .0,
           ap₂ _&&_ (parent-numbered a (u .cat) p k (lastName (u .path)) n) (ap (λ (z : Urn). allUnder (a ++ z ∷ []) (map (nodeIn ns) l)) v ∙ ih .1),
@@ -269,21 +274,25 @@ grown-is x e =
     let a = and-eq-true-iff (numbered x) (allParented (x .nodes) && inOrder x) .0 e in
     let b = and-eq-true-iff (all (λ n. ltb (n .category) (length (x .names))) (x .nodes)) (all (all (within 1 (length (x .nodes)))) (x .signals)) .0 (a .0) in
     let c = and-eq-true-iff (allParented (x .nodes)) (inOrder x) .0 (a .1) in
-    record { categories = b .0; numbers = b .1; parents = under-is (x .nodes) ∙ c .0; order = list-exact urn-exact .to (urnsOf x) (nodes (tableOfTree x)) (c .1) }
+    record {
+      categories = b .0;
+      numbers = b .1;
+      parents = under-is (x .nodes) ∙ c .0;
+      order = list-exact urn-exact .to (urnsOf x) (nodes (tableOfTree x)) (c .1);
+    }
 
 pub is-grown : (x : Tree) → Grown x → grown x ≡ true
 unfolding grown numbered inOrder
 is-grown x g =
-    ap₂ _&&_ (ap₂ _&&_ (g .categories) (g .numbers)) (ap₂ _&&_ (sym (under-is (x .nodes)) ∙ g .parents) (ap (λ (us : List Urn). sameList sameUrn us (nodes (tableOfTree x))) (g .order) ∙ list-exact urn-exact .self (nodes (tableOfTree x))))
-
-within-is : (lo hi x : ℕ) → within lo hi x ≡ true → (lo ≤ x) × (x ≤ hi)
-within-is lo hi x e = let b = and-eq-true-iff (leb lo x) (leb x hi) .0 e in (leb-true lo x (b .0), leb-true x hi (b .1))
+    ap₂ _&&_ (ap₂ _&&_ (g .categories) (g .numbers)) (ap₂ _&&_ (sym (under-is (x .nodes)) ∙ g .parents)
+    (ap (λ (us : List Urn). sameList sameUrn us (nodes (tableOfTree x))) (g .order) ∙ list-exact urn-exact .self (nodes (tableOfTree x))))
 
 module _ (x : Tree) (g : Grown x) where
   -- a signal's number is that of a node
   pub signal-number : (sig : List ℕ) → List·Memᴰ sig (x .signals) → (k : ℕ) → List·Memᴰ k sig → (j : ℕ) × (k ≡ suc j) × (j < length (urnsOf x))
   signal-number sig m k i =
-      go k (within-is 1 (length (x .nodes)) k (all-mem (within 1 (length (x .nodes))) sig k (all-mem (all (within 1 (length (x .nodes)))) (x .signals) sig (g .numbers) m) i))
+      go k (within-is 1 (length (x .nodes)) k
+      (all-mem (within 1 (length (x .nodes))) sig k (all-mem (all (within 1 (length (x .nodes)))) (x .signals) sig (g .numbers) m) i))
     where
       go : (k : ℕ) → (1 ≤ k) × (k ≤ length (x .nodes)) → (j : ℕ) × (k ≡ suc j) × (j < length (urnsOf x))
       go zero b = absurd (omega arith)
@@ -305,5 +314,6 @@ module _ (x : Tree) (g : Grown x) where
       maps-same (numberIn us) (urnOf us) (x .signals)
       (λ sig m k i. let w = signal-number sig m k i in ap (λ n. numberIn us (urnOf us n)) (w .1) ∙ number-nth us no-twice (w .0) (w .2) ∙ sym (w .1)) in
       let c : map (nodeIn (nodes (tableOfTree x))) (nodes (tableOfTree x)) ≡ x .nodes = ap (λ (us : List Urn). map (nodeIn us) us) (sym (g .order)) ∙ a in
-      let d : map (map (numberIn (nodes (tableOfTree x)))) (tableOfTree x .signals) ≡ x .signals = ap (λ (us : List Urn). map (map (numberIn us)) (tableOfTree x .signals)) (sym (g .order)) ∙ b in
+      let d : map (map (numberIn (nodes (tableOfTree x)))) (tableOfTree x .signals) ≡ x .signals =
+      ap (λ (us : List Urn). map (map (numberIn us)) (tableOfTree x .signals)) (sym (g .order)) ∙ b in
       λ i. record { names = x .names; nodes = c i; signals = d i }

@@ -3,30 +3,36 @@ use Prim.Native.Nat.{ℕ, zero, suc, _*_, _≤_, _<_}
 use mathlib.Core.Path.{_≡_, refl, ap, ap₂, sym, _∙_, subst}
 use mathlib.Core.Logic.{_⊎_, inl, inr, _≢_}
 use mathlib.Core.Bool.{Bool, true, _&&_, and-eq-true-iff}
-use mathlib.Core.List.{List, [], _∷_, _++_, map, List·Memᴰ, List·Memᴰ·head, List·Memᴰ·tail, List·Memᴰ·append-cases, List·Memᴰ·not-nil, Memᴰ·append-left, Memᴰ·append-right}
+use mathlib.Core.List.{List, [], _∷_, _++_, map, List·Memᴰ, List·Memᴰ·head, List·Memᴰ·tail, List·Memᴰ·append-cases, List·Memᴰ·not-nil}
+use mathlib.Core.List.{Memᴰ·append-left, Memᴰ·append-right}
 use native.Mathlib.Omega.{arith}
 use native.Mathlib.Decide.{decLt}
-use lib.ListN.{length, getD, length-append, List·getD-eq-default}
+use lib.ListN.{length, getD, length-append, List·getD-eq-default, length-map}
 use lib.Dec.{leb, ltb}
 use borrow.Author.Tests.{leb-true, le-leb, ltb-true, lt-ltb}
+use Rattle.base_numbers.specs.Numbers.{mostNodes, mostUrnBytes}
+use Rattle.base_lists.specs.Lists.{each}
+use Rattle.base_lists.proofs.Tests.{all-mem}
+use Rattle.base_lists.specs.Cuts.{upTo, past}
+use Rattle.base_lists.specs.Tests.{all}
+use Rattle.base_lists.specs.Numbers.{within}
+use Rattle.base_lists.proofs.Lists.{mem-at, map-mem}
 use Rattle.theory_resolution.specs.Names.{Name, Parts}
 use Rattle.theory_resolution.specs.Table.{Urn, urn, Table}
 use Rattle.theory_resolution.specs.Nodes.{nodes, nodeAt}
-use Rattle.theory_resolution.proofs.Lists.{mem-at}
 use Rattle.theory_resolution.proofs.Names.{snoc-view}
 use Rattle.theory_resolution.proofs.Nodes.{nodes-all, urn-node}
 use Rattle.theory_resolution.proofs.Numbers.{number-node, number-le}
-use Rattle.base_ascii.specs.Ascii.{within}
-use Rattle.base_text.specs.Text.{all, upTo, past, fields, afterColons}
+use Rattle.base_text.specs.Text.{fields, afterColons}
 use Rattle.urn_names.specs.Urn.{noCapital, storedName, urnOk}
 use Rattle.table_sections.specs.Stored.{got, Stored, stored}
 use Rattle.table_decode.specs.Tables.{toUrn, tableIn}
 use Rattle.table_places.specs.Verdict.{fewNodes}
-use Rattle.table_decode.proofs.Judging.{map-length}
-use Rattle.table_decode.proofs.Accepting.{all-mem, map-mem, fields-parts, Passed, from-stored, formed-urn, known, some-part, used}
+use Rattle.table_decode.proofs.Accepting.{fields-parts, Passed, from-stored, formed-urn, known, some-part, used}
 use Rattle.tree_sections.specs.Tree.{Node, Tree}
-use Rattle.tree_forms.specs.Bytes.{each, section, textBytes, numberBytes, nodeBytes, treeBytes}
-use Rattle.tree_forms.specs.Meaning.{urnOf, nodeUrn, urnsAfter, urnsOf, tableOfTree, front, lastName, nodeIn, numberIn, treeIn, urnText, storedIn, treeOf, storedOf}
+use Rattle.tree_forms.specs.Bytes.{section, textBytes, numberBytes, nodeBytes, treeBytes}
+use Rattle.tree_forms.specs.Meaning.{urnOf, nodeUrn, urnsAfter, urnsOf, tableOfTree, front, lastName, nodeIn, numberIn, treeIn, urnText}
+use Rattle.tree_forms.specs.Meaning.{storedIn, treeOf, storedOf}
 use Rattle.tree_forms.specs.Refusals.{named, short}
 use Rattle.tree_forms.proofs.Writing.{Every, every-cons, FitsByte, FitsMany, FitsNode, FitsStored, FitsTree}
 use Rattle.tree_forms.proofs.Texts.{name-is, Sound, name-plain, fields-small, both-names}
@@ -55,7 +61,8 @@ all-front p q e = all-every storedName p (λ x m. all-mem storedName (p ++ q) x 
 all-joined : (p : Parts) (x : Name) → all storedName p ≡ true → storedName x ≡ true → all storedName (p ++ x ∷ []) ≡ true
 all-joined p x e f =
     all-every storedName (p ++ x ∷ [])
-    (every-append (λ y. storedName y ≡ true) p (x ∷ []) (λ y m. all-mem storedName p y e m) (every-cons (λ y. storedName y ≡ true) x [] f (λ y m. absurd (List·Memᴰ·not-nil m))))
+    (every-append (λ y. storedName y ≡ true) p (x ∷ []) (λ y m. all-mem storedName p y e m)
+    (every-cons (λ y. storedName y ≡ true) x [] f (λ y m. absurd (List·Memᴰ·not-nil m))))
 
 no-end : (p : Parts) (x : Name) → p ++ x ∷ [] ≢ []
 no-end p x e = omega (arith, length-append p (x ∷ []), ap length e)
@@ -71,7 +78,8 @@ module _ (names : List Name) where
       go (yes h) = s (nodeAt a j) (mem-at a j (urn 0 []) h) .named
       go (no h) = ap (λ (u : Urn). all storedName (u .path)) (List·getD-eq-default a (urn 0 []) {n = j} (omega arith))
 
-  after-sound : (a : List Urn) (ns : List Node) → Every (Sound names) a → all (λ n. ltb (n .category) (length names)) ns ≡ true → all (λ n. storedName (n .last)) ns ≡ true
+  after-sound : (a : List Urn) (ns : List Node) → Every (Sound names) a → all (λ n. ltb (n .category) (length names)) ns ≡ true
+      → all (λ n. storedName (n .last)) ns ≡ true
       → Every (Sound names) (urnsAfter a ns)
   unfolding urnsAfter all
   after-sound a [] s e f = s
@@ -80,7 +88,11 @@ module _ (names : List Name) where
       let c = and-eq-true-iff (storedName (n .last)) (all (λ n. storedName (n .last)) ns) .0 f in
       let p : Parts = urnOf a (n .parent) .path in
       let u : Sound names (nodeUrn a n) =
-      record { known = ltb-true (n .category) (length names) (b .0); some-part = no-end p (n .last); named = all-joined p (n .last) (path-named a s (n .parent)) (c .0) } in
+      record {
+        known = ltb-true (n .category) (length names) (b .0);
+        some-part = no-end p (n .last);
+        named = all-joined p (n .last) (path-named a s (n .parent)) (c .0);
+      } in
       after-sound (a ++ nodeUrn a n ∷ []) ns
       (every-append (Sound names) a (nodeUrn a n ∷ []) s (every-cons (Sound names) (nodeUrn a n) [] u (λ v m. absurd (List·Memᴰ·not-nil m))))
       (b .1) (c .1)
@@ -117,7 +129,8 @@ pub stored-fits : (x : Tree) → FitsTree x → named x ≡ true → Grown x →
 unfolding storedIn short
 stored-fits x f o g e =
     let T : Table = tableOfTree x in
-    let l : length (map (map (urnText (x .names))) (T .signals)) ≡ length (x .signals) = map-length (map (urnText (x .names))) (T .signals) ∙ map-length (map (urnOf (urnsOf x))) (x .signals) in
+    let l : length (map (map (urnText (x .names))) (T .signals)) ≡ length (x .signals) = length-map (T .signals) (map (urnText (x .names)))
+    ∙ length-map (x .signals) (map (urnOf (urnsOf x))) in
     record {
       names = f .names;
       signals = (
@@ -125,14 +138,16 @@ stored-fits x f o g e =
         λ us m.
             let a = map-mem (map (urnText (x .names))) (T .signals) us m in
             let b = map-mem (map (urnOf (urnsOf x))) (x .signals) (a .0) (a .1) in
-            let k : length us ≡ length (b .0) = ap length (a .2) ∙ map-length (urnText (x .names)) (a .0) ∙ ap length (b .2) ∙ map-length (urnOf (urnsOf x)) (b .0) in
+            let k : length us ≡ length (b .0) = ap length (a .2) ∙ length-map (a .0) (urnText (x .names)) ∙ ap length (b .2)
+            ∙ length-map (b .0) (urnOf (urnsOf x)) in
             let h = f .signals .1 (b .0) (b .1) in
-            let s : all (λ u. leb (length u) 255) us ≡ true = all-mem (all (λ u. leb (length u) 255)) (map (map (urnText (x .names))) (T .signals)) us e m in (
+            let s : all (λ u. leb (length u) mostUrnBytes) us ≡ true =
+            all-mem (all (λ u. leb (length u) mostUrnBytes)) (map (map (urnText (x .names))) (T .signals)) us e m in (
               (omega arith, omega (arith, k, h .0 .1)),
               λ w i.
                   let c = map-mem (urnText (x .names)) (a .0) w (subst (λ (l : List (List ℕ)). List·Memᴰ w l) (a .2) i) in (
                     omega (arith, ap length (c .2), text-some (x .names) (c .0) (tree-sound x o g (a .0) (a .1) (c .0) (c .1))),
-                    leb-true (length w) 255 (all-mem (λ u. leb (length u) 255) us w s i),
+                    leb-true (length w) 255 (all-mem (λ u. leb (length u) mostUrnBytes) us w s i),
                   ),
             ),
       );
@@ -153,7 +168,8 @@ last-named names u s = go (snoc-view (u .path))
     go (inl z) = absurd (s .some-part z)
     go (inr w) =
         let e : all storedName (w .0 ++ w .1 ∷ []) ≡ true = ap (all storedName) (sym (w .2)) ∙ s .named in
-        ap (λ (p : Parts). storedName (lastName p)) (w .2) ∙ ap storedName (last-snoc (w .0) (w .1)) ∙ all-mem storedName (w .0 ++ w .1 ∷ []) (w .1) e (Memᴰ·append-right (w .0) (List·Memᴰ·head refl))
+        ap (λ (p : Parts). storedName (lastName p)) (w .2) ∙ ap storedName (last-snoc (w .0) (w .1))
+        ∙ all-mem storedName (w .0 ++ w .1 ∷ []) (w .1) e (Memᴰ·append-right (w .0) (List·Memᴰ·head refl))
 
 -- the tree of a table with sound URNs passes 7 and 21
 module _ (names : List Name) (T : Table) (c : T .cats ≡ length names) (s : Every (Every (Sound names)) (T .signals)) where
@@ -174,11 +190,12 @@ module _ (names : List Name) (T : Table) (c : T .cats ≡ length names) (s : Eve
   unfolding treeIn
   tree-grown =
       let ns : List Node = map (nodeIn (nodes T)) (nodes T) in
-      let l : length ns ≡ length (nodes T) = map-length (nodeIn (nodes T)) (nodes T) in
+      let l : length ns ≡ length (nodes T) = length-map (nodes T) (nodeIn (nodes T)) in
       record {
         categories =
             all-every (λ n. ltb (n .category) (length names)) ns
-            (every-map (λ n. ltb (n .category) (length names) ≡ true) (nodeIn (nodes T)) (nodes T) (λ u m. lt-ltb (u .cat) (length names) (nodes-sound names T s u m .known)));
+            (every-map (λ n. ltb (n .category) (length names) ≡ true) (nodeIn (nodes T)) (nodes T)
+            (λ u m. lt-ltb (u .cat) (length names) (nodes-sound names T s u m .known)));
         numbers =
             all-every (all (within 1 (length ns))) (map (map (numberIn (nodes T))) (T .signals))
             (every-map (λ ks. all (within 1 (length ns)) ks ≡ true) (map (numberIn (nodes T))) (T .signals)
@@ -203,7 +220,8 @@ module _ (t : List ℕ) (s : Stored) (q : ℕ) (r : stored t ≡ got s q) (g : P
       let a = from-stored t s q r g sig m u i in
       let o = formed-urn t s q r g (a .0) (a .1) (a .2) (a .3) in
       let f = fields-parts (a .2) o in
-      let e : all storedName (upTo 58 (a .2) ∷ fields 58 (past 58 (a .2))) ≡ true = ap (all storedName) (sym (f .0)) ∙ both-names (fields 58 (a .2)) (fields-small (a .2) (small (a .2) o)) (f .2) in
+      let e : all storedName (upTo 58 (a .2) ∷ fields 58 (past 58 (a .2))) ≡ true = ap (all storedName) (sym (f .0))
+      ∙ both-names (fields 58 (a .2)) (fields-small (a .2) (small (a .2) o)) (f .2) in
       record {
         known = known t s q r g sig m u i;
         some-part = some-part t s q r g sig m u i;
@@ -218,12 +236,12 @@ module _ (t : List ℕ) (s : Stored) (q : ℕ) (r : stored t ≡ got s q) (g : P
   unfolding treeIn fewNodes
   tree-fits f =
       let T : Table = tableIn s in
-      let l : length (map (nodeIn (nodes T)) (nodes T)) ≡ length (nodes T) = map-length (nodeIn (nodes T)) (nodes T) in
-      let h : length (nodes T) ≤ 64 = leb-true (length (nodes T)) 64 (g .few) in
+      let l : length (map (nodeIn (nodes T)) (nodes T)) ≡ length (nodes T) = length-map (nodes T) (nodeIn (nodes T)) in
+      let h : length (nodes T) ≤ mostNodes = leb-true (length (nodes T)) mostNodes (g .few) in
       let a = used t s q r g 0 (f .names .0 .0) in
       let b = urn-number (s .names) T refl stored-sound (a .0) (a .1) (a .2) (a .3) in
-      let i = map-length (map (toUrn (s .names))) (s .signals) in
-      let j = map-length (map (numberIn (nodes T))) (T .signals) in
+      let i = length-map (s .signals) (map (toUrn (s .names))) in
+      let j = length-map (T .signals) (map (numberIn (nodes T))) in
       record {
         names = f .names;
         nodes = (
@@ -242,10 +260,13 @@ module _ (t : List ℕ) (s : Stored) (q : ℕ) (r : stored t ≡ got s q) (g : P
           every-map (FitsMany 0 8 (FitsByte 0 255)) (map (numberIn (nodes T))) (T .signals)
               (every-map (λ sig. FitsMany 0 8 (FitsByte 0 255) (map (numberIn (nodes T)) sig)) (map (toUrn (s .names))) (s .signals)
               (λ us m.
-              let k = map-length (toUrn (s .names)) us in
-              let o = map-length (numberIn (nodes T)) (map (toUrn (s .names)) us) in (
+              let k = length-map us (toUrn (s .names)) in
+              let o = length-map (map (toUrn (s .names)) us) (numberIn (nodes T)) in (
                 (omega arith, omega (arith, k, o, f .signals .1 us m .0 .1)),
-                every-map (FitsByte 0 255) (numberIn (nodes T)) (map (toUrn (s .names)) us) (λ u n. (omega arith, omega (arith, number-le (nodes T) (u .cat) (u .path), h))),
+                every-map (FitsByte 0 255) (numberIn (nodes T)) (map (toUrn (s .names)) us) (λ u n. (
+                  omega arith,
+                  omega (arith, number-le (nodes T) (u .cat) (u .path), h),
+                )),
               ))),
         );
       }
@@ -253,7 +274,8 @@ module _ (t : List ℕ) (s : Stored) (q : ℕ) (r : stored t ≡ got s q) (g : P
 -- the old form of a stored table can hold its paths
 pub fits-short : (s : Stored) → FitsStored s → short s ≡ true
 unfolding short
-fits-short s f = all-every (all (λ u. leb (length u) 255)) (s .signals) (λ us m. all-every (λ u. leb (length u) 255) us (λ u i. le-leb (length u) 255 (f .signals .1 us m .1 u i .1)))
+fits-short s f = all-every (all (λ u. leb (length u) mostUrnBytes)) (s .signals)
+    (λ us m. all-every (λ u. leb (length u) mostUrnBytes) us (λ u i. le-leb (length u) mostUrnBytes (f .signals .1 us m .1 u i .1)))
 
 -- how long the tree form can be
 each-length : {A : Type 0} (w : A → List ℕ) (n : ℕ) (xs : List A) → Every (λ x. length (w x) ≤ n) xs → length (each w xs) ≤ length xs * n

@@ -8,23 +8,27 @@ use native.Mathlib.Omega.{arith}
 use lib.ListN.{length, getD, length-append, length-drop}
 use lib.Dec.{eqb, leb}
 use borrow.Author.Tests.{ne-eqb, eqb-true, leb-true}
-use Rattle.theory_resolution.specs.Lists.{indexBy, Distinct}
+use Rattle.base_numbers.specs.Numbers.{mostNameBytes, mostNodes}
+use Rattle.base_lists.proofs.Tests.{all-join, all-mem}
+use Rattle.base_lists.proofs.Cuts.{past-drop}
+use Rattle.base_lists.proofs.Bools.{byTest}
+use Rattle.base_lists.specs.Cuts.{upTo, past}
+use Rattle.base_lists.specs.Tests.{all, noTwo, any}
+use Rattle.base_lists.specs.Numbers.{within}
+use Rattle.base_lists.proofs.Lists.{index-member, index-at, mem-at}
+use Rattle.base_lists.specs.Lists.{indexBy, Distinct}
 use Rattle.theory_resolution.specs.Names.{Name, Parts, sameName}
 use Rattle.theory_resolution.specs.Table.{Urn, urn, Table}
-use Rattle.theory_resolution.proofs.Lists.{index-member, index-at, mem-at}
 use Rattle.theory_resolution.proofs.Names.{name-exact}
-use Rattle.base_ascii.specs.Ascii.{within}
-use Rattle.base_text.specs.Text.{all, upTo, past, fields, onFirst, afterColons}
+use Rattle.base_text.specs.Text.{fields, onFirst, afterColons}
 use Rattle.urn_names.specs.Names.{labelByte, labelOk, nameOk}
 use Rattle.urn_names.specs.Urn.{notCapital, noCapital, storedName, urnOk}
-use Rattle.base_text.proofs.Fields.{byTest, past-drop, fields-first, fields-more, fields-last, fields-join}
+use Rattle.base_text.proofs.Fields.{fields-first, fields-more, fields-last, fields-join}
 use Rattle.table_sections.specs.Stored.{Stored}
-use Rattle.table_places.proofs.TestLaws.{all-join}
-use Rattle.table_places.specs.Tests.{noTwo, any}
 use Rattle.table_decode.specs.Tables.{formed, uses, listed, toUrn, tableIn}
 use Rattle.table_names.specs.Categories.{isListed}
 use Rattle.table_decode.proofs.Judging.{two-distinct}
-use Rattle.table_decode.proofs.Accepting.{all-mem, fields-parts}
+use Rattle.table_decode.proofs.Accepting.{fields-parts}
 use Rattle.tree_forms.specs.Meaning.{urnText, storedIn}
 use Rattle.tree_forms.proofs.Writing.{Every, FitsText}
 
@@ -65,7 +69,7 @@ labels-whole [] e f = refl
 labels-whole (x ∷ s) e f =
     byTest (eqb x 64)
     (λ h.
-    let n : eqb x 58 ≡ false = ap (λ (z : ℕ). eqb z 58) (eqb-true x 64 h) in
+    let n : eqb x 58 ≡ false = ap (λ (z : ℕ). eqb z 58) (eqb-true x mostNodes h) in
     simp n (ap (λ (z : List ℕ). x ∷ z) (label-whole s (rw h at f))))
     (λ h.
     let g : all labelByte (x ∷ upTo 64 s) ≡ true = rw h at e in
@@ -73,7 +77,7 @@ labels-whole (x ∷ s) e f =
     simp (other-byte 58 x refl (a .0)) (ap (λ (z : List ℕ). x ∷ z) (labels-whole s (a .1) (rw h at f))))
 
 -- a name has 1 to 55 bytes, and no colon
-pub name-is : (s : List ℕ) → nameOk s ≡ true → FitsText 55 s × (upTo 58 s ≡ s)
+pub name-is : (s : List ℕ) → nameOk s ≡ true → FitsText mostNameBytes s × (upTo 58 s ≡ s)
 unfolding nameOk
 name-is s e =
     byTest (labelOk s)
@@ -203,7 +207,8 @@ text-again names w e h =
     tail-same k l e = cc
 
 -- the table that is stored, of a table
-pub table-again : (names : List Name) (T : Table) → all storedName names ≡ true → noTwo sameName names ≡ true → T .cats ≡ length names → Every (Every (Sound names)) (T .signals)
+pub table-again : (names : List Name) (T : Table) → all storedName names ≡ true → noTwo sameName names ≡ true → T .cats ≡ length names
+    → Every (Every (Sound names)) (T .signals)
     → tableIn (storedIn names T) ≡ T
 unfolding storedIn
 table-again names T o d n s =

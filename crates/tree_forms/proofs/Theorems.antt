@@ -11,15 +11,15 @@ use lib.ListN.{length, replicate, length-append, length-replicate}
 use lib.Seq.{take-append-seam, drop-append-seam}
 use lib.Dec.{eqb, leb, ltb}
 use borrow.Author.Tests.{le-ltb, le-leb, lt-leb, leb-true, leb-false, eq-eqb}
+use Rattle.base_numbers.specs.Numbers.{mostNameBytes, mostNodes, mostSignals, mostTableBytes}
+use Rattle.base_lists.proofs.Bools.{byTest}
+use Rattle.base_lists.specs.Tests.{all, noTwo}
 use Rattle.theory_resolution.specs.Names.{sameName}
-use Rattle.base_text.specs.Text.{all}
 use Rattle.urn_names.specs.Urn.{storedName, urnOk}
-use Rattle.base_text.proofs.Fields.{byTest}
 use Rattle.table_sections.specs.Stored.{Read, fault, got, text, counted, Stored, stored, sections}
-use Rattle.table_places.specs.Tests.{noTwo}
-use Rattle.table_decode.specs.Tables.{formed, listed, tableIn, judged, tableRefusal, tableRead, tableOf}
+use Rattle.table_decode.specs.Tables.{formed, listed, tableIn, judged, tableRefusal, tableOf}
 use Rattle.table_sections.proofs.FaultLaws.{Faulty, fault-then, fault-got, fault-some, fault-if, fault-byte, fault-text, fault-counted}
-use Rattle.table_decode.proofs.Judging.{refusal-read}
+use Rattle.table_decode.proofs.Judging.{refusal-read, table-said}
 use Rattle.table_decode.proofs.Accepting.{Passed, judged-zero, refusal-zero}
 use Rattle.tree_sections.specs.Tree.{Tree, anyByte, node, signalsFrom, nodesFrom, tree}
 use Rattle.tree_forms.specs.Bytes.{treeBytes, storedBytes}
@@ -30,21 +30,24 @@ use Rattle.tree_forms.specs.Claims.{OldNewOld, NewOldNew, OldAndBack, Ne
 use Rattle.tree_forms.proofs.Writing.{FitsStored, stored-reads, stored-back, tree-reads, tree-back}
 use Rattle.tree_forms.proofs.Texts.{table-again, stored-again}
 use Rattle.tree_forms.proofs.Growing.{Grown, grown-is, is-grown, tree-again}
-use Rattle.tree_forms.proofs.Sound.{tree-names, tree-sound, stored-fits, tree-says, tree-named, tree-grown, stored-sound, tree-fits, fits-short, tree-small}
+use Rattle.tree_forms.proofs.Sound.{tree-names, tree-sound, stored-fits, tree-says, tree-named, tree-grown, stored-sound, tree-fits}
+use Rattle.tree_forms.proofs.Sound.{fits-short, tree-small}
 
 -- a fault of the tree form has a number: 5 or 6
 fault-node : (t : List ℕ) (at : ℕ) → Faulty (node t at)
 unfolding node
 fault-node t at =
     fault-then (anyByte t at) _ (fault-byte 0 255 t at)
-    (λ c p. fault-then (anyByte t p) _ (fault-byte 0 255 t p) (λ k q. fault-then (text 55 t q) _ (fault-text 55 t q) (λ x r. fault-got _ r)))
+    (λ c p. fault-then (anyByte t p) _ (fault-byte 0 255 t p) (λ k q. fault-then (text mostNameBytes t q) _ (fault-text mostNameBytes t q)
+    (λ x r. fault-got _ r)))
 
 pub fault-tree : (t : List ℕ) → Faulty (tree t)
 unfolding tree nodesFrom signalsFrom
 fault-tree t =
-    fault-then (counted 1 8 (text 55 t) t 0) _ (fault-counted 1 8 (text 55 t) t (fault-text 55 t) 0)
-    (λ ns p. fault-then (counted 1 64 (node t) t p) _ (fault-counted 1 64 (node t) t (fault-node t) p)
-    (λ ds q. fault-then (counted 1 32 (counted 0 8 (anyByte t) t) t q) _ (fault-counted 1 32 (counted 0 8 (anyByte t) t) t (fault-counted 0 8 (anyByte t) t (fault-byte 0 255 t)) q)
+    fault-then (counted 1 8 (text mostNameBytes t) t 0) _ (fault-counted 1 8 (text mostNameBytes t) t (fault-text mostNameBytes t) 0)
+    (λ ns p. fault-then (counted 1 mostNodes (node t) t p) _ (fault-counted 1 mostNodes (node t) t (fault-node t) p)
+    (λ ds q. fault-then (counted 1 mostSignals (counted 0 8 (anyByte t) t) t q) _
+    (fault-counted 1 mostSignals (counted 0 8 (anyByte t) t) t (fault-counted 0 8 (anyByte t) t (fault-byte 0 255 t)) q)
     (λ ss r. fault-if (ltb r (length t)) _ _ (fault-some 5 (omega arith, omega arith)) (fault-got _ r))))
 
 -- the tests of a tree that is not refused
@@ -58,7 +61,8 @@ pub tree-passed : (x : Tree) → treeJudged x ≡ 0 → TreePassed x
 unfolding treeJudged
 tree-passed x e = go (named x) (grown x) (short (storedOf x)) refl refl refl e
   where
-    go : (a b c : Bool) → named x ≡ a → grown x ≡ b → short (storedOf x) ≡ c → _≡_ {A = ℕ} (cond a (cond b (cond c (judged (storedOf x)) 6) 21) 7) 0 → TreePassed x
+    go : (a b c : Bool) → named x ≡ a → grown x ≡ b → short (storedOf x) ≡ c
+        → _≡_ {A = ℕ} (cond a (cond b (cond c (judged (storedOf x)) 6) 21) 7) 0 → TreePassed x
     go true true true p q r e = record { names = p; grows = grown-is x q; shorts = r; old = e }
     go true true false p q r e = absurd (omega arith)
     go true false c p q r e = absurd (omega arith)
@@ -66,15 +70,15 @@ tree-passed x e = go (named x) (grown x) (short (storedOf x)) refl refl refl e
 
 pub tree-zero : (t : List ℕ) → treeRefusal t ≡ 0 → (x : Tree) × (p : ℕ) × (tree t ≡ got x p) × (treeJudged x ≡ 0)
 unfolding treeRefusal treeJudgedRead
-tree-zero t e = byTest (ltb 8192 (length t)) (λ b. absurd (omega (arith, rw b at e))) (λ b. go (tree t) refl (rw b at e))
+tree-zero t e = byTest (ltb mostTableBytes (length t)) (λ b. absurd (omega (arith, rw b at e))) (λ b. go (tree t) refl (rw b at e))
   where
     go : (r : Read Tree) → tree t ≡ r → treeJudgedRead r ≡ 0 → (x : Tree) × (p : ℕ) × (tree t ≡ got x p) × (treeJudged x ≡ 0)
     go (fault k) f g = absurd (omega (arith, fault-tree t k f .0, g))
     go (got x p) f g = (x, p, f, g)
 
-pub tree-refusal : (t : List ℕ) (x : Tree) (p : ℕ) → length t ≤ 8192 → tree t ≡ got x p → treeRefusal t ≡ treeJudged x
+pub tree-refusal : (t : List ℕ) (x : Tree) (p : ℕ) → length t ≤ mostTableBytes → tree t ≡ got x p → treeRefusal t ≡ treeJudged x
 unfolding treeRefusal treeJudgedRead
-tree-refusal t x p h e = rw (le-ltb 8192 (length t) h, e)
+tree-refusal t x p h e = rw (le-ltb mostTableBytes (length t) h, e)
 
 tree-table : (t : List ℕ) (x : Tree) (p : ℕ) → tree t ≡ got x p → treeTable t ≡ tableOfTree x
 unfolding treeTable treeTableRead
@@ -88,12 +92,8 @@ pub old-form : (t : List ℕ) (x : Tree) (p : ℕ) → tree t ≡ got x p → ol
 unfolding oldForm oldFormRead
 old-form t x p e = ap oldFormRead e
 
-table-said : (t : List ℕ) (s : Stored) (p : ℕ) → stored t ≡ got s p → tableOf t ≡ tableIn s
-unfolding tableOf tableRead
-table-said t s p e = ap tableRead e
-
-within-size : (t : List ℕ) → length t ≤ 8192 → sections t ≡ stored t
-within-size t h = rw (le-ltb 8192 (length t) h)
+within-size : (t : List ℕ) → length t ≤ mostTableBytes → sections t ≡ stored t
+within-size t h = rw (le-ltb mostTableBytes (length t) h)
 
 -- the tree of a stored table that is not refused
 module _ (t : List ℕ) (s : Stored) (q : ℕ) (r : stored t ≡ got s q) (g : Passed s) (f : FitsStored s) where
@@ -144,7 +144,7 @@ unfolding listed
 two-names s e = and-eq-true-iff (noTwo sameName (s .names)) _ .0 e .0
 
 -- a well-formed tree form's old form, if not too long, is well-formed, says the same table, and its tree form is the first
-pub new-old-new : (t : List ℕ) → treeRefusal t ≡ 0 → length (oldForm t) ≤ 8192 → NewOldNew t
+pub new-old-new : (t : List ℕ) → treeRefusal t ≡ 0 → length (oldForm t) ≤ mostTableBytes → NewOldNew t
 unfolding storedIn
 new-old-new t e h =
     let z = tree-zero t e in
@@ -158,39 +158,41 @@ new-old-new t e h =
         let k : tableIn (storedOf x) ≡ tableOfTree x = same x p in
         let y : treeOf (storedOf x) ≡ x = again x p k in
         record {
-          accepted = ap tableRefusal w ∙ refusal-read (storedBytes (storedOf x)) (storedOf x) (n .0) (within-size (storedBytes (storedOf x)) (omega (arith, h, ap length w)) ∙ n .1) ∙ p .old;
+          accepted = ap tableRefusal w ∙ refusal-read (storedBytes (storedOf x)) (storedOf x) (n .0)
+              (within-size (storedBytes (storedOf x)) (omega (arith, h, ap length w)) ∙ n .1) ∙ p .old;
           says = ap tableOf w ∙ table-said (storedBytes (storedOf x)) (storedOf x) (n .0) (n .1) ∙ k ∙ sym (tree-table t x q r);
           back = ap treeForm w ∙ tree-form (storedBytes (storedOf x)) (storedOf x) (n .0) (n .1) ∙ ap treeBytes y ∙ b .1;
         }
       where
         same : (x : Tree) → TreePassed x → tableIn (storedOf x) ≡ tableOfTree x
-        same x p = table-again (x .names) (tableOfTree x) (tree-names x (p .names) (p .grows) .0) (two-names (storedOf x) (judged-zero (storedOf x) (p .old) .lists)) refl (tree-sound x (p .names) (p .grows))
+        same x p = table-again (x .names) (tableOfTree x) (tree-names x (p .names) (p .grows) .0)
+            (two-names (storedOf x) (judged-zero (storedOf x) (p .old) .lists)) refl (tree-sound x (p .names) (p .grows))
 
         again : (x : Tree) → TreePassed x → tableIn (storedOf x) ≡ tableOfTree x → treeOf (storedOf x) ≡ x
         again x p k = ap (treeIn (x .names)) k ∙ tree-again x (p .grows)
 
 -- an old form that may be written has 8,192 bytes at most and fits the room, and any other does not
 module _ (n room : ℕ) where
-  pub fits-old : fitsOld n room ≡ true → (n ≤ 8192) × (n ≤ room)
+  pub fits-old : fitsOld n room ≡ true → (n ≤ mostTableBytes) × (n ≤ room)
   unfolding fitsOld
   fits-old e = let h = leb-true n _ e in (omega arith, omega arith)
 
-  pub fits-not : fitsOld n room ≡ false → (8192 < n) ⊎ (room < n)
+  pub fits-not : fitsOld n room ≡ false → (mostTableBytes < n) ⊎ (room < n)
   unfolding fitsOld
   fits-not e = let h = leb-false n _ e in go (decLt room n)
     where
-      go : Dec (room < n) → (8192 < n) ⊎ (room < n)
+      go : Dec (room < n) → (mostTableBytes < n) ⊎ (room < n)
       go (yes r) = inr r
       go (no r) = let h = leb-false n _ e in inl (omega arith)
 
-  pub old-fits : n ≤ 8192 → leb n room ≡ fitsOld n room
+  pub old-fits : n ≤ mostTableBytes → leb n room ≡ fitsOld n room
   unfolding fitsOld
   old-fits h =
       byTest (leb n room)
       (λ e. e ∙ sym (le-leb n _ (let k = leb-true n room e in omega arith)))
       (λ e. e ∙ sym (lt-leb n _ (let k = leb-false n room e in omega arith)))
 
-  pub old-over : 8192 < n → false ≡ fitsOld n room
+  pub old-over : mostTableBytes < n → false ≡ fitsOld n room
   unfolding fitsOld
   old-over h = sym (lt-leb n _ (omega arith))
 
@@ -202,11 +204,13 @@ converted-fits k true bytes room e n = rw (eq-eqb k 0 e) (refl, refl, take-appen
 converted-fits k false bytes room e n = absurd (n (rw (eq-eqb k 0 e)))
 
 -- a refused conversion leaves zeros
-pub converted-cleared : (k : ℕ) (fits : Bool) (bytes : List ℕ) (room : ℕ) → converted k fits bytes room .refusal ≢ 0 → Cleared room (converted k fits bytes room)
+pub converted-cleared : (k : ℕ) (fits : Bool) (bytes : List ℕ) (room : ℕ) → converted k fits bytes room .refusal ≢ 0
+    → Cleared room (converted k fits bytes room)
 unfolding converted
 converted-cleared k fits bytes room n = go (eqb k 0) fits n
   where
-    go : (a b : Bool) → cond a (cond b (filled bytes room) (refused 22 room)) (refused k room) .refusal ≢ 0 → Cleared room (cond a (cond b (filled bytes room) (refused 22 room)) (refused k room))
+    go : (a b : Bool) → cond a (cond b (filled bytes room) (refused 22 room)) (refused k room) .refusal ≢ 0
+        → Cleared room (cond a (cond b (filled bytes room) (refused 22 room)) (refused k room))
     go true true n = absurd (n refl)
     go true false n = record { none = refl; zeros = refl }
     go false b n = record { none = refl; zeros = refl }
@@ -249,7 +253,7 @@ unfolding toTree
 to-fits t room e n = let c = converted-fits (tableRefusal t) (leb (length (treeForm t)) room) (treeForm t) room e n in (c .1, c .2)
 
 from-fits : (t : List ℕ) (room : ℕ) → treeRefusal t ≡ 0 → fromTree t room .refusal ≢ 22
-    → (length (oldForm t) ≤ 8192) × (fromTree t room .refusal ≡ 0) × (made (fromTree t room) ≡ oldForm t)
+    → (length (oldForm t) ≤ mostTableBytes) × (fromTree t room .refusal ≡ 0) × (made (fromTree t room) ≡ oldForm t)
 unfolding fromTree
 from-fits t room e n =
     let c = converted-fits (treeRefusal t) (fitsOld (length (oldForm t)) room) (oldForm t) room e n in

@@ -2,7 +2,7 @@
 -- comes after its count and a text after its length.
 use Prim.Native.Nat.{ℕ}
 use mathlib.Core.List.{List, _∷_, _++_}
-unfoldable pub use Rattle.table_decode.specs.Bytes.{each, storedBytes}
+unfoldable pub use Rattle.table_decode.specs.Bytes.{storedBytes}
 pub use Rattle.table_decode.specs.Bytes.{section, textBytes, numberBytes}
 use Rattle.tree_sections.specs.Tree.{Node, Tree}
 

@@ -4,6 +4,7 @@ use mathlib.Core.Bool.{Bool, cond}
 use mathlib.Core.List.{List, [], _++_}
 use lib.ListN.{length, take, replicate}
 use lib.Dec.{leb, eqb}
+use Rattle.base_numbers.specs.Numbers.{formNoRoom, mostTableBytes}
 use Rattle.table_sections.specs.Stored.{Read, fault, got, Stored, stored}
 use Rattle.table_decode.specs.Tables.{tableRefusal}
 use Rattle.tree_sections.specs.Tree.{Tree, tree}
@@ -45,7 +46,7 @@ filled bytes room = record { refusal = 0; len = length bytes; buffer = bytes ++ 
 
 -- the form that was made, by the number of the refusal of what it was made from, and whether it may be written
 unfoldable pub converted : ℕ → Bool → List ℕ → ℕ → Converted
-converted k fits bytes room = cond (eqb k 0) (cond fits (filled bytes room) (refused 22 room)) (refused k room)
+converted k fits bytes room = cond (eqb k 0) (cond fits (filled bytes room) (refused formNoRoom room)) (refused k room)
 
 -- old to new
 unfoldable pub toTree : List ℕ → ℕ → Converted
@@ -53,7 +54,7 @@ toTree t room = converted (tableRefusal t) (leb (length (treeForm t)) room) (tre
 
 -- an old form of n bytes may be written: it has 8,192 bytes at most, and there is room for it
 unfoldable pub fitsOld : ℕ → ℕ → Bool
-fitsOld n room = leb n (min 8192 room)
+fitsOld n room = leb n (min mostTableBytes room)
 
 -- new to old
 unfoldable pub fromTree : List ℕ → ℕ → Converted

@@ -4,11 +4,12 @@ use mathlib.Core.Bool.{Bool, cond, _&&_, _||_}
 use mathlib.Core.List.{List, []}
 use lib.ListN.{length}
 use lib.Dec.{leb, ltb, eqb}
-use Rattle.theory_resolution.specs.Lists.{sameList, allBelow as forall}
+use Rattle.base_numbers.specs.Numbers.{badTree, mostUrnBytes, tableBadForm, tableOutOfRange}
+use Rattle.base_lists.specs.Tests.{all}
+use Rattle.base_lists.specs.Numbers.{within}
+use Rattle.base_lists.specs.Lists.{sameList, allBelow as forall}
 use Rattle.theory_resolution.specs.Table.{Table}
 use Rattle.theory_resolution.specs.Nodes.{sameUrn, nodes}
-use Rattle.base_ascii.specs.Ascii.{within}
-use Rattle.base_text.specs.Text.{all}
 use Rattle.urn_names.specs.Urn.{storedName}
 use Rattle.table_sections.specs.Stored.{Read, fault, got, Stored}
 use Rattle.table_decode.specs.Tables.{judged}
@@ -42,11 +43,11 @@ grown x = numbered x && (allParented (x .nodes) && inOrder x)
 
 -- 6: no URN of the old form is longer than 255 bytes
 unfoldable pub short : Stored → Bool
-short s = all (all (λ u. leb (length u) 255)) (s .signals)
+short s = all (all (λ u. leb (length u) mostUrnBytes)) (s .signals)
 
 -- the first of 7, 21, 6 and 7 to 12 that holds of a tree, or 0; the last ones by the old form, over 8 parts among them
 unfoldable pub treeJudged : Tree → ℕ
-treeJudged x = cond (named x) (cond (grown x) (cond (short (storedOf x)) (judged (storedOf x)) 6) 21) 7
+treeJudged x = cond (named x) (cond (grown x) (cond (short (storedOf x)) (judged (storedOf x)) tableOutOfRange) badTree) tableBadForm
 
 unfoldable pub treeJudgedRead : Read Tree → ℕ
 treeJudgedRead (fault k) = k

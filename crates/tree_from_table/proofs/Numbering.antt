@@ -9,27 +9,32 @@ use native.Mathlib.Nat.{zero-add}
 use lib.ListN.{length, getD, replicate, length-map}
 use lib.Dec.{leb}
 use borrow.Author.Tests.{ne-eqb, leb-true, leb-false}
-use Rattle.theory_resolution.specs.Lists.{tabulate}
+use Rattle.base_numbers.specs.Numbers.{mostNodes, mostTableBytes}
+use Rattle.base_lists.specs.Cuts.{stretch}
+use Rattle.base_lists.proofs.Over.{laid-nil}
+use Rattle.base_lists.proofs.Tests.{all-joined}
+use Rattle.base_lists.proofs.Bools.{byTest}
+use Rattle.base_lists.specs.Tests.{all}
+use Rattle.base_lists.proofs.Tabulated.{tabulate-same, map-tab, tab-list}
+use Rattle.base_lists.proofs.Lists.{mem-at}
+use Rattle.base_lists.specs.Lists.{tabulate, laid}
 use Rattle.theory_resolution.specs.Names.{Name, Parts}
 use Rattle.theory_resolution.specs.Table.{Urn, urn, Table}
 use Rattle.theory_resolution.specs.Nodes.{nodes, number, nodeAt, addUrn}
-use Rattle.theory_resolution.proofs.Lists.{mem-at, tabulate-same}
 use Rattle.theory_resolution.proofs.Numbers.{number-at, root-number}
-use Rattle.base_text.specs.Text.{all, fields}
-use Rattle.base_text.proofs.Fields.{byTest}
-use Rattle.node_search.specs.Arrays.{stretch}
+use Rattle.base_text.specs.Text.{fields}
 use Rattle.table_sections.specs.Stored.{got, Stored, stored}
 use Rattle.table_sections.specs.Held.{Tagged, tag, taggedFrom, urnAt, ReadAs, Reads}
 use Rattle.table_sections.specs.declared.Counts.{Counts}
 use Rattle.table_sections.proofs.FaultLaws.{fault-some-number}
 use Rattle.table_sections.proofs.SectionLaws.{sections-read}
 use Rattle.table_nodes.specs.Nodes.{nodeUrn, Numbered, AllAdded}
-use Rattle.table_places.proofs.Flat.{map-tab, whatOf, onWhat, tagged-what, tagged-map, all-joined, nodes-joined, tab-list}
+use Rattle.table_places.proofs.Flat.{whatOf, onWhat, tagged-what, tagged-map, nodes-joined}
 use Rattle.table_names.specs.Categories.{isListed, Indexed}
-use Rattle.table_decode.specs.Tables.{toUrn, tableIn, judged, tableRefusal, namesRead, categoryNames, tableRead, tableOf}
+use Rattle.table_decode.specs.Tables.{toUrn, tableIn, judged, tableRefusal, namesRead, categoryNames, tableOf}
 use Rattle.table_decode.specs.Decoded.{Means}
 use Rattle.table_decode.specs.declared.Decoded.{Decoded}
-use Rattle.table_decode.proofs.Judging.{refusal-fault, refusal-read, table-read}
+use Rattle.table_decode.proofs.Judging.{refusal-fault, refusal-read, table-read, table-said}
 use Rattle.table_decode.proofs.Accepting.{Passed, judged-zero, refusal-zero, three, accepted}
 use Rattle.tree_sections.specs.Tree.{Node}
 use Rattle.tree_sections.specs.Held.{numberAt}
@@ -40,15 +45,10 @@ use Rattle.tree_forms.proofs.Writing.{Every, stored-back}
 use Rattle.tree_forms.proofs.Sound.{nodes-sound, stored-sound, tree-fits}
 use Rattle.tree_forms.proofs.Theorems.{tree-form}
 use Rattle.tree_forms.proofs.Growing.{front-snoc, last-snoc}
-use Rattle.tree_bytes.specs.Laid.{answer, laid, Puts, ofSignal, Eight}
-use Rattle.tree_bytes.specs.declared.Converted.{Converted as Answer}
-use Rattle.tree_bytes.proofs.Laying.{laid-nil, puts-join, signals-are, eight}
+use Rattle.tree_bytes.specs.Laid.{answer, Puts, ofSignal, Eight}
+use Rattle.base_bytes.specs.declared.Built.{Built as Answer}
+use Rattle.tree_bytes.proofs.Laying.{puts-join, signals-are, eight}
 use Rattle.tree_from_table.specs.Stored.{storedNode, StoredAs}
-
--- the table and the names that were read
-table-said : (t : List ℕ) (s : Stored) (p : ℕ) → stored t ≡ got s p → tableOf t ≡ tableIn s
-unfolding tableOf tableRead
-table-said t s p e = ap tableRead e
 
 names-said : (t : List ℕ) (s : Stored) (p : ℕ) → stored t ≡ got s p → categoryNames t ≡ s .names
 unfolding categoryNames namesRead
@@ -72,7 +72,7 @@ module _ (t nameAt nameLen at len signal : List ℕ) (l : Counts) (R : Reads t n
   abbrev st : Stored
   st = record { names = ns; signals = held .signals }
 
-  pub short : length t ≤ 8192
+  pub short : length t ≤ mostTableBytes
   short = sections-read t st (held .next) (held .whole) .0
 
   passed : Passed st
@@ -92,7 +92,8 @@ module _ (t nameAt nameLen at len signal : List ℕ) (l : Counts) (R : Reads t n
 
   tagged-are : tabulate tagged (l .urns) ≡ taggedFrom 0 (tableOf t .signals)
   tagged-are =
-      sym (map-tab (onWhat (toUrn ns)) (urnAt t signal at len) (l .urns)) ∙ ap (map (onWhat (toUrn ns))) (held .urns) ∙ sym (tagged-map (toUrn ns) 0 (held .signals))
+      sym (map-tab (onWhat (toUrn ns)) (urnAt t signal at len) (l .urns)) ∙ ap (map (onWhat (toUrn ns))) (held .urns)
+      ∙ sym (tagged-map (toUrn ns) 0 (held .signals))
       ∙ ap (λ (T : Table). taggedFrom 0 (T .signals)) (sym table)
 
   module _ {category pathAt pathLen : List ℕ} (X : Indexed t ns at len (l .urns) category pathAt pathLen) {number₁ cats parents at₁ len₁ : List ℕ} {n : ℕ}
@@ -103,12 +104,18 @@ module _ (t nameAt nameLen at len signal : List ℕ) (l : Counts) (R : Reads t n
     nodes-are : foldl addUrn [] (tabulate (nodeUrn t category pathAt pathLen) (l .urns)) ≡ nodes (tableOf t)
     nodes-are =
         ap (foldl addUrn [])
-        (tabulate-same (nodeUrn t category pathAt pathLen) (λ i. whatOf (tagged i)) (l .urns) urn-is ∙ sym (map-tab whatOf tagged (l .urns)) ∙ ap (map whatOf) tagged-are
+        (tabulate-same (nodeUrn t category pathAt pathLen) (λ i. whatOf (tagged i)) (l .urns) urn-is
+        ∙ sym (map-tab whatOf tagged (l .urns)) ∙ ap (map whatOf) tagged-are
         ∙ tagged-what 0 (tableOf t .signals))
         ∙ sym (nodes-joined (tableOf t))
 
-    few : n ≤ 64
-    few = byTest (leb n 64) (leb-true n 64) (λ b. absurd (omega (arith, A .over (leb-false n 64 b), ap length nodes-are, accepted t z .few-nodes)))
+    few : n ≤ mostNodes
+    few = byTest (leb n mostNodes) (leb-true n mostNodes) (λ b. absurd (omega (
+      arith,
+      A .over (leb-false n mostNodes b),
+      ap length nodes-are,
+      accepted t z .few-nodes,
+    )))
 
     number-as : (c : ℕ) (p : Parts) (k : ℕ) → Numbered (nodes (tableOf t)) c p k → k ≡ number (nodes (tableOf t)) c p
     number-as c p k (inl w) = w .0 ∙ sym (ap (number (nodes (tableOf t)) c) (w .1) ∙ root-number (tableOf t) c)
@@ -140,10 +147,12 @@ snoc-again p n = go p n
     go [] n = absurd (n refl)
     go (x ∷ p) n =
         let b = build x p in
-        b .2 ∙ ap₂ (λ (q : Parts) (y : Name). q ++ y ∷ []) (sym (ap front (b .2) ∙ front-snoc (b .0) (b .1))) (sym (ap lastName (b .2) ∙ last-snoc (b .0) (b .1)))
+        b .2 ∙ ap₂ (λ (q : Parts) (y : Name). q ++ y ∷ []) (sym (ap front (b .2) ∙ front-snoc (b .0) (b .1)))
+        (sym (ap lastName (b .2) ∙ last-snoc (b .0) (b .1)))
 
 -- the arrays of a well-formed table say its tree
-module _ (t nameAt nameLen category parent at len : List ℕ) (categories n signals : ℕ) (S : StoredAs t nameAt nameLen category parent at len categories n signals) where
+module _ (t nameAt nameLen category parent at len : List ℕ) (categories n signals : ℕ)
+    (S : StoredAs t nameAt nameLen category parent at len categories n signals) where
   abbrev T : Table
   T = tableOf t
 
@@ -165,7 +174,8 @@ module _ (t nameAt nameLen category parent at len : List ℕ) (categories n sign
   some-part : (i : ℕ) → i < length (nodes T) → nodeAt (nodes T) i .path ≢ []
   some-part i h =
       subst (λ (U : Table). i < length (nodes U) → nodeAt (nodes U) i .path ≢ []) (sym same-table)
-      (λ k. nodes-sound (s .names) (tableIn s) (stored-sound t s (w .1) (w .2) (judged-zero s (w .3))) (nodeAt (nodes (tableIn s)) i) (mem-at (nodes (tableIn s)) i (urn 0 []) k) .some-part) h
+      (λ k. nodes-sound (s .names) (tableIn s) (stored-sound t s (w .1) (w .2) (judged-zero s (w .3))) (nodeAt (nodes (tableIn s)) i)
+      (mem-at (nodes (tableIn s)) i (urn 0 []) k) .some-part) h
 
   nodes-same : tabulate (storedNode t category parent at len) n ≡ map (nodeIn (nodes T)) (nodes T)
   nodes-same =
@@ -194,28 +204,34 @@ module _ (t nameAt nameLen category parent at len : List ℕ) (categories n sign
       (λ sig i. tree-fits t s (w .1) (w .2) (judged-zero s (w .3)) (stored-back t s (w .1) (w .2) .0) .signals .1 sig i .0 .1))
 
   module _ {b x y z : List ℕ} {p q e : ℕ} (signal number : List ℕ) (m : ℕ) (E : tabulate (numberAt signal number) m ≡ taggedFrom 0 ss)
-      (F : Puts b x 0 (section textBytes (tabulate (stretch t nameAt nameLen) categories)) p) (G : Puts x y p (section nodeBytes (tabulate (storedNode t category parent at len) n)) q)
+      (F : Puts b x 0 (section textBytes (tabulate (stretch t nameAt nameLen) categories)) p)
+      (G : Puts x y p (section nodeBytes (tabulate (storedNode t category parent at len) n)) q)
       (H : Puts y z q (section (section numberBytes) (tabulate (λ s. ofSignal s (tabulate (numberAt signal number) m)) signals)) e) where
     wrote : Puts b z 0 (treeForm t) e
     unfolding treeBytes treeIn
     wrote =
         subst (λ (l : List ℕ). Puts b z 0 l e)
-        (append-assoc (section textBytes (tabulate (stretch t nameAt nameLen) categories)) (section nodeBytes (tabulate (storedNode t category parent at len) n)) _
+        (append-assoc (section textBytes (tabulate (stretch t nameAt nameLen) categories))
+        (section nodeBytes (tabulate (storedNode t category parent at len) n)) _
         ∙ ap₂ (λ (u : List Name) (r : List ℕ). section textBytes u ++ r) names-are
         (ap₂ (λ (u : List Node) (v : List (List ℕ)). section nodeBytes u ++ section (section numberBytes) v) nodes-same
-        (ap (tabulate (λ s. ofSignal s (tabulate (numberAt signal number) m))) (sym (S .all-signals) ∙ sym (length-map (T .signals) (map (numberIn (nodes T))))) ∙ signals-are signal number m ss E))
+        (ap (tabulate (λ s. ofSignal s (tabulate (numberAt signal number) m))) (sym (S .all-signals)
+        ∙ sym (length-map (T .signals) (map (numberIn (nodes T))))) ∙ signals-are signal number m ss E))
         ∙ sym form-is)
         (puts-join (puts-join F G) H)
 
     pub new-formed : {v : List ℕ} {r : Answer} {fits : Bool} → fits ≡ leb e (length z)
-        → ((form c : List ℕ) → (fits ≡ true → e ≤ length c) → length form ≡ e → length c ≡ length z → z ≡ laid form c → (r ≡ answer (converted 0 fits form (length c))) × (v ≡ converted 0 fits form (length c) .buffer))
+        → ((form c : List ℕ) → (fits ≡ true → e ≤ length c) → length form ≡ e → length c ≡ length z → z ≡ laid form c
+        → (r ≡ answer (converted 0 fits form (length c))) × (v ≡ converted 0 fits form (length c) .buffer))
         → (r ≡ answer (toTree t (length b))) × (v ≡ toTree t (length b) .buffer)
     unfolding toTree
     new-formed {v} {r} {fits} f K =
         let l : length (treeForm t) ≡ e = sym (wrote .end ∙ zero-add (length (treeForm t))) in
-        let k = K (treeForm t) b (λ y. omega (arith, leb-true e (length z) (sym f ∙ y), wrote .long)) l (sym (wrote .long)) (wrote .goes-on [] b refl (laid-nil b)) in
+        let k = K (treeForm t) b (λ y. omega (arith, leb-true e (length z) (sym f ∙ y), wrote .long)) l (sym (wrote .long))
+        (wrote .goes-on [] b refl (laid-nil b)) in
         let o : fits ≡ leb (length (treeForm t)) (length b) = f ∙ ap₂ leb (sym l) (wrote .long) in
-        let u : converted 0 fits (treeForm t) (length b) ≡ converted (tableRefusal t) (leb (length (treeForm t)) (length b)) (treeForm t) (length b) = ap₂ (λ (k : ℕ) (g : Bool). converted k g (treeForm t) (length b)) (sym (S .right)) o in
+        let u : converted 0 fits (treeForm t) (length b) ≡ converted (tableRefusal t) (leb (length (treeForm t)) (length b)) (treeForm t)
+        (length b) = ap₂ (λ (k : ℕ) (g : Bool). converted k g (treeForm t) (length b)) (sym (S .right)) o in
         (k .0 ∙ ap answer u, k .1 ∙ ap (λ c. c .buffer) u)
 
 -- a refused conversion
@@ -232,7 +248,8 @@ module _ (room : ℕ) {k : ℕ} {r : Answer} {v : List ℕ} (n : k ≡ 0 → ⊥
       (e ∙ ap answer w, f ∙ ap (λ c. c .buffer) w)
 
 -- what decoding answers of a well-formed table
-pub stored-as : (t : List ℕ) (d : Decoded) → Means t d → d .refusal ≡ 0 → StoredAs t (d .«name_at») (d .«name_len») (d .category) (d .parent) (d .at) (d .len) (d .categories) (d .nodes) (d .signals)
+pub stored-as : (t : List ℕ) (d : Decoded) → Means t d → d .refusal ≡ 0
+    → StoredAs t (d .«name_at») (d .«name_len») (d .category) (d .parent) (d .at) (d .len) (d .categories) (d .nodes) (d .signals)
 stored-as t d M e =
     let z : tableRefusal t ≡ 0 = sym (M .refusal) ∙ e in
     let H = M .holds z in

@@ -1,25 +1,29 @@
-use base_text::cut::wide;
-use table_sections::bytes::small;
+// The section of the signals, written: the numbers of the nodes of each.
+use base_bytes::numbers::small;
+use base_bytes::numbers::wide;
+use base_numbers::MOST_TABLE_URNS;
 use tree_bytes::put::byte;
 use tree_bytes::sections::count_of;
-ghost use Prim.Native.Nat.{_+_, _≤_, _<_};
-ghost use Rattle.theory_resolution.specs.Lists.{tabulate};
+ghost use Prim.Native.Nat.{_+_, _≤_, _*_};
+ghost use Rattle.base_numbers.specs.Numbers.{mostSignals, mostTableUrns};
+ghost use Rattle.base_lists.specs.Lists.{tabulate};
 ghost use Rattle.tree_forms.specs.Bytes.{section, numberBytes};
 ghost use Rattle.tree_sections.specs.Held.{numberAt};
-ghost use Rattle.tree_bytes.specs.Laid.{Puts, ofSignal, Eight};
+ghost use Rattle.tree_bytes.specs.Laid.{Puts, ofSignal, Eight, farthest};
+ghost use Rattle.tree_from_table.specs.Stored.{mostNumbers};
 
 // The numbers of signal s.
-fn put_numbers(
+fn put_numbers<'a>(
     m: usize,
-    signal: &[u8; 256],
-    number: &[u8; 256],
+    signal: &'a [u8; MOST_TABLE_URNS],
+    number: &'a [u8; MOST_TABLE_URNS],
     s: usize,
     buf: &mut [u8],
     from: usize,
 ) -> usize
-    requires { ⌜ (m ≤ 256) × (from < 500000000) × Eight (now signal) (now number) m ⌝ }
+    requires { ⌜ (m ≤ mostTableUrns) × (from + mostNumbers ≤ farthest) × Eight (now signal) (now number) m ⌝ }
     ensures { λ r. ⌜ Puts (now (buf .entry)) (now (buf .exit)) from (section numberBytes (ofSignal s (tabulate (numberAt (now (signal .entry)) (now (number .entry))) m))) r ⌝ }
-    ensures { λ r. ⌜ r ≤ from + 300 ⌝ }
+    ensures { λ r. ⌜ r ≤ from + mostNumbers ⌝ }
 {
     let n = count_of(m, signal, s, number);
     let mut p = byte(buf, from, small(n));
@@ -36,15 +40,15 @@ fn put_numbers(
 }
 
 // The section of n signals: the numbers of each.
-pub(crate) fn put_signals(
+pub(crate) fn put_signals<'a>(
     n: usize,
     m: usize,
-    signal: &[u8; 256],
-    number: &[u8; 256],
+    signal: &'a [u8; MOST_TABLE_URNS],
+    number: &'a [u8; MOST_TABLE_URNS],
     buf: &mut [u8],
     from: usize,
 ) -> usize
-    requires { ⌜ (n ≤ 32) × (m ≤ 256) × (from < 100000) × Eight (now signal) (now number) m ⌝ }
+    requires { ⌜ (n ≤ mostSignals) × (m ≤ mostTableUrns) × (from + 1 + mostSignals * mostNumbers ≤ farthest) × Eight (now signal) (now number) m ⌝ }
     ensures { λ r. ⌜ Puts (now (buf .entry)) (now (buf .exit)) from
         (section (section numberBytes) (tabulate (λ s. ofSignal s (tabulate (numberAt (now (signal .entry)) (now (number .entry))) m)) n)) r ⌝ }
 {

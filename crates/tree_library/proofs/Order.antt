@@ -9,24 +9,26 @@ use native.Mathlib.Omega.{arith}
 use lib.ListN.{length, getD}
 use lib.Dec.{eqb, leb}
 use borrow.Author.Tests.{eq-eqb, eqb-true, leb-true, leb-false, lt-ltb, le-ltb}
-use Rattle.theory_resolution.specs.Lists.{tabulate}
+use Rattle.base_numbers.specs.Numbers.{mostTableBytes, mostUrnBytes}
+use Rattle.base_lists.proofs.Tests.{all-mem, all-not, two-not}
+use Rattle.base_lists.proofs.Bools.{byTest, unless}
+use Rattle.base_lists.specs.Tests.{all, any, noTwo}
+use Rattle.base_lists.proofs.Tabulated.{tabulate-at, tabulate-length}
+use Rattle.base_lists.proofs.Lists.{mem-at}
+use Rattle.base_lists.specs.Lists.{tabulate}
 use Rattle.theory_resolution.specs.Names.{Name, sameName}
 use Rattle.theory_resolution.specs.Table.{Urn, Table}
-use Rattle.theory_resolution.proofs.Lists.{mem-at, tabulate-at, tabulate-length}
 use Rattle.theory_resolution.proofs.Names.{name-exact}
-use Rattle.base_text.specs.Text.{all}
-use Rattle.base_text.proofs.Fields.{byTest}
 use Rattle.urn_names.specs.Urn.{storedName}
 use Rattle.table_sections.specs.Stored.{Read, fault, got}
-use Rattle.table_places.specs.Tests.{any, noTwo}
 use Rattle.table_places.specs.Verdict.{single, zeroSilent, distinct, fewNodes, verdict}
-use Rattle.table_decode.proofs.Accepting.{all-mem, any-mem, two-at}
+use Rattle.table_decode.proofs.Accepting.{any-mem, two-at}
 use Rattle.tree_sections.specs.Tree.{Node, Tree, tree, treeSections}
 use Rattle.tree_forms.specs.Meaning.{tableOfTree, urnText}
 use Rattle.tree_forms.specs.Refusals.{named, grown, treeJudged, treeJudgedRead, treeRefusal}
 use Rattle.tree_forms.proofs.Theorems.{fault-tree}
 use Rattle.tree_nodes.specs.Ungrown.{Ungrown}
-use Rattle.tree_nodes.proofs.Reasons.{all-not, two-not, ungrown-exactly}
+use Rattle.tree_nodes.proofs.Reasons.{ungrown-exactly}
 use Rattle.tree_decode.specs.Direct.{shortIn, fewParts, usedBy, usedOnce, meant, treeDirect}
 use Rattle.tree_decode.proofs.Directly.{tree-direct}
 use Rattle.tree_library.specs.Order.{NameIn, UrnIn, BadName, LongPath, DeepPath, BadCategory, Ordered, OrderClaim, Exactly21}
@@ -42,7 +44,10 @@ module _ {b : Bool} {P : Type 0} (f : Fails b P) where
 
   -- the number k where the test fails, and else x, which is another
   exactly : (k x : ℕ) {n : ℕ} → x ≢ k → n ≡ cond b x k → (n ≡ k) ↔ P
-  exactly k x d e = (λ q. byTest b (λ t. absurd (d (sym (e ∙ ap (λ (z : Bool). cond z x k) t) ∙ q))) (f .to), λ p. e ∙ ap (λ (z : Bool). cond z x k) (f .from p))
+  exactly k x d e = (
+    λ q. byTest b (λ t. absurd (d (sym (e ∙ ap (λ (z : Bool). cond z x k) t) ∙ q))) (f .to),
+    λ p. e ∙ ap (λ (z : Bool). cond z x k) (f .from p),
+  )
 
   given : (k x : ℕ) {n : ℕ} → n ≡ cond b x k → P → n ≡ k
   given k x e p = e ∙ ap (λ (z : Bool). cond z x k) (f .from p)
@@ -56,10 +61,6 @@ fails-by {b} f g = record { to = f; from = λ p. byTest b (λ e. absurd (g e p))
 -- two numbers that are told apart
 apart : (j k : ℕ) → eqb j k ≡ false → j ≢ k
 apart j k e q = true≢false (sym (eq-eqb j k q) ∙ e)
-
-unless : (b : Bool) (n x y : ℕ) → x ≢ n → y ≢ n → cond b x y ≢ n
-unless true n x y p q = p
-unless false n x y p q = q
 
 -- 9 to 12 are none of the numbers before them, nor 21
 verdict-not : (T : Table) (n : ℕ) → 0 ≢ n → 9 ≢ n → 10 ≢ n → 11 ≢ n → 12 ≢ n → verdict T ≢ n
@@ -98,7 +99,8 @@ module _ (x : Tree) where
           go p q y (inr n) f = true≢false (sym (all-mem last (x .nodes) (n .0) q (n .1)) ∙ ap storedName (n .2) ∙ f)
 
   -- a test of every URN
-  some-urn : (p : Urn → Bool) (P : Urn → Type 0) → ((u : Urn) → p u ≡ false → P u) → ((u : Urn) → p u ≡ true → P u → ⊥) → Fails (all (all p) (T .signals)) ((u : Urn) × UrnIn x u × P u)
+  some-urn : (p : Urn → Bool) (P : Urn → Type 0) → ((u : Urn) → p u ≡ false → P u) → ((u : Urn) → p u ≡ true → P u → ⊥)
+      → Fails (all (all p) (T .signals)) ((u : Urn) × UrnIn x u × P u)
   some-urn p P f g = fails-by to from
     where
       to : all (all p) (T .signals) ≡ false → (u : Urn) × UrnIn x u × P u
@@ -115,14 +117,15 @@ module _ (x : Tree) where
   long-path : Fails (shortIn (x .names) T) (LongPath x)
   unfolding shortIn
   long-path =
-      some-urn (λ u. leb (length (urnText (x .names) u)) 255) (λ u. 255 < length (urnText (x .names) u))
+      some-urn (λ u. leb (length (urnText (x .names) u)) 255) (λ u. mostUrnBytes < length (urnText (x .names) u))
       (λ u e. leb-false (length (urnText (x .names) u)) 255 e)
       (λ u e h. omega (arith, leb-true (length (urnText (x .names) u)) 255 e))
 
   deep-path : Fails (fewParts T) (DeepPath x)
   unfolding fewParts
   deep-path =
-      some-urn (λ u. leb (length (u .path)) 8) (λ u. 8 < length (u .path)) (λ u e. leb-false (length (u .path)) 8 e) (λ u e h. omega (arith, leb-true (length (u .path)) 8 e))
+      some-urn (λ u. leb (length (u .path)) 8) (λ u. 8 < length (u .path)) (λ u e. leb-false (length (u .path)) 8 e)
+      (λ u e h. omega (arith, leb-true (length (u .path)) 8 e))
 
   -- some signal has a URN of category c
   used-by : (c : ℕ) → usedBy T c ≡ true → (u : Urn) × UrnIn x u × (u .cat ≡ c)
@@ -170,11 +173,13 @@ module _ (x : Tree) where
         where
           go : noTwo sameName (x .names) ≡ true → all (usedBy T) (tabulate (λ c. c) m) ≡ true → BadCategory x → ⊥
           go p q (inl w) =
-              true≢false (sym (ap (sameName (getD (x .names) (w .0) [])) (sym (w .4)) ∙ name-exact .self (getD (x .names) (w .0) [])) ∙ two-at sameName (x .names) [] p (w .0) (w .1) (w .2) (w .3))
+              true≢false (sym (ap (sameName (getD (x .names) (w .0) [])) (sym (w .4)) ∙ name-exact .self (getD (x .names) (w .0) []))
+              ∙ two-at sameName (x .names) [] p (w .0) (w .1) (w .2) (w .3))
           go p q (inr w) =
               let l = tabulate-length (λ c. c) m in
               let v = tabulate-at (λ c. c) m (w .0) 0 (w .1) in
-              let u = used-by (w .0) (ap (usedBy T) (sym v) ∙ all-mem (usedBy T) (tabulate (λ c. c) m) (getD (tabulate (λ c. c) m) (w .0) 0) q (mem-at (tabulate (λ c. c) m) (w .0) 0 (omega (arith, l, w .1)))) in
+              let u = used-by (w .0) (ap (usedBy T) (sym v) ∙ all-mem (usedBy T) (tabulate (λ c. c) m)
+              (getD (tabulate (λ c. c) m) (w .0) 0) q (mem-at (tabulate (λ c. c) m) (w .0) 0 (omega (arith, l, w .1)))) in
               w .2 (u .0) (u .1) (u .2)
 
   un-grown : Fails (grown x) (Ungrown x)
@@ -247,24 +252,25 @@ order-claim t = record {
   others = λ h x p e. ordered x (treeRefusal t) (ap treeJudgedRead (short h ∙ e));
 }
   where
-    long : 8192 < length t → treeSections t ≡ fault 4
-    long h = ap (λ (b : Bool). cond b (fault 4) (tree t)) (lt-ltb 8192 (length t) h)
+    long : mostTableBytes < length t → treeSections t ≡ fault 4
+    long h = ap (λ (b : Bool). cond b (fault 4) (tree t)) (lt-ltb mostTableBytes (length t) h)
 
-    short : length t ≤ 8192 → treeSections t ≡ tree t
-    short h = ap (λ (b : Bool). cond b (fault 4) (tree t)) (le-ltb 8192 (length t) h)
+    short : length t ≤ mostTableBytes → treeSections t ≡ tree t
+    short h = ap (λ (b : Bool). cond b (fault 4) (tree t)) (le-ltb mostTableBytes (length t) h)
 
 -- 21 exactly
 pub exactly-21 : Exactly21
-exactly-21 t = (go (decLt 8192 (length t)), λ w. order-claim t .others (w .0) (w .1) (w .2) (w .3) .twenty-one (w .4) .1 (w .5))
+exactly-21 t = (go (decLt mostTableBytes (length t)), λ w. order-claim t .others (w .0) (w .1) (w .2) (w .3) .twenty-one (w .4) .1 (w .5))
   where
-    read : (r : Read Tree) → tree t ≡ r → length t ≤ 8192 → treeRefusal t ≡ 21
-        → (length t ≤ 8192) × (x : Tree) × (p : ℕ) × (tree t ≡ got x p) × (BadName x → ⊥) × Ungrown x
+    read : (r : Read Tree) → tree t ≡ r → length t ≤ mostTableBytes → treeRefusal t ≡ 21
+        → (length t ≤ mostTableBytes) × (x : Tree) × (p : ℕ) × (tree t ≡ got x p) × (BadName x → ⊥) × Ungrown x
     read (fault k) e h q = absurd (omega (arith, fault-tree t k e, order-claim t .unread h k e))
     read (got x p) e h q =
         let o = order-claim t .others h x p e in
         let n : BadName x → ⊥ = λ b. let z = o .names b in omega (arith, z, q) in
         (h, x, p, e, n, o .twenty-one n .0 q)
 
-    go : Dec (8192 < length t) → treeRefusal t ≡ 21 → (length t ≤ 8192) × (x : Tree) × (p : ℕ) × (tree t ≡ got x p) × (BadName x → ⊥) × Ungrown x
+    go : Dec (mostTableBytes < length t) → treeRefusal t ≡ 21 → (length t ≤ mostTableBytes) × (x : Tree) × (p : ℕ) × (tree t ≡ got x p)
+        × (BadName x → ⊥) × Ungrown x
     go (yes h) q = absurd (omega (arith, order-claim t .too-long h, q))
     go (no h) q = read (tree t) refl (omega arith) q

@@ -1,11 +1,12 @@
--- Which number a table in the tree form is refused with, where several are due: sizes, counts, lengths and names first, then 21, then paths,
--- then 8 to 11 by what the tree says.
+-- The order of refusals of a tree form for which several numbers hold: 4 to 7 as its bytes are read, 21, 6 and 7 for the URNs in full, and last 8 to
+-- 11, of the table that the tree says.
 use Prim.Native.Nat.{ℕ, _≤_, _<_}
 use mathlib.Core.Path.{_≡_}
 use mathlib.Core.Logic.{_⊎_, _↔_, _≢_}
 use mathlib.Core.Bool.{false}
 use mathlib.Core.List.{List, [], List·Memᴰ}
 use lib.ListN.{length, getD}
+use Rattle.base_numbers.specs.Numbers.{mostTableBytes, mostUrnBytes, mostUrnParts}
 use Rattle.theory_resolution.specs.Names.{Name}
 use Rattle.theory_resolution.specs.Table.{Urn}
 use Rattle.urn_names.specs.Urn.{storedName}
@@ -30,11 +31,11 @@ BadName x = (y : Name) × NameIn x y × (storedName y ≡ false)
 
 -- a path of over 255 bytes in the old form, category and all
 abbrev pub LongPath : Tree → Type 0
-LongPath x = (u : Urn) × UrnIn x u × (255 < length (urnText (x .names) u))
+LongPath x = (u : Urn) × UrnIn x u × (mostUrnBytes < length (urnText (x .names) u))
 
 -- a path of over 8 parts
 abbrev pub DeepPath : Tree → Type 0
-DeepPath x = (u : Urn) × UrnIn x u × (8 < length (u .path))
+DeepPath x = (u : Urn) × UrnIn x u × (mostUrnParts < length (u .path))
 
 -- a category that is listed twice, or that no signal uses
 abbrev pub BadCategory : Tree → Type 0
@@ -55,11 +56,11 @@ pub record Ordered (x : Tree) (n : ℕ) : Type 0 where
 -- the number of any bytes
 pub record TreeOrder (t : List ℕ) : Type 0 where
   -- 4 comes first, whatever the bytes
-  pub too-long : 8192 < length t → treeRefusal t ≡ 4
+  pub too-long : mostTableBytes < length t → treeRefusal t ≡ 4
   -- then 5 and 6, whichever is met first from the left, whatever comes after
-  pub unread : length t ≤ 8192 → (k : ℕ) → tree t ≡ fault k → treeRefusal t ≡ k
+  pub unread : length t ≤ mostTableBytes → (k : ℕ) → tree t ≡ fault k → treeRefusal t ≡ k
   -- then all others
-  pub others : length t ≤ 8192 → (x : Tree) (p : ℕ) → tree t ≡ got x p → Ordered x (treeRefusal t)
+  pub others : length t ≤ mostTableBytes → (x : Tree) (p : ℕ) → tree t ≡ got x p → Ordered x (treeRefusal t)
 
 -- what is proved
 abbrev pub OrderClaim : Type 0
@@ -67,4 +68,4 @@ OrderClaim = (t : List ℕ) → TreeOrder t
 
 -- 21 is given exactly to trees that can be read, whose names have their form, and that have one of its reasons
 abbrev pub Exactly21 : Type 0
-Exactly21 = (t : List ℕ) → (treeRefusal t ≡ 21) ↔ ((length t ≤ 8192) × (x : Tree) × (p : ℕ) × (tree t ≡ got x p) × (BadName x → ⊥) × Ungrown x)
+Exactly21 = (t : List ℕ) → (treeRefusal t ≡ 21) ↔ ((length t ≤ mostTableBytes) × (x : Tree) × (p : ℕ) × (tree t ≡ got x p) × (BadName x → ⊥) × Ungrown x)

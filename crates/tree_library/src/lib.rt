@@ -5,7 +5,7 @@
 //   c.rt  all of it for C
 pub mod c;
 
-use tree_bytes::Converted;
+use base_bytes::Built;
 ghost use mathlib.Core.Path.{_≡_};
 ghost use lib.ListN.{length};
 ghost use Rattle.tree_forms.specs.Refusals.{treeRefusal};
@@ -20,7 +20,7 @@ pub fn refusal(tree: &[u8]) -> u8
 }
 
 // The tree form of a stored table, with zeros after it; or all zeros and the number of the refusal.
-pub fn from_signal_table(table: &[u8], buf: &mut [u8]) -> Converted
+pub fn from_signal_table(table: &[u8], buf: &mut [u8]) -> Built
     ensures { λ r. ⌜ r ≡ answer (toTree (now (table .entry)) (length (now (buf .entry)))) ⌝ }
     ensures { λ _. ⌜ now (buf .exit) ≡ toTree (now (table .entry)) (length (now (buf .entry))) .buffer ⌝ }
 {
@@ -28,7 +28,7 @@ pub fn from_signal_table(table: &[u8], buf: &mut [u8]) -> Converted
 }
 
 // The stored table of a tree form, in the same way.
-pub fn to_signal_table(tree: &[u8], buf: &mut [u8]) -> Converted
+pub fn to_signal_table(tree: &[u8], buf: &mut [u8]) -> Built
     ensures { λ r. ⌜ r ≡ answer (fromTree (now (tree .entry)) (length (now (buf .entry)))) ⌝ }
     ensures { λ _. ⌜ now (buf .exit) ≡ fromTree (now (tree .entry)) (length (now (buf .entry))) .buffer ⌝ }
 {

@@ -8,19 +8,16 @@ use native.Mathlib.Omega.{arith}
 use lib.ListN.{length, getD}
 use lib.Dec.{eqb, leb, ltb}
 use borrow.Author.Tests.{ne-eqb, le-leb, lt-leb, leb-true, leb-false}
-use Rattle.theory_resolution.specs.Lists.{tabulate, allBelow as forall}
+use Rattle.base_numbers.specs.Numbers.{mostNodes, mostTableUrns}
+use Rattle.base_lists.specs.Cuts.{stretch}
+use Rattle.base_lists.proofs.Tests.{all-mem, all-joined, all-alike, all-join}
+use Rattle.base_lists.proofs.Bools.{byTest}
+use Rattle.base_lists.specs.Tests.{all, noTwo}
+use Rattle.base_lists.specs.Numbers.{within}
+use Rattle.base_lists.proofs.Tabulated.{tabulate-at, tabulate-length}
+use Rattle.base_lists.specs.Lists.{tabulate, joined, allBelow as forall}
 use Rattle.theory_resolution.specs.Names.{Name}
-use Rattle.theory_resolution.proofs.Lists.{tabulate-at, tabulate-length}
-use Rattle.base_ascii.specs.Ascii.{within}
-use Rattle.base_text.specs.Text.{all}
 use Rattle.urn_names.specs.Urn.{storedName}
-use Rattle.node_search.specs.Arrays.{stretch}
-use Rattle.base_text.proofs.Fields.{byTest}
-use Rattle.table_places.specs.Tests.{noTwo}
-use Rattle.table_sections.specs.Held.{joined}
-use Rattle.table_decode.proofs.Accepting.{all-mem}
-use Rattle.table_places.proofs.Flat.{all-joined, all-alike}
-use Rattle.table_places.proofs.TestLaws.{all-join}
 use Rattle.tree_sections.specs.Tree.{Node, nodeOf, Tree}
 use Rattle.tree_forms.specs.Refusals.{numbered, parented, allParented, grown}
 use Rattle.tree_nodes.specs.Scan.{sameNode, linked, reached, isCount, scanned}
@@ -52,7 +49,8 @@ module _ (t category parent at len : List ℕ) (n : ℕ) where
   unfolding underAt parented
   under-parented i h = rw (node-at i h) (go (getD parent i 0))
     where
-      go : (p : ℕ) → eqb p 0 || (leb p i && eqb (getD category (p - 1) 0) (getD category i 0)) ≡ eqb p 0 || (leb p i && eqb (nodeOf ns (p - 1) .category) (getD category i 0))
+      go : (p : ℕ) → eqb p 0 || (leb p i && eqb (getD category (p - 1) 0) (getD category i 0))
+          ≡ eqb p 0 || (leb p i && eqb (nodeOf ns (p - 1) .category) (getD category i 0))
       go zero = refl
       go (suc j) =
           let o : suc j - 1 ≡ j = omega arith in
@@ -79,21 +77,23 @@ module _ (t category parent at len : List ℕ) (n : ℕ) where
       ∙ ap (λ z. all (λ i. eqb (getD parent i 0) i) (tabulate (λ j. m + 1 + j) z)) (sym d)
 
   -- past the order there is no way back
-  stuck : (ks : List ℕ) → Every (λ k. k ≤ 64) ks → foldl (stepBy parent) 65 ks ≡ 65
+  stuck : (ks : List ℕ) → Every (λ k. k ≤ mostNodes) ks → foldl (stepBy parent) (suc mostNodes) ks ≡ (suc mostNodes)
   unfolding stepBy
   stuck [] b = refl
   stuck (k ∷ ks) b =
-      let h : k ≤ 65 = omega (arith, b k (List·Memᴰ·head refl)) in
-      rw (le-leb k 65 h) (stuck ks (λ y m. b y (List·Memᴰ·tail m)))
+      let h : k ≤ (suc mostNodes) = omega (arith, b k (List·Memᴰ·head refl)) in
+      rw (le-leb k (suc mostNodes) h) (stuck ks (λ y m. b y (List·Memᴰ·tail m)))
 
-  scan-are : n ≤ 64 → (ks : List ℕ) (m : ℕ) → Every (λ k. k ≤ n) ks → m ≤ n → eqb (foldl (stepBy parent) m ks) n ≡ isCount n (reached ns m ks)
+  scan-are : n ≤ mostNodes → (ks : List ℕ) (m : ℕ) → Every (λ k. k ≤ n) ks → m ≤ n → eqb (foldl (stepBy parent) m ks) n ≡ isCount n (reached ns m ks)
   unfolding stepBy reached
   scan-are h [] m b l = refl
   scan-are h (k ∷ ks) m b l =
       go (leb k m) refl (linkedBy parent m k) refl (λ z i. scan-are h ks z (λ y m. b y (List·Memᴰ·tail m)) i)
     where
-      go : (a : Bool) → leb k m ≡ a → (c : Bool) → linkedBy parent m k ≡ c → ((z : ℕ) → z ≤ n → eqb (foldl (stepBy parent) z ks) n ≡ isCount n (reached ns z ks))
-          → eqb (foldl (stepBy parent) (cond (leb k m) m (cond (linkedBy parent m k) k 65)) ks) n ≡ isCount n (cond (leb k m) (reached ns m ks) (cond (linked ns m k) (reached ns k ks) none))
+      go : (a : Bool) → leb k m ≡ a → (c : Bool) → linkedBy parent m k ≡ c
+          → ((z : ℕ) → z ≤ n → eqb (foldl (stepBy parent) z ks) n ≡ isCount n (reached ns z ks))
+          → eqb (foldl (stepBy parent) (cond (leb k m) m (cond (linkedBy parent m k) k (suc mostNodes))) ks) n
+          ≡ isCount n (cond (leb k m) (reached ns m ks) (cond (linked ns m k) (reached ns k ks) none))
       go true p c q ih = rw p (ih m l)
       go false p true q ih =
           let i = b k (List·Memᴰ·head refl) in
@@ -101,7 +101,7 @@ module _ (t category parent at len : List ℕ) (n : ℕ) where
       go false p false q ih =
           let i = b k (List·Memᴰ·head refl) in
           rw (p, q, linked-are m k (leb-false k m p) i ∙ q)
-          (ap (λ z. eqb z n) (stuck ks (λ y m. omega (arith, b y (List·Memᴰ·tail m)))) ∙ ne-eqb 65 n (λ z. omega arith))
+          (ap (λ z. eqb z n) (stuck ks (λ y m. omega (arith, b y (List·Memᴰ·tail m)))) ∙ ne-eqb (suc mostNodes) n (λ z. omega arith))
 
 -- tests in a row, the last one known only where the second passes
 in-row : (a b c d e : Bool) → (b ≡ true → d ≡ e) → (a && b) && (c && d) ≡ a && (b && (c && e))
@@ -110,7 +110,7 @@ in-row true false c d e h = refl
 in-row false b c d e h = refl
 
 module _ (t category parent at len number : List ℕ) (categories nodes numbers : ℕ) (names : List Name) (ss : List (List ℕ)) (k : length names ≡ categories)
-    (h : nodes ≤ 64) (these : tabulate (λ i. getD number i 0) numbers ≡ joined ss) where
+    (h : nodes ≤ mostNodes) (these : tabulate (λ i. getD number i 0) numbers ≡ joined ss) where
   abbrev fs : ℕ → Node
   fs = nodeFrom t category parent at len
 
@@ -120,7 +120,8 @@ module _ (t category parent at len number : List ℕ) (categories nodes numbers 
   count : length (x .nodes) ≡ nodes
   count = tabulate-length fs nodes
 
-  numbered-is : numbered x ≡ (all (λ y. ltb y categories) (tabulate (λ i. getD category i 0) nodes) && all (within 1 nodes) (tabulate (λ i. getD number i 0) numbers))
+  numbered-is : numbered x ≡ (all (λ y. ltb y categories) (tabulate (λ i. getD category i 0) nodes)
+      && all (within 1 nodes) (tabulate (λ i. getD number i 0) numbers))
   unfolding numbered
   numbered-is =
       ap₂ _&&_
@@ -134,7 +135,8 @@ module _ (t category parent at len number : List ℕ) (categories nodes numbers 
       ap (λ b. noTwo sameNode (tabulate fs nodes) && b)
       (ap (λ n. isCount n (reached (x .nodes) 0 (joined ss))) count ∙ ap (λ ks. isCount nodes (reached (x .nodes) 0 ks)) (sym these)
       ∙ sym (scan-are t category parent at len nodes h (tabulate (λ i. getD number i 0) numbers) 0
-      (λ k m. leb-true k nodes (and-eq-true-iff (leb 1 k) (leb k nodes) .0 (all-mem (within 1 nodes) (tabulate (λ i. getD number i 0) numbers) k e m) .1)) (omega arith)))
+      (λ k m. leb-true k nodes (and-eq-true-iff (leb 1 k) (leb k nodes) .0
+      (all-mem (within 1 nodes) (tabulate (λ i. getD number i 0) numbers) k e m) .1)) (omega arith)))
 
   -- 21
   pub grown-by : grown x ≡ grownBy t category parent at len number categories nodes numbers
@@ -146,34 +148,38 @@ module _ (t category parent at len number : List ℕ) (categories nodes numbers 
 
 -- within the arrays' lengths the tests are those of the tree, and past them they fail
 module _ (t category parent at len number : List ℕ) (categories nodes numbers : ℕ) where
-  pub grown-within : {b : Bool} → nodes ≤ 64 → numbers ≤ 256 → b ≡ grownBy t category parent at len number categories nodes numbers
+  pub grown-within : {b : Bool} → nodes ≤ mostNodes → numbers ≤ mostTableUrns → b ≡ grownBy t category parent at len number categories nodes numbers
       → b ≡ grownIn t category parent at len number categories nodes numbers
   unfolding grownIn
-  grown-within h l e = e ∙ sym (simp (le-leb nodes 64 h, le-leb numbers 256 l))
+  grown-within h l e = e ∙ sym (simp (le-leb nodes mostNodes h, le-leb numbers mostTableUrns l))
 
-  pub over-nodes : 64 < nodes → false ≡ grownIn t category parent at len number categories nodes numbers
+  pub over-nodes : mostNodes < nodes → false ≡ grownIn t category parent at len number categories nodes numbers
   unfolding grownIn
-  over-nodes h = sym (simp (lt-leb nodes 64 h))
+  over-nodes h = sym (simp (lt-leb nodes mostNodes h))
 
-  pub over-numbers : nodes ≤ 64 → 256 < numbers → false ≡ grownIn t category parent at len number categories nodes numbers
+  pub over-numbers : nodes ≤ mostNodes → mostTableUrns < numbers → false ≡ grownIn t category parent at len number categories nodes numbers
   unfolding grownIn
-  over-numbers h l = sym (simp (le-leb nodes 64 h, lt-leb numbers 256 l))
+  over-numbers h l = sym (simp (le-leb nodes mostNodes h, lt-leb numbers mostTableUrns l))
 
-  pub judges-in : {r : Bool} → r ≡ grownIn t category parent at len number categories nodes numbers → Judges t category parent at len number categories nodes numbers r
+  pub judges-in : {r : Bool} → r ≡ grownIn t category parent at len number categories nodes numbers
+      → Judges t category parent at len number categories nodes numbers r
   unfolding grownIn
   judges-in e names ss k h l these =
-      e ∙ simp (le-leb nodes 64 h, le-leb numbers 256 l) (sym (grown-by t category parent at len number categories nodes numbers names ss k h these))
+      e ∙ simp (
+        le-leb nodes mostNodes h,
+        le-leb numbers mostTableUrns l,
+      ) (sym (grown-by t category parent at len number categories nodes numbers names ss k h these))
 
 -- the same of the last names
 module _ (t at len : List ℕ) (n : ℕ) where
-  pub lasts-over : 64 < n → false ≡ lastsFormed t at len n
+  pub lasts-over : mostNodes < n → false ≡ lastsFormed t at len n
   unfolding lastsFormed
-  lasts-over h = sym (simp (lt-leb n 64 h))
+  lasts-over h = sym (simp (lt-leb n mostNodes h))
 
-  pub lasts-within : {b : Bool} → n ≤ 64 → b ≡ all storedName (tabulate (stretch t at len) n) → b ≡ lastsFormed t at len n
+  pub lasts-within : {b : Bool} → n ≤ mostNodes → b ≡ all storedName (tabulate (stretch t at len) n) → b ≡ lastsFormed t at len n
   unfolding lastsFormed
-  lasts-within h e = e ∙ sym (simp (le-leb n 64 h))
+  lasts-within h e = e ∙ sym (simp (le-leb n mostNodes h))
 
-  pub lasts-in : {r : Bool} → r ≡ lastsFormed t at len n → n ≤ 64 → r ≡ all storedName (tabulate (stretch t at len) n)
+  pub lasts-in : {r : Bool} → r ≡ lastsFormed t at len n → n ≤ mostNodes → r ≡ all storedName (tabulate (stretch t at len) n)
   unfolding lastsFormed
-  lasts-in e h = e ∙ simp (le-leb n 64 h)
+  lasts-in e h = e ∙ simp (le-leb n mostNodes h)

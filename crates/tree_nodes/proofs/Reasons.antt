@@ -10,53 +10,31 @@ use native.Mathlib.Omega.{arith}
 use lib.ListN.{length, getD, List·getD-eq-default}
 use lib.Dec.{eqb, leb, ltb}
 use borrow.Author.Tests.{eq-eqb, eqb-true, le-leb, leb-true, leb-false, ltb-true, ltb-false}
-use Rattle.theory_resolution.specs.Lists.{allBelow as forall}
+use Rattle.base_lists.specs.Lists.{allBelow as forall}
+use Rattle.base_lists.proofs.Tests.{all-joined, all-mem, all-not, two-not}
+use Rattle.base_lists.proofs.Bools.{byTest}
+use Rattle.base_lists.specs.Tests.{all, noTwo}
+use Rattle.base_lists.specs.Numbers.{within}
+use Rattle.base_lists.proofs.Lists.{mem-at}
+use Rattle.base_lists.proofs.Below.{all-to}
 use Rattle.theory_resolution.specs.Names.{sameName}
-use Rattle.theory_resolution.proofs.Lists.{all-to, mem-at}
 use Rattle.theory_resolution.proofs.Names.{name-exact}
-use Rattle.base_ascii.specs.Ascii.{within}
-use Rattle.base_text.specs.Text.{all}
-use Rattle.base_text.proofs.Fields.{byTest}
-use Rattle.table_places.specs.Tests.{any, noTwo}
-use Rattle.table_places.proofs.Flat.{all-joined}
-use Rattle.table_decode.proofs.Accepting.{all-mem, two-at}
+use Rattle.table_decode.proofs.Accepting.{two-at}
 use Rattle.tree_sections.specs.Tree.{Node, nodeOf, Tree}
 use Rattle.tree_forms.specs.Refusals.{numbered, parented, allParented, grown}
 use Rattle.tree_forms.proofs.Growing.{suc-zero}
 use Rattle.tree_nodes.specs.Scan.{sameNode, linked, reached, isCount, scanned}
-use Rattle.tree_nodes.specs.Ungrown.{numbersOf, RightParent, Over, itself, higher, Appears, Ungrown, no-category, no-node, no-parent, repeated, unused, out-of-order, UngrownExactly}
+use Rattle.tree_nodes.specs.Ungrown.{numbersOf, RightParent, Over, itself, higher, Appears, Ungrown, no-category, no-node, no-parent, repeated}
+use Rattle.tree_nodes.specs.Ungrown.{unused, out-of-order, UngrownExactly}
 use Rattle.tree_nodes.proofs.Scanning.{grown-scanned}
 
 abbrev noNode : Node
 noNode = record { category = 0; parent = 0; last = [] }
 
--- a test that fails at some element, or below some number
-pub all-not : {A : Type 0} (p : A → Bool) (xs : List A) (d : A) → all p xs ≡ false → (i : ℕ) × (i < length xs) × (p (getD xs i d) ≡ false)
-unfolding all
-all-not p [] d e = absurd (true≢false e)
-all-not {A} p (x ∷ xs) d e = byTest (p x) (λ h. go h (λ f. all-not p xs d f)) (λ h. (0, omega arith, h))
-  where
-    go : p x ≡ true → (all p xs ≡ false → (i : ℕ) × (i < length xs) × (p (getD xs i d) ≡ false)) → (i : ℕ) × (i < length (x ∷ xs)) × (p (getD (x ∷ xs) i d) ≡ false)
-    go h ih = let w = ih (rw h at e) in (suc (w .0), omega (arith, w .1), w .2)
-
 forall-not : (n : ℕ) (f : ℕ → Bool) → forall n f ≡ false → (i : ℕ) × (i < n) × (f i ≡ false)
 unfolding forall
 forall-not zero f e = absurd (true≢false e)
 forall-not (suc n) f e = byTest (forall n f) (λ h. (n, omega arith, rw h at e)) (λ h. let w = forall-not n f h in (w .0, omega (arith, w .1), w .2))
-
-any-yes : {A : Type 0} (p : A → Bool) (xs : List A) (d : A) → any p xs ≡ true → (j : ℕ) × (j < length xs) × (p (getD xs j d) ≡ true)
-unfolding any
-any-yes p [] d e = absurd (false≢true e)
-any-yes {A} p (x ∷ xs) d e = byTest (p x) (λ h. (0, omega arith, h)) (λ h. let w = any-yes p xs d (rw h at e) in (suc (w .0), omega (arith, w .1), w .2))
-
-pub two-not : {A : Type 0} (q : A → A → Bool) (xs : List A) (d : A) → noTwo q xs ≡ false
-    → (i : ℕ) × (j : ℕ) × (i < j) × (j < length xs) × (q (getD xs i d) (getD xs j d) ≡ true)
-unfolding noTwo
-two-not q [] d e = absurd (true≢false e)
-two-not {A} q (x ∷ xs) d e =
-    byTest (any (q x) xs)
-    (λ h. let w = any-yes (q x) xs d h in (0, suc (w .0), omega arith, omega (arith, w .1), w .2))
-    (λ h. let w = two-not q xs d (rw h at e) in (suc (w .0), suc (w .1), omega (arith, w .2), omega (arith, w .3), w .4))
 
 -- a parent is right, by test and in words
 parent-right : (ns : List Node) (i : ℕ) → parented ns i ≡ true → RightParent ns i
@@ -81,7 +59,11 @@ right-parent ns i r = go (nodeOf ns i .parent) r
     go (suc j) (inr w) =
         let o : suc j - 1 ≡ j = omega arith in
         let s : w .0 ≡ j = omega (arith, w .2) in
-        rw (suc-zero j, le-leb (suc j) i (omega (arith, w .1)), o) (eq-eqb (nodeOf ns j .category) (nodeOf ns i .category) (ap (λ k. nodeOf ns k .category) (sym s) ∙ w .3))
+        rw (
+          suc-zero j,
+          le-leb (suc j) i (omega (arith, w .1)),
+          o,
+        ) (eq-eqb (nodeOf ns j .category) (nodeOf ns i .category) (ap (λ k. nodeOf ns k .category) (sym s) ∙ w .3))
 
 over-view : (ns : List Node) (a b : ℕ) → Over ns a b → (a ≡ b) ⊎ ((i : ℕ) × (b ≡ suc i) × Over ns a (nodeOf ns i .parent))
 over-view ns a b itself = inl refl
@@ -130,7 +112,8 @@ module _ (ns : List Node) (low : (i : ℕ) → nodeOf ns i .parent ≤ i) where
           omega (arith, h, low i, e)
   over-both i k o (higher j u) = go (over-view ns i (suc j) o) (λ c. over-both i (nodeOf ns j .parent) c u)
     where
-      go : (i ≡ suc j) ⊎ ((m : ℕ) × (suc j ≡ suc m) × Over ns i (nodeOf ns m .parent)) → (Over ns i (nodeOf ns j .parent) → nodeOf ns i .parent ≡ i) → nodeOf ns i .parent ≡ i
+      go : (i ≡ suc j) ⊎ ((m : ℕ) × (suc j ≡ suc m) × Over ns i (nodeOf ns m .parent))
+          → (Over ns i (nodeOf ns j .parent) → nodeOf ns i .parent ≡ i) → nodeOf ns i .parent ≡ i
       go (inl e) ih = absurd (omega (arith, over-le (suc i) (nodeOf ns j .parent) u, low j))
       go (inr w) ih = let s : w .0 ≡ j = omega (arith, w .1) in ih (subst (λ (m : ℕ). Over ns i (nodeOf ns m .parent)) s (w .2))
 
@@ -158,9 +141,11 @@ module _ (ns : List Node) (low : (i : ℕ) → nodeOf ns i .parent ≤ i) where
   not-linked m k e =
       let w = forall-not (k - suc m) (λ j. eqb (nodeOf ns (suc m + j) .parent) (suc m + j)) e in
       let i : ℕ = suc m + w .0 in
-      go i (omega (arith, w .1)) (omega arith) (λ q. true≢false (sym (eq-eqb (nodeOf ns i .parent) i q) ∙ w .2)) (over-by i (suc k) k (omega arith)) (over-by (suc i) (suc k) k (omega arith))
+      go i (omega (arith, w .1)) (omega arith) (λ q. true≢false (sym (eq-eqb (nodeOf ns i .parent) i q) ∙ w .2))
+      (over-by i (suc k) k (omega arith)) (over-by (suc i) (suc k) k (omega arith))
     where
-      go : (i : ℕ) → suc i ≤ k → m < i → (nodeOf ns i .parent ≡ i → ⊥) → Dec (Over ns i k) → Dec (Over ns (suc i) k) → (a : ℕ) × (m < a) × (a < k) × (Over ns a k → ⊥)
+      go : (i : ℕ) → suc i ≤ k → m < i → (nodeOf ns i .parent ≡ i → ⊥) → Dec (Over ns i k) → Dec (Over ns (suc i) k) → (a : ℕ) × (m < a)
+          × (a < k) × (Over ns a k → ⊥)
       go i h l n (no o) c = (i, l, omega arith, o)
       go i h l n (yes o) (yes c) = absurd (n (over-both i k o c))
       go i h l n (yes o) (no c) = (suc i, omega arith, less (ℕ-discrete (suc i) k), c)
@@ -245,7 +230,8 @@ module _ (ns : List Node) (low : (i : ℕ) → nodeOf ns i .parent ≤ i) where
           at (suc q) i o = w .5 q (omega arith) o
 
       go : (b : Bool) → leb k m ≡ b → (c : Bool) → linked ns m k ≡ c → cond b (reached ns m ks) (cond c (reached ns k ks) none) ≡ none
-          → ((z : ℕ) → reached ns z ks ≡ none → (p : ℕ) × (a : ℕ) × (p < length ks) × (z < a) × (a < getD ks p 0) × ((q : ℕ) → q ≤ p → Over ns a (getD ks q 0) → ⊥))
+          → ((z : ℕ) → reached ns z ks ≡ none → (p : ℕ) × (a : ℕ) × (p < length ks) × (z < a) × (a < getD ks p 0)
+          × ((q : ℕ) → q ≤ p → Over ns a (getD ks q 0) → ⊥))
           → (p : ℕ) × (a : ℕ) × (p < length (k ∷ ks)) × (m < a) × (a < getD (k ∷ ks) p 0) × ((q : ℕ) → q ≤ p → Over ns a (getD (k ∷ ks) q 0) → ⊥)
       go true b c q e ih = later m (omega arith) (leb-true k m b) (ih m e)
       go false b true q e ih = later k (omega (arith, leb-false k m b)) (omega arith) (ih k e)
@@ -314,7 +300,11 @@ module _ (x : Tree) where
     no-reason : Ungrown x → ⊥
     unfolding allParented
     no-reason (no-category i h l) =
-        omega (arith, ltb-true (nodeOf ns i .category) (length (x .names)) (all-mem (λ n. ltb (n .category) (length (x .names))) ns (nodeOf ns i) a (mem-at ns i noNode h)))
+        omega (
+          arith,
+          ltb-true (nodeOf ns i .category) (length (x .names)) (all-mem (λ n. ltb (n .category) (length (x .names))) ns
+              (nodeOf ns i) a (mem-at ns i noNode h)),
+        )
     no-reason (no-node k m (inl z)) = omega (arith, number-there b k m)
     no-reason (no-node k m (inr z)) = omega (arith, number-there b k m)
     no-reason (no-parent i h n) = n (parent-right ns i (all-to (length ns) (parented ns) c i h))

@@ -4,30 +4,30 @@ use mathlib.Core.Path.{_≡_, refl, ap, ap₂, sym, _∙_, subst}
 use mathlib.Core.Logic.{_⊎_, inl, inr}
 use mathlib.Core.Bool.{Bool, true, false, cond, _&&_, _||_, and-eq-true-iff, true≢false, false≢true}
 use mathlib.Core.Option.{Option, none, some}
-use mathlib.Core.List.{List, [], _∷_, _++_, map, foldl, foldl-append, append-assoc, append-nil, List·Memᴰ, List·Memᴰ·head, List·Memᴰ·tail}
+use mathlib.Core.List.{List, [], _∷_, _++_, map, foldl, foldl-append, append-assoc, append-nil, List·Memᴰ, List·Memᴰ·head, List·Memᴰ·tail, map-append}
+use mathlib.Core.List.{foldl-map}
 use native.Mathlib.Nat.{add-zero, zero-add}
 use native.Mathlib.Decide.{decLt, ℕ-discrete}
 use native.Mathlib.Omega.{arith}
-use lib.ListN.{length, getD, take, length-append}
+use lib.ListN.{length, take, length-append}
 use lib.Seq.{getD-append-seam, take-suc, take-all, getD-take, length-take-le, getD-at}
 use lib.Dec.{eqb, leb, ltb}
 use borrow.Author.Tests.{eq-eqb, eqb-true, leb-true, leb-false}
-use Rattle.theory_resolution.specs.Lists.{addBy, indexBy, sameList, Distinct, allBelow}
+use Rattle.base_lists.proofs.Tests.{all-joined, all-mem, no-two-of}
+use Rattle.base_lists.specs.Tests.{noTwo, all as every}
+use Rattle.base_lists.proofs.Bools.{byTest, same-test}
+use Rattle.base_lists.specs.Numbers.{within}
+use Rattle.base_lists.proofs.Lists.{Extends, extends-self, extends-trans, at-extends, add-extends, mem-at, member-of, list-exact, index-member}
+use Rattle.base_lists.proofs.Lists.{index-at, index-take}
+use Rattle.base_lists.specs.Lists.{addBy, indexBy, sameList, Distinct, allBelow, joined}
 use Rattle.theory_resolution.specs.Names.{Name, Parts, sameName}
 use Rattle.theory_resolution.specs.Table.{Urn, urn}
 use Rattle.theory_resolution.specs.Nodes.{sameUrn, member, past, prefixes, addUrn, nodes, nodeAt}
-use Rattle.theory_resolution.proofs.Lists.{Extends, extends-self, extends-trans, at-extends, add-extends, mem-at, member-of, list-exact, index-member, index-at, index-take}
 use Rattle.theory_resolution.proofs.Names.{name-exact, snoc-injective}
 use Rattle.theory_resolution.proofs.Nodes.{urn-exact}
 use Rattle.theory_resolution.proofs.Numbers.{nodes-ordered}
-use Rattle.base_ascii.specs.Ascii.{within}
-use Rattle.base_text.specs.Text.{all as every}
-use Rattle.base_text.proofs.Fields.{byTest}
-use Rattle.table_places.specs.Tests.{any, noTwo}
-use Rattle.table_sections.specs.Held.{joined}
-use Rattle.table_places.proofs.TestLaws.{same-test}
-use Rattle.table_places.proofs.Flat.{nodes-joined, map-join, all-joined}
-use Rattle.table_decode.proofs.Accepting.{all-mem, two-at}
+use Rattle.table_places.proofs.Flat.{nodes-joined}
+use Rattle.table_decode.proofs.Accepting.{two-at}
 use Rattle.tree_sections.specs.Tree.{Node, nodeOf, Tree}
 use Rattle.tree_forms.specs.Meaning.{urnOf, nodeUrn, urnsAfter, urnsOf, tableOfTree, lastName}
 use Rattle.tree_forms.specs.Refusals.{inOrder, numbered, allParented, grown}
@@ -138,7 +138,8 @@ module _ (ns : List Node) (us : List Urn) (size : length us ≡ length ns) (fact
       let t : length (take m us) ≡ m = length-take-le m us (omega arith) in
       let v : nodeAt (take m us) i ≡ nodeAt us i = getD-take m us i (urn 0 []) (omega arith) in
       let w : member (nodeAt us i) (take m us) ≡ true =
-      member-of sameUrn urn-exact (nodeAt us i) (take m us) (subst (λ (u : Urn). List·Memᴰ u (take m us)) v (mem-at (take m us) i (urn 0 []) (omega (arith, t)))) in
+      member-of sameUrn urn-exact (nodeAt us i) (take m us)
+      (subst (λ (u : Urn). List·Memᴰ u (take m us)) v (mem-at (take m us) i (urn 0 []) (omega (arith, t)))) in
       add-next (take m us) i j
       ∙ ap (λ z. addBy sameUrn z (nodeAt us i)) (old-by b m (nodeOf ns i .parent) (omega (arith, lo)) (omega (arith, lo)) n)
       ∙ add-there (take m us) (nodeAt us i) w
@@ -196,7 +197,8 @@ module _ (ns : List Node) (us : List Urn) (size : length us ≡ length ns) (fact
         let k : m < length us = omega arith in
         let v : nodeAt us m ≡ nodeAt us i =
         at-extends (urn 0 []) x m (omega arith) ∙ getD-at (take m us) (nodeAt us i) [] (urn 0 []) m t in
-        sym (index-at sameUrn urn-exact (urn 0 []) us d m k) ∙ ap (λ (u : Urn). indexBy sameUrn u us) v ∙ index-at sameUrn urn-exact (urn 0 []) us d i (omega arith)
+        sym (index-at sameUrn urn-exact (urn 0 []) us d m k) ∙ ap (λ (u : Urn). indexBy sameUrn u us) v
+        ∙ index-at sameUrn urn-exact (urn 0 []) us d i (omega arith)
 
     -- if the list goes on as that of all nodes does, the nodes are linked
     links-by : (b m k : ℕ) → k < b → m < k → k ≤ length ns → Extends (addNode (take m us) k) us → linked ns m k ≡ true
@@ -211,15 +213,18 @@ module _ (ns : List Node) (us : List Urn) (size : length us ≡ length ns) (fact
         lo = facts i j .low
 
         inner : Extends (addNode (take m us) (nodeOf ns i .parent)) us
-        inner = extends-trans (add-extends sameUrn urn-exact (addNode (take m us) (nodeOf ns i .parent)) (nodeAt us i)) (subst (λ (z : List Urn). Extends z us) (add-next (take m us) i j) x)
+        inner = extends-trans (add-extends sameUrn urn-exact (addNode (take m us) (nodeOf ns i .parent)) (nodeAt us i))
+            (subst (λ (z : List Urn). Extends z us) (add-next (take m us) i j) x)
 
         ends : (k : ℕ) → addNode (take m us) (nodeOf ns i .parent) ≡ take k us → k ≤ i → k ≡ i
         ends k e a =
             ends-at k i (omega arith) j
-            (subst (λ (z : List Urn). Extends z us) (add-next (take m us) i j ∙ ap (λ z. addBy sameUrn z (nodeAt us i)) e ∙ add-new (take k us) (nodeAt us i) (not-first k i a j)) x)
+            (subst (λ (z : List Urn). Extends z us) (add-next (take m us) i j ∙ ap (λ z. addBy sameUrn z (nodeAt us i)) e
+            ∙ add-new (take k us) (nodeAt us i) (not-first k i a j)) x)
 
         go : Dec (m < nodeOf ns i .parent)
-            → (nodeOf ns i .parent < b → m < nodeOf ns i .parent → nodeOf ns i .parent ≤ length ns → Extends (addNode (take m us) (nodeOf ns i .parent)) us → linked ns m (nodeOf ns i .parent) ≡ true)
+            → (nodeOf ns i .parent < b → m < nodeOf ns i .parent → nodeOf ns i .parent ≤ length ns
+            → Extends (addNode (take m us) (nodeOf ns i .parent)) us → linked ns m (nodeOf ns i .parent) ≡ true)
             → linked ns m (suc i) ≡ true
         go (yes q) ih =
             let a = ih (omega (arith, lo)) q (omega (arith, lo)) inner in
@@ -243,7 +248,8 @@ module _ (ns : List Node) (us : List Urn) (size : length us ≡ length ns) (fact
         go false p true q e rest = rw (new-nodes m k (leb-false k m p) (b k (List·Memᴰ·head refl)) q) (rest k (b k (List·Memᴰ·head refl)) e)
         go false p false q e rest = let z : _≡_ {A = ℕ} 0 1 = cc in absurd (omega arith)
 
-    reached-fold : (ks : List ℕ) (m : ℕ) → Every (λ k. k ≤ length ns) ks → m ≤ length ns → Extends (foldl addNode (take m us) ks) us → (r : ℕ) × (reached ns m ks ≡ some r)
+    reached-fold : (ks : List ℕ) (m : ℕ) → Every (λ k. k ≤ length ns) ks → m ≤ length ns → Extends (foldl addNode (take m us) ks) us
+        → (r : ℕ) × (reached ns m ks ≡ some r)
     unfolding reached
     reached-fold [] m b h x = (m, refl)
     reached-fold (k ∷ ks) m b h x = go (leb k m) refl (λ z i y. reached-fold ks z (λ y n. b y (List·Memᴰ·tail n)) i y)
@@ -298,11 +304,14 @@ module _ (ns : List Node) (us : List Urn) (size : length us ≡ length ns) (fact
   one-urn u (suc b) i j l h k e =
       let f = facts i h in
       let g = facts j k in
-      let p : urnOf us (nodeOf ns i .parent) .path ++ nodeOf ns i .last ∷ [] ≡ urnOf us (nodeOf ns j .parent) .path ++ nodeOf ns j .last ∷ [] = sym (f .path) ∙ ap (λ (z : Urn). z .path) e ∙ g .path in
+      let p : urnOf us (nodeOf ns i .parent) .path ++ nodeOf ns i .last ∷ [] ≡ urnOf us (nodeOf ns j .parent) .path ++ nodeOf ns j .last
+      ∷ [] = sym (f .path) ∙ ap (λ (z : Urn). z .path) e ∙ g .path in
       let q = snoc-injective _ _ _ _ p in
-      let r : nodeOf ns i .last ≡ nodeOf ns j .last = sym (last-snoc (urnOf us (nodeOf ns i .parent) .path) (nodeOf ns i .last)) ∙ ap lastName p ∙ last-snoc (urnOf us (nodeOf ns j .parent) .path) (nodeOf ns j .last) in
+      let r : nodeOf ns i .last ≡ nodeOf ns j .last = sym (last-snoc (urnOf us (nodeOf ns i .parent) .path) (nodeOf ns i .last))
+      ∙ ap lastName p ∙ last-snoc (urnOf us (nodeOf ns j .parent) .path) (nodeOf ns j .last) in
       let c : nodeOf ns i .category ≡ nodeOf ns j .category = sym (f .cat) ∙ ap (λ (z : Urn). z .cat) e ∙ g .cat in
-      u i j h k (is-same (nodeOf ns i) (nodeOf ns j) c (parents (nodeOf ns i .parent) (nodeOf ns j .parent) q c (f .low) (g .low) (f .same) (g .same) (λ a x y z w. one-urn u b a x y z w)) r)
+      u i j h k (is-same (nodeOf ns i) (nodeOf ns j) c (parents (nodeOf ns i .parent) (nodeOf ns j .parent) q c (f .low) (g .low) (f .same)
+      (g .same) (λ a x y z w. one-urn u b a x y z w)) r)
     where
       parents : (a z : ℕ) → urnOf us a .path ≡ urnOf us z .path → nodeOf ns i .category ≡ nodeOf ns j .category → a ≤ i → z ≤ j
           → (a ≡ 0) ⊎ (urnOf us a .cat ≡ nodeOf ns i .category) → (z ≡ 0) ⊎ (urnOf us z .cat ≡ nodeOf ns j .category)
@@ -312,18 +321,6 @@ module _ (ns : List Node) (us : List Urn) (size : length us ≡ length ns) (fact
       parents (suc x) (suc y) q c lo hi (inl s) t ih = absurd (omega arith)
       parents (suc x) (suc y) q c lo hi (inr s) (inl t) ih = absurd (omega arith)
       parents (suc x) (suc y) q c lo hi (inr s) (inr t) ih = ap suc (ih x y (omega arith) (omega arith) (omega arith) (ap₂ urn (s ∙ c ∙ sym t) q))
-
--- no two elements alike, by places
-not-any : {A : Type 0} (p : A → Bool) (xs : List A) (d : A) → ((j : ℕ) → j < length xs → p (getD xs j d) ≡ false) → any p xs ≡ false
-unfolding any
-not-any p [] d h = refl
-not-any p (x ∷ xs) d h = rw (h 0 (omega arith)) (not-any p xs d (λ j i. h (suc j) (omega arith)))
-
-pub no-two-of : {A : Type 0} (q : A → A → Bool) (xs : List A) (d : A) → ((i j : ℕ) → i < j → j < length xs → q (getD xs i d) (getD xs j d) ≡ false) → noTwo q xs ≡ true
-unfolding noTwo
-no-two-of q [] d h = refl
-no-two-of q (x ∷ xs) d h =
-    rw (not-any (q x) xs d (λ j i. h 0 (suc j) (omega arith) (omega arith))) (no-two-of q xs d (λ i j a b. h (suc i) (suc j) (omega arith) (omega arith)))
 
 distinct-of : (us : List Urn) → ((i j : ℕ) → i < length us → j < length us → nodeAt us i ≡ nodeAt us j → i ≡ j) → Distinct sameUrn us
 distinct-of [] h = tt
@@ -335,14 +332,10 @@ distinct-of (u ∷ us) h = (go (member u us) refl, distinct-of us (λ i j a b e.
         let w = index-member sameUrn urn-exact (urn 0 []) u us e in
         absurd (omega (arith, h 0 (suc (indexBy sameUrn u us)) (omega arith) (omega (arith, w .0)) (sym (w .1))))
 
-fold-map : {A B S : Type 0} (f : S → B → S) (g : A → B) (s : S) (l : List A) → foldl f s (map g l) ≡ foldl (λ s x. f s (g x)) s l
-fold-map f g s [] = refl
-fold-map f g s (x ∷ l) = fold-map f g (f s (g x)) l
-
 joined-map : {A B : Type 0} (g : A → B) (ss : List (List A)) → joined (map (map g) ss) ≡ map g (joined ss)
 unfolding joined
 joined-map g [] = refl
-joined-map g (s ∷ ss) = ap (λ z. map g s ++ z) (joined-map g ss) ∙ sym (map-join g s (joined ss))
+joined-map g (s ∷ ss) = ap (λ z. map g s ++ z) (joined-map g ss) ∙ sym (map-append g s (joined ss))
 
 count-is : (n : ℕ) (o : Option ℕ) → isCount n o ≡ true → o ≡ some n
 count-is n none e = absurd (false≢true e)
@@ -371,7 +364,7 @@ module _ (x : Tree) (p : allUnder [] (x .nodes) ≡ true) (b : every (every (wit
       leb-true k (length ns) (and-eq-true-iff (leb 1 k) (leb k (length ns)) .0 e .1)
 
   as-fold : nodes (tableOfTree x) ≡ foldl (addNode ns us size facts) [] ks
-  as-fold = nodes-joined (tableOfTree x) ∙ ap (foldl addUrn []) (joined-map (urnOf us) (x .signals)) ∙ fold-map addUrn (urnOf us) [] ks
+  as-fold = nodes-joined (tableOfTree x) ∙ ap (foldl addUrn []) (joined-map (urnOf us) (x .signals)) ∙ foldl-map (urnOf us) addUrn ks []
 
   order-scanned : inOrder x ≡ true → scanned x ≡ true
   unfolding inOrder scanned
@@ -382,14 +375,16 @@ module _ (x : Tree) (p : allUnder [] (x .nodes) ≡ true) (b : every (every (wit
       let r = reached-fold ns us size facts d ks 0 bounds (omega arith) (rw f (extends-self us)) in
       let w = fold-reached ns us size facts d ks 0 (r .0) bounds (omega arith) (r .1) in
       let l : r .0 ≡ length ns = omega (arith, ap length (sym f ∙ w .0), length-take-le (r .0) us (omega (arith, w .1, size)), size) in
-      ap₂ _&&_ (no-two-of sameNode ns (record { category = 0; parent = 0; last = [] }) (apart d)) (ap (isCount (length ns)) (r .1) ∙ eq-eqb (r .0) (length ns) l)
+      ap₂ _&&_ (no-two-of sameNode ns (record { category = 0; parent = 0; last = [] }) (apart d)) (ap (isCount (length ns)) (r .1)
+      ∙ eq-eqb (r .0) (length ns) l)
     where
       apart : Distinct sameUrn us → (i j : ℕ) → i < j → j < length ns → sameNode (nodeOf ns i) (nodeOf ns j) ≡ false
       apart d i j h k =
           byTest (sameNode (nodeOf ns i) (nodeOf ns j))
           (λ q.
           let v = same-urn ns us size facts i j (omega arith) k q in
-          let z : i ≡ j = sym (index-at sameUrn urn-exact (urn 0 []) us d i (omega (arith, size))) ∙ ap (λ (u : Urn). indexBy sameUrn u us) v ∙ index-at sameUrn urn-exact (urn 0 []) us d j (omega (arith, size)) in
+          let z : i ≡ j = sym (index-at sameUrn urn-exact (urn 0 []) us d i (omega (arith, size))) ∙ ap (λ (u : Urn). indexBy sameUrn u us)
+          v ∙ index-at sameUrn urn-exact (urn 0 []) us d j (omega (arith, size)) in
           absurd (omega arith))
           (λ q. q)
 
@@ -397,7 +392,8 @@ module _ (x : Tree) (p : allUnder [] (x .nodes) ≡ true) (b : every (every (wit
   unfolding inOrder scanned
   scanned-order e =
       let a = and-eq-true-iff (noTwo sameNode ns) (isCount (length ns) (reached ns 0 ks)) .0 e in
-      let d : Distinct sameUrn us = distinct-of us (λ i j h k v. one-urn ns us size facts (once (a .0)) (suc i) i j (omega arith) (omega (arith, size)) (omega (arith, size)) v) in
+      let d : Distinct sameUrn us =
+      distinct-of us (λ i j h k v. one-urn ns us size facts (once (a .0)) (suc i) i j (omega arith) (omega (arith, size)) (omega (arith, size)) v) in
       let w = fold-reached ns us size facts d ks 0 (length ns) bounds (omega arith) (count-is (length ns) (reached ns 0 ks) (a .1)) in
       let o : nodes (tableOfTree x) ≡ us = as-fold ∙ w .0 ∙ take-all (length ns) us (omega (arith, size)) in
       ap (sameList sameUrn us) o ∙ list-exact urn-exact .self us
@@ -409,7 +405,8 @@ module _ (x : Tree) (p : allUnder [] (x .nodes) ≡ true) (b : every (every (wit
           none-of = record { category = 0; parent = 0; last = [] }
 
           turned : sameNode (nodeOf ns j) (nodeOf ns i) ≡ true
-          turned = let s = same-is ns us size facts (nodeOf ns i) (nodeOf ns j) q in is-same ns us size facts (nodeOf ns j) (nodeOf ns i) (sym (s .0)) (sym (s .1)) (sym (s .2))
+          turned = let s = same-is ns us size facts (nodeOf ns i) (nodeOf ns j) q in
+              is-same ns us size facts (nodeOf ns j) (nodeOf ns i) (sym (s .0)) (sym (s .1)) (sym (s .2))
 
           go : Dec (i < j) → Dec (j < i) → i ≡ j
           go (yes a) c = absurd (true≢false (sym q ∙ two-at sameNode ns none-of t i j a k))
@@ -422,7 +419,8 @@ module _ (x : Tree) (p : allUnder [] (x .nodes) ≡ true) (b : every (every (wit
 -- 21
 numbers-known : (x : Tree) → numbered x ≡ true → every (every (within 1 (length (x .nodes)))) (x .signals) ≡ true
 unfolding numbered
-numbers-known x n = and-eq-true-iff (every (λ n. ltb (n .category) (length (x .names))) (x .nodes)) (every (every (within 1 (length (x .nodes)))) (x .signals)) .0 n .1
+numbers-known x n = and-eq-true-iff (every (λ n. ltb (n .category) (length (x .names))) (x .nodes))
+    (every (every (within 1 (length (x .nodes)))) (x .signals)) .0 n .1
 
 pub grown-scanned : (x : Tree) → grown x ≡ (numbered x && (allParented (x .nodes) && scanned x))
 unfolding grown

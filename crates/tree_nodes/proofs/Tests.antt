@@ -1,5 +1,5 @@
 -- Laws of the tests of 21 by the arrays, one step further.
-use Prim.Native.Nat.{ℕ, _+_, _-_, _≤_, _<_}
+use Prim.Native.Nat.{ℕ, _+_, _-_, _≤_, _<_, suc}
 use mathlib.Core.Path.{_≡_, refl, ap, ap₂, sym, _∙_}
 use mathlib.Core.Bool.{Bool, true, false, _&&_, and-eq-true-iff}
 use mathlib.Core.List.{List, [], _∷_, foldl, foldl-append}
@@ -7,16 +7,15 @@ use native.Mathlib.Omega.{arith}
 use lib.ListN.{getD}
 use lib.Dec.{eqb, leb, ltb}
 use borrow.Author.Tests.{eq-eqb, ne-eqb, lt-leb, le-leb, lt-ltb, le-ltb, leb-true}
-use Rattle.theory_resolution.specs.Lists.{tabulate}
+use Rattle.base_numbers.specs.Numbers.{mostNodes}
+use Rattle.base_lists.specs.Cuts.{stretch}
+use Rattle.base_lists.proofs.Tests.{all-mem, all-next, all-fails}
+use Rattle.base_lists.specs.Tests.{all, noTwo}
+use Rattle.base_lists.specs.Numbers.{within}
+use Rattle.base_lists.proofs.Tabulated.{tabulate-at, tabulate-length, tab-suc, tab-same-end}
+use Rattle.base_lists.proofs.Lists.{mem-at}
+use Rattle.base_lists.specs.Lists.{tabulate}
 use Rattle.theory_resolution.specs.Names.{sameName}
-use Rattle.theory_resolution.proofs.Lists.{mem-at, tabulate-at, tabulate-length}
-use Rattle.base_ascii.specs.Ascii.{within}
-use Rattle.base_text.specs.Text.{all}
-use Rattle.node_search.specs.Arrays.{stretch}
-use Rattle.table_places.specs.Tests.{noTwo}
-use Rattle.table_decode.proofs.Accepting.{all-mem}
-use Rattle.table_places.proofs.TestLaws.{all-next, all-fails}
-use Rattle.table_sections.proofs.Tabulated.{tab-suc, tab-same-end}
 use Rattle.tree_nodes.specs.Scan.{sameNode}
 use Rattle.tree_sections.specs.Held.{nodeFrom}
 use Rattle.tree_nodes.specs.Tests.{underAt, linkedBy, stepBy, grownBy}
@@ -56,24 +55,29 @@ module _ (t category parent at len : List ℕ) (i j : ℕ) where
 
   module _ (c : getD category i 0 ≡ getD category j 0) where
     pub not-parent : (getD parent i 0 ≡ getD parent j 0 → ⊥) → false ≡ sameNode (nodeFrom t category parent at len i) (nodeFrom t category parent at len j)
-    not-parent n = sym (ap₂ _&&_ (eq-eqb (getD category i 0) (getD category j 0) c) (ap (λ b. b && sameName (stretch t at len i) (stretch t at len j)) (ne-eqb (getD parent i 0) (getD parent j 0) n)))
+    not-parent n = sym (ap₂ _&&_ (eq-eqb (getD category i 0) (getD category j 0) c)
+        (ap (λ b. b && sameName (stretch t at len i) (stretch t at len j)) (ne-eqb (getD parent i 0) (getD parent j 0) n)))
 
     pub by-name : getD parent i 0 ≡ getD parent j 0 → {x y : List ℕ} {b : Bool} → b ≡ sameName x y → x ≡ stretch t at len i → y ≡ stretch t at len j
         → b ≡ sameNode (nodeFrom t category parent at len i) (nodeFrom t category parent at len j)
     by-name p f g h =
         f ∙ ap₂ sameName g h
-        ∙ sym (ap₂ _&&_ (eq-eqb (getD category i 0) (getD category j 0) c) (ap (λ b. b && sameName (stretch t at len i) (stretch t at len j)) (eq-eqb (getD parent i 0) (getD parent j 0) p)))
+        ∙ sym (ap₂ _&&_ (eq-eqb (getD category i 0) (getD category j 0) c)
+        (ap (λ b. b && sameName (stretch t at len i) (stretch t at len j)) (eq-eqb (getD parent i 0) (getD parent j 0) p)))
 
 -- linked nodes
 module _ (parent : List ℕ) (m j : ℕ) {x : ℕ} (e : x ≡ getD parent (m + 1 + j) 0) where
-  pub link-next : all (λ i. eqb (getD parent i 0) i) (tabulate (λ j. m + 1 + j) j) ≡ true → x ≡ m + 1 + j → all (λ i. eqb (getD parent i 0) i) (tabulate (λ j. m + 1 + j) (j + 1)) ≡ true
+  pub link-next : all (λ i. eqb (getD parent i 0) i) (tabulate (λ j. m + 1 + j) j) ≡ true → x ≡ m + 1 + j
+      → all (λ i. eqb (getD parent i 0) i) (tabulate (λ j. m + 1 + j) (j + 1)) ≡ true
   link-next v h = all-next (λ i. eqb (getD parent i 0) i) (λ j. m + 1 + j) j v refl (eq-eqb (getD parent (m + 1 + j) 0) (m + 1 + j) (sym e ∙ h))
 
   pub link-fails : (k : ℕ) → j < k - m - 1 → (x ≡ m + 1 + j → ⊥) → false ≡ linkedBy parent m k
   unfolding linkedBy
-  link-fails k h n = all-fails (λ i. eqb (getD parent i 0) i) (λ j. m + 1 + j) j (k - m - 1) h refl (ne-eqb (getD parent (m + 1 + j) 0) (m + 1 + j) (λ q. n (e ∙ q)))
+  link-fails k h n = all-fails (λ i. eqb (getD parent i 0) i) (λ j. m + 1 + j) j (k - m - 1) h refl
+      (ne-eqb (getD parent (m + 1 + j) 0) (m + 1 + j) (λ q. n (e ∙ q)))
 
-pub link-ends : (parent : List ℕ) (m k j : ℕ) → all (λ i. eqb (getD parent i 0) i) (tabulate (λ j. m + 1 + j) j) ≡ true → j ≤ k - m - 1 → k - m - 1 ≤ j → true ≡ linkedBy parent m k
+pub link-ends : (parent : List ℕ) (m k j : ℕ) → all (λ i. eqb (getD parent i 0) i) (tabulate (λ j. m + 1 + j) j) ≡ true → j ≤ k - m - 1
+    → k - m - 1 ≤ j → true ≡ linkedBy parent m k
 unfolding linkedBy
 link-ends parent m k j v h l = sym (ap (all (λ i. eqb (getD parent i 0) i)) (sym (tab-same-end (λ j. m + 1 + j) j (k - m - 1) h l)) ∙ v)
 
@@ -88,7 +92,7 @@ module _ (parent : List ℕ) (m k : ℕ) where
     unfolding stepBy
     step-new t = sym (rw (lt-leb k m h, sym e ∙ t))
 
-    pub step-none : b ≡ false → 65 ≡ stepBy parent m k
+    pub step-none : b ≡ false → (suc mostNodes) ≡ stepBy parent m k
     unfolding stepBy
     step-none t = sym (rw (lt-leb k m h, sym e ∙ t))
 
@@ -103,7 +107,7 @@ pub scan-ends : (s : ℕ → ℕ → ℕ) (f : ℕ → ℕ) (i n : ℕ) {m : ℕ
 scan-ends s f i n v h k = v ∙ ap (foldl s 0) (tab-same-end f i n h k)
 
 -- numbers that are there are at most 64
-pub numbers-small : (f : ℕ → ℕ) (m n : ℕ) {b : Bool} → b ≡ all (within 1 n) (tabulate f m) → b ≡ true → n ≤ 64 → (i : ℕ) → i < m → f i ≤ 64
+pub numbers-small : (f : ℕ → ℕ) (m n : ℕ) {b : Bool} → b ≡ all (within 1 n) (tabulate f m) → b ≡ true → n ≤ mostNodes → (i : ℕ) → i < m → f i ≤ mostNodes
 numbers-small f m n e t h i k =
     let l = tabulate-length f m in
     let v = tabulate-at f m i 0 k in
@@ -112,7 +116,8 @@ numbers-small f m n e t h i k =
     omega (arith, u, v)
 
 -- the row of tests
-module _ (t category parent at len number : List ℕ) (categories nodes numbers : ℕ) {a : Bool} (e : a ≡ all (λ x. ltb x categories) (tabulate (λ i. getD category i 0) nodes)) where
+module _ (t category parent at len number : List ℕ) (categories nodes numbers : ℕ) {a : Bool}
+    (e : a ≡ all (λ x. ltb x categories) (tabulate (λ i. getD category i 0) nodes)) where
   pub no-category : a ≡ false → false ≡ grownBy t category parent at len number categories nodes numbers
   unfolding grownBy
   no-category z = sym (rw (sym e ∙ z))
@@ -132,6 +137,7 @@ module _ (t category parent at len number : List ℕ) (categories nodes numbers 
         unfolding grownBy
         twice w = sym (rw (sym e ∙ x, sym f ∙ y, sym g ∙ z, sym h ∙ w))
 
-        pub by-scan : d ≡ true → {r : ℕ} → r ≡ foldl (stepBy parent) 0 (tabulate (λ i. getD number i 0) numbers) → eqb r nodes ≡ grownBy t category parent at len number categories nodes numbers
+        pub by-scan : d ≡ true → {r : ℕ} → r ≡ foldl (stepBy parent) 0 (tabulate (λ i. getD number i 0) numbers)
+            → eqb r nodes ≡ grownBy t category parent at len number categories nodes numbers
         unfolding grownBy
         by-scan w q = sym (rw (sym e ∙ x, sym f ∙ y, sym g ∙ z, sym h ∙ w, ← q))

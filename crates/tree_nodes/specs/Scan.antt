@@ -5,10 +5,9 @@ use mathlib.Core.Option.{Option, none, some}
 use mathlib.Core.List.{List, [], _∷_}
 use lib.ListN.{length}
 use lib.Dec.{leb, eqb}
-use Rattle.theory_resolution.specs.Lists.{allBelow}
+use Rattle.base_lists.specs.Tests.{noTwo}
+use Rattle.base_lists.specs.Lists.{allBelow, joined}
 use Rattle.theory_resolution.specs.Names.{sameName}
-use Rattle.table_places.specs.Tests.{noTwo}
-use Rattle.table_sections.specs.Held.{joined}
 use Rattle.tree_sections.specs.Tree.{Node, nodeOf, Tree}
 
 -- the same category, parent and last name

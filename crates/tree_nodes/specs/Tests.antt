@@ -1,18 +1,17 @@
 -- The tests of 21, by the arrays that hold a tree.
-use Prim.Native.Nat.{ℕ, _+_, _-_, _≤_}
+use Prim.Native.Nat.{ℕ, _+_, _-_, _≤_, suc}
 use mathlib.Core.Path.{_≡_}
 use mathlib.Core.Bool.{Bool, cond, _&&_, _||_}
 use mathlib.Core.List.{List, foldl}
 use lib.ListN.{length, getD}
 use lib.Dec.{eqb, leb, ltb}
-use Rattle.theory_resolution.specs.Lists.{tabulate}
+use Rattle.base_numbers.specs.Numbers.{mostNodes, mostTableUrns}
+use Rattle.base_lists.specs.Cuts.{stretch}
+use Rattle.base_lists.specs.Tests.{all, noTwo}
+use Rattle.base_lists.specs.Numbers.{within}
+use Rattle.base_lists.specs.Lists.{tabulate, joined}
 use Rattle.theory_resolution.specs.Names.{Name}
-use Rattle.base_ascii.specs.Ascii.{within}
-use Rattle.base_text.specs.Text.{all}
 use Rattle.urn_names.specs.Urn.{storedName}
-use Rattle.node_search.specs.Arrays.{stretch}
-use Rattle.table_sections.specs.Held.{joined}
-use Rattle.table_places.specs.Tests.{noTwo}
 use Rattle.tree_sections.specs.Held.{nodeFrom}
 use Rattle.tree_forms.specs.Refusals.{grown}
 use Rattle.tree_nodes.specs.Scan.{sameNode}
@@ -28,7 +27,7 @@ linkedBy parent m k = all (λ i. eqb (getD parent i 0) i) (tabulate (λ j. m + 1
 
 -- how many nodes are used, if the first m are, and then node k; 65 if not in order
 unfoldable pub stepBy : List ℕ → ℕ → ℕ → ℕ
-stepBy parent m k = cond (leb k m) m (cond (linkedBy parent m k) k 65)
+stepBy parent m k = cond (leb k m) m (cond (linkedBy parent m k) k (suc mostNodes))
 
 -- the tests of 21, by the arrays
 unfoldable pub grownBy : (t category parent at len number : List ℕ) → ℕ → ℕ → ℕ → Bool
@@ -41,15 +40,15 @@ grownBy t category parent at len number categories nodes numbers =
 
 -- every last name has its form, and there are at most 64
 unfoldable pub lastsFormed : (t at len : List ℕ) → ℕ → Bool
-lastsFormed t at len n = leb n 64 && all storedName (tabulate (stretch t at len) n)
+lastsFormed t at len n = leb n mostNodes && all storedName (tabulate (stretch t at len) n)
 
 -- the tests of 21 by arrays of 64 nodes and 256 numbers; they fail for more
 unfoldable pub grownIn : (t category parent at len number : List ℕ) → ℕ → ℕ → ℕ → Bool
 grownIn t category parent at len number categories nodes numbers =
-    leb nodes 64 && (leb numbers 256 && grownBy t category parent at len number categories nodes numbers)
+    leb nodes mostNodes && (leb numbers mostTableUrns && grownBy t category parent at len number categories nodes numbers)
 
 -- r says whether the tree that the arrays hold is not refused with 21, whatever its categories are called
 abbrev pub Judges : (t category parent at len number : List ℕ) (categories nodes numbers : ℕ) → Bool → Type 0
 Judges t category parent at len number categories nodes numbers r =
-    (names : List Name) (ss : List (List ℕ)) → length names ≡ categories → nodes ≤ 64 → numbers ≤ 256 → tabulate (λ i. getD number i 0) numbers ≡ joined ss
+    (names : List Name) (ss : List (List ℕ)) → length names ≡ categories → nodes ≤ mostNodes → numbers ≤ mostTableUrns → tabulate (λ i. getD number i 0) numbers ≡ joined ss
     → r ≡ grown (record { names = names; nodes = tabulate (nodeFrom t category parent at len) nodes; signals = ss })

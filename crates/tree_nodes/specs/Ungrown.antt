@@ -5,7 +5,7 @@ use mathlib.Core.Logic.{_⊎_, _↔_}
 use mathlib.Core.Bool.{false}
 use mathlib.Core.List.{List, List·Memᴰ}
 use lib.ListN.{length, getD}
-use Rattle.table_sections.specs.Held.{joined}
+use Rattle.base_lists.specs.Lists.{joined}
 use Rattle.tree_sections.specs.Tree.{Node, nodeOf, Tree}
 use Rattle.tree_forms.specs.Refusals.{grown}
 
@@ -34,7 +34,7 @@ pub data Ungrown (x : Tree) : Type 0 where
   no-category : (i : ℕ) → i < length (x .nodes) → length (x .names) ≤ nodeOf (x .nodes) i .category → Ungrown x
   -- a node number that is not there
   no-node : (k : ℕ) → List·Memᴰ k (numbersOf x) → (k ≡ 0) ⊎ (length (x .nodes) < k) → Ungrown x
-  -- a parent that is neither 0 nor an earlier node of the same category
+  -- a node whose parent is of another category, or does not come before it
   no-parent : (i : ℕ) → i < length (x .nodes) → (RightParent (x .nodes) i → ⊥) → Ungrown x
   -- a node that is repeated
   repeated : (i j : ℕ) → i < j → j < length (x .nodes) → nodeOf (x .nodes) i ≡ nodeOf (x .nodes) j → Ungrown x

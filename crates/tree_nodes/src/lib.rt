@@ -6,6 +6,9 @@
 //   parents.rt  categories and parents
 //   repeats.rt  no node stands twice
 //   order.rt    every node is used, in its order
+use base_numbers::MOST_NODES;
+use base_numbers::MOST_TABLE_URNS;
+
 mod order;
 mod parents;
 mod repeats;
@@ -13,6 +16,7 @@ pub mod texts;
 
 ghost use mathlib.Core.Path.{_≡_};
 ghost use Prim.Native.Nat.{_≤_};
+ghost use Rattle.base_numbers.specs.Numbers.{mostNodes, mostTableUrns};
 ghost use Rattle.tree_nodes.specs.Tests.{grownBy, grownIn};
 
 // The tests of 21, in this order.
@@ -21,13 +25,13 @@ fn grows(
     categories: usize,
     nodes: usize,
     numbers: usize,
-    category: &[u8; 64],
-    parent: &[u8; 64],
-    at: &[u16; 64],
-    len: &[u8; 64],
-    number: &[u8; 256],
+    category: &[u8; MOST_NODES],
+    parent: &[u8; MOST_NODES],
+    at: &[u16; MOST_NODES],
+    len: &[u8; MOST_NODES],
+    number: &[u8; MOST_TABLE_URNS],
 ) -> bool
-    requires { ⌜ (nodes ≤ 64) × (numbers ≤ 256) ⌝ }
+    requires { ⌜ (nodes ≤ mostNodes) × (numbers ≤ mostTableUrns) ⌝ }
     ensures { λ r. ⌜ r ≡ grownBy (now (t .entry)) (now (category .entry)) (now (parent .entry)) (now (at .entry)) (now (len .entry)) (now (number .entry)) categories nodes numbers ⌝ }
 {
     if parents::categories_known(nodes, category, categories) {
@@ -51,18 +55,18 @@ pub fn grown(
     categories: usize,
     nodes: usize,
     numbers: usize,
-    category: &[u8; 64],
-    parent: &[u8; 64],
-    at: &[u16; 64],
-    len: &[u8; 64],
-    number: &[u8; 256],
+    category: &[u8; MOST_NODES],
+    parent: &[u8; MOST_NODES],
+    at: &[u16; MOST_NODES],
+    len: &[u8; MOST_NODES],
+    number: &[u8; MOST_TABLE_URNS],
 ) -> bool
     ensures { λ r. ⌜ r ≡ grownIn (now (t .entry)) (now (category .entry)) (now (parent .entry)) (now (at .entry)) (now (len .entry)) (now (number .entry)) categories nodes numbers ⌝ }
 {
-    if 64 < nodes {
+    if MOST_NODES < nodes {
         return false;
     }
-    if 256 < numbers {
+    if MOST_TABLE_URNS < numbers {
         return false;
     }
     grows(

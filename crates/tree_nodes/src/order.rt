@@ -1,11 +1,16 @@
-use base_text::cut::wide;
+// Every number of a signal is a node, and every node is used, in its order.
+use base_bytes::numbers::wide;
+use base_numbers::MOST_NODES;
+use base_numbers::MOST_TABLE_URNS;
+use base_numbers::OVER_NODES;
 ghost use mathlib.Core.Path.{_≡_};
 ghost use mathlib.Core.List.{foldl};
 ghost use Prim.Native.Nat.{ℕ, _≤_, _<_};
 ghost use lib.ListN.{getD};
-ghost use Rattle.theory_resolution.specs.Lists.{tabulate};
-ghost use Rattle.base_ascii.specs.Ascii.{within};
-ghost use Rattle.base_text.specs.Text.{all};
+ghost use Rattle.base_numbers.specs.Numbers.{mostNodes, mostTableUrns};
+ghost use Rattle.base_lists.specs.Tests.{all};
+ghost use Rattle.base_lists.specs.Numbers.{within};
+ghost use Rattle.base_lists.specs.Lists.{tabulate};
 ghost use Rattle.tree_nodes.specs.Tests.{linkedBy, stepBy};
 
 // The number is that of one of n nodes.
@@ -19,8 +24,8 @@ fn is_node(x: usize, n: usize) -> bool
 }
 
 // Every number is that of one of n nodes.
-pub(crate) fn numbers_known(m: usize, number: &[u8; 256], n: usize) -> bool
-    requires { ⌜ m ≤ 256 ⌝ }
+pub(crate) fn numbers_known(m: usize, number: &[u8; MOST_TABLE_URNS], n: usize) -> bool
+    requires { ⌜ m ≤ mostTableUrns ⌝ }
     ensures { λ r. ⌜ r ≡ all (within 1 n) (tabulate (λ i. getD (now (number .entry)) i 0) m) ⌝ }
 {
     let mut i = 0;
@@ -35,8 +40,8 @@ pub(crate) fn numbers_known(m: usize, number: &[u8; 256], n: usize) -> bool
 }
 
 // Each node after node m + 1 and up to node k has the node before it for its parent.
-fn linked(parent: &[u8; 64], m: usize, k: usize) -> bool
-    requires { ⌜ (m < k) × (k ≤ 64) ⌝ }
+fn linked(parent: &[u8; MOST_NODES], m: usize, k: usize) -> bool
+    requires { ⌜ (m < k) × (k ≤ mostNodes) ⌝ }
     ensures { λ r. ⌜ r ≡ linkedBy (now (parent .entry)) m k ⌝ }
 {
     let n = k - m - 1;
@@ -53,8 +58,8 @@ fn linked(parent: &[u8; 64], m: usize, k: usize) -> bool
 }
 
 // How many nodes are used, if the first m are, and then node k; 65 if not in order.
-fn step(parent: &[u8; 64], m: usize, k: usize) -> usize
-    requires { ⌜ k ≤ 64 ⌝ }
+fn step(parent: &[u8; MOST_NODES], m: usize, k: usize) -> usize
+    requires { ⌜ k ≤ mostNodes ⌝ }
     ensures { λ r. ⌜ r ≡ stepBy (now (parent .entry)) m k ⌝ }
 {
     if k <= m {
@@ -63,12 +68,12 @@ fn step(parent: &[u8; 64], m: usize, k: usize) -> usize
     if linked(parent, m, k) {
         return k;
     }
-    65
+    OVER_NODES
 }
 
 // How many nodes the numbers use, in order; 65 if not in order.
-pub(crate) fn scan(parent: &[u8; 64], m: usize, number: &[u8; 256]) -> usize
-    requires { ⌜ (m ≤ 256) × ((i : ℕ) → i < m → getD (now number) i 0 ≤ 64) ⌝ }
+pub(crate) fn scan(parent: &[u8; MOST_NODES], m: usize, number: &[u8; MOST_TABLE_URNS]) -> usize
+    requires { ⌜ (m ≤ mostTableUrns) × ((i : ℕ) → i < m → getD (now number) i 0 ≤ mostNodes) ⌝ }
     ensures { λ r. ⌜ r ≡ foldl (stepBy (now (parent .entry))) 0 (tabulate (λ i. getD (now (number .entry)) i 0) m) ⌝ }
 {
     let mut used: usize = 0;

@@ -1,15 +1,18 @@
-use base_text::cut::wide;
+// Every category is there, and every parent is an earlier node of the same category.
+use base_bytes::numbers::wide;
+use base_numbers::MOST_NODES;
 ghost use mathlib.Core.Path.{_≡_};
 ghost use Prim.Native.Nat.{_≤_, _<_};
 ghost use lib.ListN.{getD};
 ghost use lib.Dec.{ltb};
-ghost use Rattle.theory_resolution.specs.Lists.{tabulate};
-ghost use Rattle.base_text.specs.Text.{all};
+ghost use Rattle.base_numbers.specs.Numbers.{mostNodes};
+ghost use Rattle.base_lists.specs.Tests.{all};
+ghost use Rattle.base_lists.specs.Lists.{tabulate};
 ghost use Rattle.tree_nodes.specs.Tests.{underAt};
 
 // Every node's category is there.
-pub(crate) fn categories_known(n: usize, category: &[u8; 64], c: usize) -> bool
-    requires { ⌜ n ≤ 64 ⌝ }
+pub(crate) fn categories_known(n: usize, category: &[u8; MOST_NODES], c: usize) -> bool
+    requires { ⌜ n ≤ mostNodes ⌝ }
     ensures { λ r. ⌜ r ≡ all (λ x. ltb x c) (tabulate (λ i. getD (now (category .entry)) i 0) n) ⌝ }
 {
     let mut i = 0;
@@ -25,8 +28,8 @@ pub(crate) fn categories_known(n: usize, category: &[u8; 64], c: usize) -> bool
 }
 
 // The parent of the node at index i is 0, or a node of the same category before it.
-fn parent_right(category: &[u8; 64], parent: &[u8; 64], i: usize) -> bool
-    requires { ⌜ i < 64 ⌝ }
+fn parent_right(category: &[u8; MOST_NODES], parent: &[u8; MOST_NODES], i: usize) -> bool
+    requires { ⌜ i < mostNodes ⌝ }
     ensures { λ r. ⌜ r ≡ underAt (now (category .entry)) (now (parent .entry)) i ⌝ }
 {
     let p = wide(parent[i]);
@@ -42,8 +45,12 @@ fn parent_right(category: &[u8; 64], parent: &[u8; 64], i: usize) -> bool
 }
 
 // Every parent is right.
-pub(crate) fn parents_right(n: usize, category: &[u8; 64], parent: &[u8; 64]) -> bool
-    requires { ⌜ n ≤ 64 ⌝ }
+pub(crate) fn parents_right(
+    n: usize,
+    category: &[u8; MOST_NODES],
+    parent: &[u8; MOST_NODES],
+) -> bool
+    requires { ⌜ n ≤ mostNodes ⌝ }
     ensures { λ r. ⌜ r ≡ all (underAt (now (category .entry)) (now (parent .entry))) (tabulate (λ i. i) n) ⌝ }
 {
     let mut i = 0;

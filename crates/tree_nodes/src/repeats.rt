@@ -1,22 +1,25 @@
+// No two nodes have the same category, parent and last name.
+use base_numbers::MOST_NODES;
 use node_search::texts::node_text;
 ghost use mathlib.Core.Path.{_≡_};
 ghost use Prim.Native.Nat.{_≤_, _<_};
-ghost use Rattle.theory_resolution.specs.Lists.{tabulate};
-ghost use Rattle.table_places.specs.Tests.{any, noTwo};
+ghost use Rattle.base_numbers.specs.Numbers.{mostNodes};
+ghost use Rattle.base_lists.specs.Tests.{any, noTwo};
+ghost use Rattle.base_lists.specs.Lists.{tabulate};
 ghost use Rattle.tree_sections.specs.Held.{nodeFrom};
 ghost use Rattle.tree_nodes.specs.Scan.{sameNode};
 
 // The nodes at the indexes i and j have the same category, parent and last name.
 fn alike(
     t: &[u8],
-    category: &[u8; 64],
-    parent: &[u8; 64],
-    at: &[u16; 64],
-    len: &[u8; 64],
+    category: &[u8; MOST_NODES],
+    parent: &[u8; MOST_NODES],
+    at: &[u16; MOST_NODES],
+    len: &[u8; MOST_NODES],
     i: usize,
     j: usize,
 ) -> bool
-    requires { ⌜ (i < 64) × (j < 64) ⌝ }
+    requires { ⌜ (i < mostNodes) × (j < mostNodes) ⌝ }
     ensures { λ r. ⌜ r ≡ sameNode (nodeFrom (now (t .entry)) (now (category .entry)) (now (parent .entry)) (now (at .entry)) (now (len .entry)) i)
         (nodeFrom (now (t .entry)) (now (category .entry)) (now (parent .entry)) (now (at .entry)) (now (len .entry)) j) ⌝ }
 {
@@ -36,13 +39,13 @@ fn alike(
 // Some node before the one at index i is alike.
 fn node_again(
     t: &[u8],
-    category: &[u8; 64],
-    parent: &[u8; 64],
-    at: &[u16; 64],
-    len: &[u8; 64],
+    category: &[u8; MOST_NODES],
+    parent: &[u8; MOST_NODES],
+    at: &[u16; MOST_NODES],
+    len: &[u8; MOST_NODES],
     i: usize,
 ) -> bool
-    requires { ⌜ i < 64 ⌝ }
+    requires { ⌜ i < mostNodes ⌝ }
     ensures { λ r. ⌜ r ≡ any (λ y. sameNode y (nodeFrom (now (t .entry)) (now (category .entry)) (now (parent .entry)) (now (at .entry)) (now (len .entry)) i))
         (tabulate (nodeFrom (now (t .entry)) (now (category .entry)) (now (parent .entry)) (now (at .entry)) (now (len .entry))) i) ⌝ }
 {
@@ -60,12 +63,12 @@ fn node_again(
 pub(crate) fn nodes_distinct(
     t: &[u8],
     n: usize,
-    category: &[u8; 64],
-    parent: &[u8; 64],
-    at: &[u16; 64],
-    len: &[u8; 64],
+    category: &[u8; MOST_NODES],
+    parent: &[u8; MOST_NODES],
+    at: &[u16; MOST_NODES],
+    len: &[u8; MOST_NODES],
 ) -> bool
-    requires { ⌜ n ≤ 64 ⌝ }
+    requires { ⌜ n ≤ mostNodes ⌝ }
     ensures { λ r. ⌜ r ≡ noTwo sameNode (tabulate (nodeFrom (now (t .entry)) (now (category .entry)) (now (parent .entry)) (now (at .entry)) (now (len .entry))) n) ⌝ }
 {
     let mut i = 0;

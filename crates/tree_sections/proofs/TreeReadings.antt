@@ -7,15 +7,16 @@ use mathlib.Core.Bool.{false≢true}
 use borrow.Author.Tests.{lt-ltb, le-ltb}
 use lib.ListN.{length, take, drop, set}
 use lib.Seq.{getD-set-same, getD-set-other}
+use Rattle.base_numbers.specs.Numbers.{mostNameBytes, mostNodes, mostSignals, mostTableBytes}
+use Rattle.base_lists.specs.Cuts.{stretch}
+use Rattle.base_lists.specs.Lists.{tabulate}
 use Rattle.table_sections.specs.Stored.{Read, fault, got, andThen, byteIn, text, times, counted, categories}
 use Rattle.table_sections.specs.Held.{Tagged, tag, taggedFrom, mapRead, heldRead}
 use Rattle.table_sections.specs.declared.bytes.Reading.{Reading}
 use Rattle.table_sections.specs.declared.bytes.Reading.the-variants.{Fault as Stop, Got}
 use Rattle.table_sections.proofs.Readings.{stretch-set, stretch-keep, times-length}
 use Rattle.table_sections.proofs.SectionLaws.{map-got, map-fault}
-use Rattle.theory_resolution.specs.Lists.{tabulate}
 use Rattle.theory_resolution.specs.Names.{Name}
-use Rattle.node_search.specs.Arrays.{stretch}
 use Rattle.tree_sections.specs.Tree.{Node, anyByte, node, nodes, signalsFrom, nodesFrom, tree, treeSections}
 use Rattle.tree_sections.specs.Held.{nodeRead, nodeInside, nodeFrom, numberAt, noCounts, RestRead, BothRead, TreeRead}
 use Rattle.tree_sections.specs.declared.Counts.{Counts}
@@ -34,21 +35,23 @@ module _ (t : List ℕ) (at : ℕ) where
     node-two f = simp (e, f)
 
     module _ {d q : ℕ} (f : byteIn 0 255 t p ≡ got d q) where
-      pub node-three : {k : ℕ} → text 55 t q ≡ fault k → fault k ≡ node t at
+      pub node-three : {k : ℕ} → text mostNameBytes t q ≡ fault k → fault k ≡ node t at
       unfolding node andThen
       node-three g = simp (e, f, g)
 
-      pub node-good : {x : List ℕ} {r c₁ d₁ : ℕ} → c₁ ≡ c → d₁ ≡ d → text 55 t q ≡ got x r → got (record { category = c₁; parent = d₁; last = x }) r ≡ node t at
+      pub node-good : {x : List ℕ} {r c₁ d₁ : ℕ} → c₁ ≡ c → d₁ ≡ d → text mostNameBytes t q ≡ got x r
+          → got (record { category = c₁; parent = d₁; last = x }) r ≡ node t at
       unfolding node andThen
       node-good {x} {r} a b g = ap₂ (λ c d. got (record { category = c; parent = d; last = x }) r) a b ∙ sym (simp (e, f, g))
 
-pub node-was : {r : NodeReading} {x : Read Node} (t : List ℕ) {c d m p : ℕ} → nodeRead t r ≡ x → r ≡ Found c d m p → x ≡ got (record { category = c; parent = d; last = take m (drop (p - m) t) }) p
+pub node-was : {r : NodeReading} {x : Read Node} (t : List ℕ) {c d m p : ℕ} → nodeRead t r ≡ x → r ≡ Found c d m p
+    → x ≡ got (record { category = c; parent = d; last = take m (drop (p - m) t) }) p
 node-was t e f = sym e ∙ ap (nodeRead t) f
 
 pub node-was-fault : {r : NodeReading} {x : Read Node} (t : List ℕ) {k : ℕ} → nodeRead t r ≡ x → r ≡ Fault k → x ≡ fault k
 node-was-fault t e f = sym e ∙ ap (nodeRead t) f
 
-pub node-inside : {r : NodeReading} (t : List ℕ) {c d m p : ℕ} → nodeInside t r → r ≡ Found c d m p → (m ≤ 55) × (m ≤ p) × (p ≤ length t)
+pub node-inside : {r : NodeReading} (t : List ℕ) {c d m p : ℕ} → nodeInside t r → r ≡ Found c d m p → (m ≤ mostNameBytes) × (m ≤ p) × (p ≤ length t)
 node-inside t b e = subst (λ (z : NodeReading). nodeInside t z) e b
 
 -- a node that was put into the arrays
@@ -75,11 +78,13 @@ number-keep signal number i s k j h =
     let q : j ≡ i → ⊥ = λ e. omega arith in
     ap₂ tag (getD-set-other signal i j s 0 q) (getD-set-other number i j k 0 q)
 
-pub number-put : (signal number : List ℕ) (i s : ℕ) {k b : ℕ} → k ≡ b → i < length signal → i < length number → numberAt (set signal i s) (set number i k) i ≡ tag s b
+pub number-put : (signal number : List ℕ) (i s : ℕ) {k b : ℕ} → k ≡ b → i < length signal → i < length number
+    → numberAt (set signal i s) (set number i k) i ≡ tag s b
 number-put signal number i s {k} {b} e h l = ap₂ tag (getD-set-same signal i s 0 h) (getD-set-same number i k 0 l ∙ e)
 
 -- a count, and so many readings
-pub counted-fault : {A B : Type 0} (g : List A → B) (lo hi : ℕ) (rd : ℕ → Read A) (t : List ℕ) (at : ℕ) {k : ℕ} → byteIn lo hi t at ≡ fault k → fault k ≡ mapRead g (counted lo hi rd t at)
+pub counted-fault : {A B : Type 0} (g : List A → B) (lo hi : ℕ) (rd : ℕ → Read A) (t : List ℕ) (at : ℕ) {k : ℕ}
+    → byteIn lo hi t at ≡ fault k → fault k ≡ mapRead g (counted lo hi rd t at)
 unfolding counted andThen mapRead
 counted-fault g lo hi rd t at e = simp e
 
@@ -102,20 +107,23 @@ section-more lo hi rd t at e v = v ∙ sym (simp e)
 abbrev numbersAt : List ℕ → ℕ → Read (List ℕ)
 numbersAt t = counted 0 8 (anyByte t) t
 
-pub rest-stop : (t signal number : List ℕ) (categories nodes from : ℕ) {k : ℕ} {r : Counts} → r ≡ noCounts k → ((names : List Name) (ns : List Node) → signalsFrom t names ns from ≡ fault k)
+pub rest-stop : (t signal number : List ℕ) (categories nodes from : ℕ) {k : ℕ} {r : Counts} → r ≡ noCounts k
+    → ((names : List Name) (ns : List Node) → signalsFrom t names ns from ≡ fault k)
     → RestRead t signal number categories nodes from r
 rest-stop t signal number categories nodes from e f = rw e (record { faulty = λ _. f; holds = λ z. absurd (false≢true z) })
 
-pub rest-fault : (t : List ℕ) (from : ℕ) {k : ℕ} → byteIn 1 32 t from ≡ fault k → (names : List Name) (ns : List Node) → signalsFrom t names ns from ≡ fault k
+pub rest-fault : (t : List ℕ) (from : ℕ) {k : ℕ} → byteIn 1 mostSignals t from ≡ fault k → (names : List Name) (ns : List Node)
+    → signalsFrom t names ns from ≡ fault k
 unfolding signalsFrom counted andThen
 rest-fault t from e names ns = simp e
 
-module _ (t : List ℕ) (from n p : ℕ) (e : byteIn 1 32 t from ≡ got n p) where
+module _ (t : List ℕ) (from n p : ℕ) (e : byteIn 1 mostSignals t from ≡ got n p) where
   bad : (k : ℕ) → times (numbersAt t) n p ≡ fault k → (names : List Name) (ns : List Node) → signalsFrom t names ns from ≡ fault k
   unfolding signalsFrom counted andThen
   bad k f names ns = simp (e, f)
 
-  more : (ss : List (List ℕ)) (q : ℕ) → times (numbersAt t) n p ≡ got ss q → q < length t → (names : List Name) (ns : List Node) → signalsFrom t names ns from ≡ fault 5
+  more : (ss : List (List ℕ)) (q : ℕ) → times (numbersAt t) n p ≡ got ss q → q < length t → (names : List Name) (ns : List Node)
+      → signalsFrom t names ns from ≡ fault 5
   unfolding signalsFrom counted andThen
   more ss q f h names ns = simp (e, f, lt-ltb _ _ h)
 
@@ -135,7 +143,8 @@ module _ (t : List ℕ) (from n p : ℕ) (e : byteIn 1 32 t from ≡ got n p) wh
       pub rest-more : q < length t → (names : List Name) (ns : List Node) → signalsFrom t names ns from ≡ fault 5
       rest-more h = more (was .0) q (was .1) h
 
-      pub rest-good : length t ≤ q → (ss : List (List ℕ)) × ((names : List Name) (ns : List Node) → signalsFrom t names ns from ≡ got (record { names = names; nodes = ns; signals = ss }) q)
+      pub rest-good : length t ≤ q → (ss : List (List ℕ)) × ((names : List Name) (ns : List Node) → signalsFrom t names ns from
+          ≡ got (record { names = names; nodes = ns; signals = ss }) q)
           × (tabulate f m ≡ taggedFrom 0 ss) × (length ss ≡ n)
       rest-good h = (was .0, good (was .0) q (was .1) h, sym (was .2), times-length (numbersAt t) n p (was .0) q (was .1))
 
@@ -145,14 +154,16 @@ module _ (t category parent at len : List ℕ) (from : ℕ) {r : Reading} (v : h
   unfolding nodesFrom andThen
   both-fault k g names = let e : nodes t from ≡ fault k = sym v ∙ ap (heldRead (nodeFrom t category parent at len)) g in simp e
 
-  pub both-stop : (signal number : List ℕ) (categories : ℕ) (k : ℕ) {x : Counts} → x ≡ noCounts k → r ≡ Stop k → BothRead t category parent at len signal number categories from x
+  pub both-stop : (signal number : List ℕ) (categories : ℕ) (k : ℕ) {x : Counts} → x ≡ noCounts k → r ≡ Stop k
+      → BothRead t category parent at len signal number categories from x
   both-stop signal number categories k e g = rw e (record { faulty = λ _. both-fault k g; holds = λ z. absurd (false≢true z) })
 
   both-go : (n p : ℕ) → r ≡ Got n p → (names : List Name) → nodesFrom t names from ≡ signalsFrom t names (tabulate (nodeFrom t category parent at len) n) p
   unfolding nodesFrom andThen
-  both-go n p g names = let e : nodes t from ≡ got (tabulate (nodeFrom t category parent at len) n) p = sym v ∙ ap (heldRead (nodeFrom t category parent at len)) g in simp e
+  both-go n p g names = let e : nodes t from ≡ got (tabulate (nodeFrom t category parent at len) n) p =
+      sym v ∙ ap (heldRead (nodeFrom t category parent at len)) g in simp e
 
-  pub both-read : {signal number : List ℕ} {categories : ℕ} (n p : ℕ) {x : Counts} → r ≡ Got n p → n ≤ 64 → RestRead t signal number categories n p x
+  pub both-read : {signal number : List ℕ} {categories : ℕ} (n p : ℕ) {x : Counts} → r ≡ Got n p → n ≤ mostNodes → RestRead t signal number categories n p x
       → BothRead t category parent at len signal number categories from x
   both-read n p {x} g h f =
       record {
@@ -162,7 +173,12 @@ module _ (t category parent at len : List ℕ) (from : ℕ) {r : Reading} (v : h
             record {
               signals = s .signals;
               next = s .next;
-              whole = λ names. both-go n p g names ∙ s .whole names _ ∙ ap (λ (z : ℕ). got (record { names = names; nodes = tabulate (nodeFrom t category parent at len) z; signals = s .signals }) (s .next)) (sym (s .same-nodes));
+              whole = λ names. both-go n p g names ∙ s .whole names _
+                  ∙ ap (λ (z : ℕ). got (record {
+                    names = names;
+                    nodes = tabulate (nodeFrom t category parent at len) z;
+                    signals = s .signals;
+                  }) (s .next)) (sym (s .same-nodes));
               held = s .held;
               same-categories = s .same-categories;
               few-nodes = omega (arith, s .same-nodes);
@@ -171,27 +187,29 @@ module _ (t category parent at len : List ℕ) (from : ℕ) {r : Reading} (v : h
 
 -- and the categories
 module _ (t : List ℕ) where
-  sections-short : length t ≤ 8192 → treeSections t ≡ tree t
-  sections-short h = rw (le-ltb 8192 (length t) h)
+  sections-short : length t ≤ mostTableBytes → treeSections t ≡ tree t
+  sections-short h = rw (le-ltb mostTableBytes (length t) h)
 
-  pub tree-long : (nameAt nameLen category parent at len signal number : List ℕ) {x : Counts} → x ≡ noCounts 4 → 8192 < length t
+  pub tree-long : (nameAt nameLen category parent at len signal number : List ℕ) {x : Counts} → x ≡ noCounts 4 → mostTableBytes < length t
       → TreeRead t nameAt nameLen category parent at len signal number x
   tree-long nameAt nameLen category parent at len signal number e h =
-      rw e (record { faulty = λ _. rw (lt-ltb 8192 (length t) h); holds = λ z. absurd (false≢true z) })
+      rw e (record { faulty = λ _. rw (lt-ltb mostTableBytes (length t) h); holds = λ z. absurd (false≢true z) })
 
-module _ (t nameAt nameLen : List ℕ) (b : length t ≤ 8192) {r : Reading} (v : heldRead (stretch t nameAt nameLen) r ≡ categories t 0) where
+module _ (t nameAt nameLen : List ℕ) (b : length t ≤ mostTableBytes) {r : Reading} (v : heldRead (stretch t nameAt nameLen) r ≡ categories t 0) where
   tree-fault : (k : ℕ) → r ≡ Stop k → tree t ≡ fault k
   unfolding tree andThen
   tree-fault k g = let e : categories t 0 ≡ fault k = sym v ∙ ap (heldRead (stretch t nameAt nameLen)) g in simp e
 
-  pub tree-stop : (category parent at len signal number : List ℕ) (k : ℕ) {x : Counts} → x ≡ noCounts k → r ≡ Stop k → TreeRead t nameAt nameLen category parent at len signal number x
+  pub tree-stop : (category parent at len signal number : List ℕ) (k : ℕ) {x : Counts} → x ≡ noCounts k → r ≡ Stop k
+      → TreeRead t nameAt nameLen category parent at len signal number x
   tree-stop category parent at len signal number k e g = rw e (record { faulty = λ _. sections-short t b ∙ tree-fault k g; holds = λ z. absurd (false≢true z) })
 
   tree-go : (n p : ℕ) → r ≡ Got n p → tree t ≡ nodesFrom t (tabulate (stretch t nameAt nameLen) n) p
   unfolding tree andThen
   tree-go n p g = let e : categories t 0 ≡ got (tabulate (stretch t nameAt nameLen) n) p = sym v ∙ ap (heldRead (stretch t nameAt nameLen)) g in simp e
 
-  pub tree-read : {category parent at len signal number : List ℕ} (n p : ℕ) {x : Counts} → r ≡ Got n p → n ≤ 8 → BothRead t category parent at len signal number n p x
+  pub tree-read : {category parent at len signal number : List ℕ} (n p : ℕ) {x : Counts} → r ≡ Got n p → n ≤ 8
+      → BothRead t category parent at len signal number n p x
       → TreeRead t nameAt nameLen category parent at len signal number x
   tree-read {category} {parent} {at} {len} n p {x} g h f =
       record {
@@ -202,7 +220,12 @@ module _ (t nameAt nameLen : List ℕ) (b : length t ≤ 8192) {r : Reading} (v 
               signals = s .signals;
               next = s .next;
               short = b;
-              whole = tree-go n p g ∙ s .whole _ ∙ ap (λ (z : ℕ). got (record { names = tabulate (stretch t nameAt nameLen) z; nodes = tabulate (nodeFrom t category parent at len) (x .nodes); signals = s .signals }) (s .next)) (sym (s .same-categories));
+              whole = tree-go n p g ∙ s .whole _
+                  ∙ ap (λ (z : ℕ). got (record {
+                    names = tabulate (stretch t nameAt nameLen) z;
+                    nodes = tabulate (nodeFrom t category parent at len) (x .nodes);
+                    signals = s .signals;
+                  }) (s .next)) (sym (s .same-categories));
               held = s .held;
               few-categories = omega (arith, s .same-categories);
               few-nodes = s .few-nodes;

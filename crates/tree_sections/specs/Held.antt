@@ -4,9 +4,10 @@ use mathlib.Core.Path.{_≡_}
 use mathlib.Core.Bool.{true, false}
 use mathlib.Core.List.{List}
 use lib.ListN.{length, getD, take, drop}
-use Rattle.theory_resolution.specs.Lists.{tabulate}
+use Rattle.base_numbers.specs.Numbers.{mostCategories, mostNameBytes, mostNodes, mostSignals, mostTableBytes, mostTableUrns}
+use Rattle.base_lists.specs.Cuts.{stretch}
+use Rattle.base_lists.specs.Lists.{tabulate}
 use Rattle.theory_resolution.specs.Names.{Name}
-use Rattle.node_search.specs.Arrays.{stretch}
 use Rattle.table_sections.specs.Stored.{Read, fault, got}
 use Rattle.table_sections.specs.Held.{Tagged, tag, taggedFrom}
 use Rattle.tree_sections.specs.Tree.{Node, Tree, signalsFrom, nodesFrom, tree, treeSections}
@@ -23,7 +24,7 @@ nodeRead t (Found c d m p) = got (record { category = c; parent = d; last = take
 -- they are at most 55, and inside the table
 abbrev pub nodeInside : List ℕ → NodeReading → Type 0
 nodeInside t (Fault k) = Unit {0}
-nodeInside t (Found c d m p) = (m ≤ 55) × (m ≤ p) × (p ≤ length t)
+nodeInside t (Found c d m p) = (m ≤ mostNameBytes) × (m ≤ p) × (p ≤ length t)
 
 -- the node at index i, as the arrays hold it
 abbrev pub nodeFrom : List ℕ → List ℕ → List ℕ → List ℕ → List ℕ → ℕ → Node
@@ -41,8 +42,8 @@ noCounts k = record { ok = false; fault = k; categories = 0; nodes = 0; signals 
 pub record Held (signal number : List ℕ) (r : Counts) (ss : List (List ℕ)) : Type 0 where
   pub numbers : tabulate (numberAt signal number) (r .numbers) ≡ taggedFrom 0 ss
   pub all-signals : length ss ≡ r .signals
-  pub few-signals : r .signals ≤ 32
-  pub few-numbers : r .numbers ≤ 256
+  pub few-signals : r .signals ≤ mostSignals
+  pub few-numbers : r .numbers ≤ mostTableUrns
 
 -- the signals that were read from a position on
 pub record RestHeld (t signal number : List ℕ) (categories nodes from : ℕ) (r : Counts) : Type 0 where
@@ -65,7 +66,7 @@ pub record BothHeld (t category parent at len signal number : List ℕ) (categor
   pub whole : (names : List Name) → nodesFrom t names from ≡ got (record { names = names; nodes = tabulate (nodeFrom t category parent at len) (r .nodes); signals = signals }) next
   pub held : Held signal number r signals
   pub same-categories : r .categories ≡ categories
-  pub few-nodes : r .nodes ≤ 64
+  pub few-nodes : r .nodes ≤ mostNodes
 
 -- the answer of their reading
 pub record BothRead (t category parent at len signal number : List ℕ) (categories from : ℕ) (r : Counts) : Type 0 where
@@ -81,11 +82,11 @@ treeHeld t nameAt nameLen category parent at len ss r =
 pub record TreeHeld (t nameAt nameLen category parent at len signal number : List ℕ) (r : Counts) : Type 0 where
   pub signals : List (List ℕ)
   pub next : ℕ
-  pub short : length t ≤ 8192
+  pub short : length t ≤ mostTableBytes
   pub whole : tree t ≡ got (treeHeld t nameAt nameLen category parent at len signals r) next
   pub held : Held signal number r signals
-  pub few-categories : r .categories ≤ 8
-  pub few-nodes : r .nodes ≤ 64
+  pub few-categories : r .categories ≤ mostCategories
+  pub few-nodes : r .nodes ≤ mostNodes
 
 -- the answer of the reading
 pub record TreeRead (t nameAt nameLen category parent at len signal number : List ℕ) (r : Counts) : Type 0 where

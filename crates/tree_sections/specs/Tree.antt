@@ -4,6 +4,7 @@ use mathlib.Core.Bool.{cond}
 use mathlib.Core.List.{List, []}
 use lib.ListN.{length, getD}
 use lib.Dec.{ltb}
+use Rattle.base_numbers.specs.Numbers.{mostNameBytes, mostNodes, mostSignals, mostTableBytes, mostUrns, tableTooLong, tableWrongEnd}
 use Rattle.theory_resolution.specs.Names.{Name}
 use Rattle.table_sections.specs.Stored.{Read, fault, got, andThen, byteIn, text, counted, categories}
 
@@ -30,24 +31,24 @@ anyByte t at = byteIn 0 255 t at
 -- a node: two numbers, and a name of 1 to 55 bytes
 unfoldable pub node : List ℕ → ℕ → Read Node
 node t at =
-    andThen (anyByte t at) (λ c p. andThen (anyByte t p) (λ k q. andThen (text 55 t q) (λ x r. got (record { category = c; parent = k; last = x }) r)))
+    andThen (anyByte t at) (λ c p. andThen (anyByte t p) (λ k q. andThen (text mostNameBytes t q) (λ x r. got (record { category = c; parent = k; last = x }) r)))
 
 -- 1 to 64 nodes
 abbrev pub nodes : List ℕ → ℕ → Read (List Node)
-nodes t at = counted 1 64 (node t) t at
+nodes t at = counted 1 mostNodes (node t) t at
 
 -- a signal: the numbers of 0 to 8 nodes
 abbrev pub signal : List ℕ → ℕ → Read (List ℕ)
-signal t at = counted 0 8 (anyByte t) t at
+signal t at = counted 0 mostUrns (anyByte t) t at
 
 -- 1 to 32 signals
 abbrev pub signals : List ℕ → ℕ → Read (List (List ℕ))
-signals t at = counted 1 32 (signal t) t at
+signals t at = counted 1 mostSignals (signal t) t at
 
 -- the signals after the categories and the nodes, and nothing after them
 unfoldable pub signalsFrom : List ℕ → List Name → List Node → ℕ → Read Tree
 signalsFrom t ns ds at =
-    andThen (signals t at) (λ ss p. cond (ltb p (length t)) (fault 5) (got (record { names = ns; nodes = ds; signals = ss }) p))
+    andThen (signals t at) (λ ss p. cond (ltb p (length t)) (fault tableWrongEnd) (got (record { names = ns; nodes = ds; signals = ss }) p))
 
 -- the nodes and the signals after the categories
 unfoldable pub nodesFrom : List ℕ → List Name → ℕ → Read Tree
@@ -59,4 +60,4 @@ tree t = andThen (categories t 0) (λ ns at. nodesFrom t ns at)
 
 -- the same, with 4 where it is over 8,192 bytes
 abbrev pub treeSections : List ℕ → Read Tree
-treeSections t = cond (ltb 8192 (length t)) (fault 4) (tree t)
+treeSections t = cond (ltb mostTableBytes (length t)) (fault tableTooLong) (tree t)

@@ -8,12 +8,20 @@
 mod nodes;
 mod signals;
 
+use base_numbers::MOST_CATEGORIES;
+use base_numbers::MOST_NODES;
+use base_numbers::MOST_SIGNALS;
+use base_numbers::MOST_TABLE_BYTES;
+use base_numbers::MOST_TABLE_URNS;
+use base_numbers::TABLE_TOO_LONG;
+use base_numbers::TABLE_WRONG_END;
 use table_sections::bytes::Reading;
 use table_sections::bytes::byte_in;
 use table_sections::categories::read_categories;
 ghost use mathlib.Core.Path.{_≡_};
 ghost use Prim.Native.Nat.{_≤_};
 ghost use lib.ListN.{length};
+ghost use Rattle.base_numbers.specs.Numbers.{mostCategories, mostNodes, mostTableBytes, mostTableUrns};
 ghost use Rattle.table_sections.specs.Held.{Padded};
 ghost use Rattle.tree_sections.specs.Held.{noCounts, RestRead, BothRead, TreeRead, Reads};
 
@@ -46,13 +54,13 @@ fn read_rest(
     from: usize,
     categories: usize,
     nodes: usize,
-    number: &mut [u8; 256],
-    signal: &mut [u8; 256],
+    number: &mut [u8; MOST_TABLE_URNS],
+    signal: &mut [u8; MOST_TABLE_URNS],
 ) -> Counts
-    requires { ⌜ (length (now number) ≡ 256) × (length (now signal) ≡ 256) ⌝ }
+    requires { ⌜ (length (now number) ≡ mostTableUrns) × (length (now signal) ≡ mostTableUrns) ⌝ }
     ensures { λ r. ⌜ RestRead (now (t .entry)) (now (signal .exit)) (now (number .exit)) categories nodes from r ⌝ }
 {
-    let first = byte_in(t, from, 1, 32);
+    let first = byte_in(t, from, 1, MOST_SIGNALS);
     match first {
         Reading::Fault(k) => at_fault(k),
         Reading::Got(n, p) => {
@@ -61,7 +69,7 @@ fn read_rest(
                 Reading::Fault(k) => at_fault(k),
                 Reading::Got(m, q) => {
                     if q < t.len() {
-                        return at_fault(5);
+                        return at_fault(TABLE_WRONG_END);
                     }
                     Counts {
                         ok: true,
@@ -82,14 +90,14 @@ fn read_both(
     t: &[u8],
     from: usize,
     categories: usize,
-    category: &mut [u8; 64],
-    parent: &mut [u8; 64],
-    at: &mut [u16; 64],
-    len: &mut [u8; 64],
-    number: &mut [u8; 256],
-    signal: &mut [u8; 256],
+    category: &mut [u8; MOST_NODES],
+    parent: &mut [u8; MOST_NODES],
+    at: &mut [u16; MOST_NODES],
+    len: &mut [u8; MOST_NODES],
+    number: &mut [u8; MOST_TABLE_URNS],
+    signal: &mut [u8; MOST_TABLE_URNS],
 ) -> Counts
-    requires { ⌜ (length (now t) ≤ 8192) × (length (now category) ≡ 64) × (length (now parent) ≡ 64) × (length (now at) ≡ 64) × (length (now len) ≡ 64) × (length (now number) ≡ 256) × (length (now signal) ≡ 256) ⌝ }
+    requires { ⌜ (length (now t) ≤ mostTableBytes) × (length (now category) ≡ mostNodes) × (length (now parent) ≡ mostNodes) × (length (now at) ≡ mostNodes) × (length (now len) ≡ mostNodes) × (length (now number) ≡ mostTableUrns) × (length (now signal) ≡ mostTableUrns) ⌝ }
     ensures { λ r. ⌜ BothRead (now (t .entry)) (now (category .exit)) (now (parent .exit)) (now (at .exit)) (now (len .exit)) (now (signal .exit)) (now (number .exit)) categories from r ⌝ }
 {
     let got = nodes::read_section(t, from, category, parent, at, len);
@@ -102,20 +110,20 @@ fn read_both(
 // The three sections, and nothing after them.
 fn read_tree(
     t: &[u8],
-    name_at: &mut [u16; 8],
-    name_len: &mut [u8; 8],
-    category: &mut [u8; 64],
-    parent: &mut [u8; 64],
-    at: &mut [u16; 64],
-    len: &mut [u8; 64],
-    number: &mut [u8; 256],
-    signal: &mut [u8; 256],
+    name_at: &mut [u16; MOST_CATEGORIES],
+    name_len: &mut [u8; MOST_CATEGORIES],
+    category: &mut [u8; MOST_NODES],
+    parent: &mut [u8; MOST_NODES],
+    at: &mut [u16; MOST_NODES],
+    len: &mut [u8; MOST_NODES],
+    number: &mut [u8; MOST_TABLE_URNS],
+    signal: &mut [u8; MOST_TABLE_URNS],
 ) -> Counts
-    requires { ⌜ Padded 8 0 (now «name_at») × Padded 8 0 (now «name_len») × (length (now category) ≡ 64) × (length (now parent) ≡ 64) × (length (now at) ≡ 64) × (length (now len) ≡ 64) × (length (now number) ≡ 256) × (length (now signal) ≡ 256) ⌝ }
+    requires { ⌜ Padded mostCategories 0 (now «name_at») × Padded mostCategories 0 (now «name_len») × (length (now category) ≡ mostNodes) × (length (now parent) ≡ mostNodes) × (length (now at) ≡ mostNodes) × (length (now len) ≡ mostNodes) × (length (now number) ≡ mostTableUrns) × (length (now signal) ≡ mostTableUrns) ⌝ }
     ensures { λ r. ⌜ TreeRead (now (t .entry)) (now («name_at» .exit)) (now («name_len» .exit)) (now (category .exit)) (now (parent .exit)) (now (at .exit)) (now (len .exit)) (now (signal .exit)) (now (number .exit)) r ⌝ }
 {
-    if 8192 < t.len() {
-        return at_fault(4);
+    if MOST_TABLE_BYTES < t.len() {
+        return at_fault(TABLE_TOO_LONG);
     }
     let got = read_categories(t, name_at, name_len);
     match got {
@@ -127,28 +135,28 @@ fn read_tree(
 // What was read: node k stands at k - 1, and each node number with its signal.
 pub struct Sections {
     pub counts: Counts,
-    pub name_at: [u16; 8],
-    pub name_len: [u8; 8],
-    pub category: [u8; 64],
-    pub parent: [u8; 64],
-    pub at: [u16; 64],
-    pub len: [u8; 64],
-    pub number: [u8; 256],
-    pub signal: [u8; 256],
+    pub name_at: [u16; MOST_CATEGORIES],
+    pub name_len: [u8; MOST_CATEGORIES],
+    pub category: [u8; MOST_NODES],
+    pub parent: [u8; MOST_NODES],
+    pub at: [u16; MOST_NODES],
+    pub len: [u8; MOST_NODES],
+    pub number: [u8; MOST_TABLE_URNS],
+    pub signal: [u8; MOST_TABLE_URNS],
 }
 
 // The whole table.
 pub fn read(t: &[u8]) -> Sections
     ensures { λ r. ⌜ Reads (now (t .entry)) r ⌝ }
 {
-    let mut name_at = [0u16; 8];
-    let mut name_len = [0u8; 8];
-    let mut category = [0u8; 64];
-    let mut parent = [0u8; 64];
-    let mut at = [0u16; 64];
-    let mut len = [0u8; 64];
-    let mut number = [0u8; 256];
-    let mut signal = [0u8; 256];
+    let mut name_at = [0u16; MOST_CATEGORIES];
+    let mut name_len = [0u8; MOST_CATEGORIES];
+    let mut category = [0u8; MOST_NODES];
+    let mut parent = [0u8; MOST_NODES];
+    let mut at = [0u16; MOST_NODES];
+    let mut len = [0u8; MOST_NODES];
+    let mut number = [0u8; MOST_TABLE_URNS];
+    let mut signal = [0u8; MOST_TABLE_URNS];
     let counts = read_tree(
         t,
         &mut name_at,

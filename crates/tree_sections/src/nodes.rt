@@ -1,11 +1,15 @@
+// The section of the nodes, read from the left.
+use base_bytes::numbers::short;
+use base_bytes::numbers::small;
+use base_numbers::MOST_NAME_BYTES;
+use base_numbers::MOST_NODES;
 use table_sections::bytes::Reading;
 use table_sections::bytes::byte_in;
 use table_sections::bytes::read_text;
-use table_sections::bytes::short;
-use table_sections::bytes::small;
 ghost use mathlib.Core.Path.{_≡_};
 ghost use Prim.Native.Nat.{_≤_};
 ghost use lib.ListN.{length};
+ghost use Rattle.base_numbers.specs.Numbers.{mostNodes, mostTableBytes};
 ghost use Rattle.table_sections.specs.Stored.{times};
 ghost use Rattle.table_sections.specs.Held.{heldRead, readUpTo, readAtMost};
 ghost use Rattle.tree_sections.specs.Tree.{node, nodes};
@@ -30,7 +34,7 @@ fn read_node(t: &[u8], at: usize) -> NodeReading
             match second {
                 Reading::Fault(k) => NodeReading::Fault(k),
                 Reading::Got(d, q) => {
-                    let third = read_text(t, q, 55);
+                    let third = read_text(t, q, MOST_NAME_BYTES);
                     match third {
                         Reading::Fault(k) => NodeReading::Fault(k),
                         Reading::Got(m, next) => NodeReading::Node(small(c), small(d), m, next),
@@ -46,12 +50,12 @@ fn read_nodes(
     t: &[u8],
     from: usize,
     n: usize,
-    category: &mut [u8; 64],
-    parent: &mut [u8; 64],
-    at: &mut [u16; 64],
-    len: &mut [u8; 64],
+    category: &mut [u8; MOST_NODES],
+    parent: &mut [u8; MOST_NODES],
+    at: &mut [u16; MOST_NODES],
+    len: &mut [u8; MOST_NODES],
 ) -> Reading
-    requires { ⌜ (n ≤ 64) × (length (now t) ≤ 8192) × (length (now category) ≡ 64) × (length (now parent) ≡ 64) × (length (now at) ≡ 64) × (length (now len) ≡ 64) ⌝ }
+    requires { ⌜ (n ≤ mostNodes) × (length (now t) ≤ mostTableBytes) × (length (now category) ≡ mostNodes) × (length (now parent) ≡ mostNodes) × (length (now at) ≡ mostNodes) × (length (now len) ≡ mostNodes) ⌝ }
     ensures { λ r. ⌜ heldRead (nodeFrom (now (t .entry)) (now (category .exit)) (now (parent .exit)) (now (at .exit)) (now (len .exit))) r ≡ times (node (now (t .entry))) n from ⌝ }
     ensures few { λ r. ⌜ readUpTo r n ⌝ }
 {
@@ -80,16 +84,16 @@ fn read_nodes(
 pub(crate) fn read_section(
     t: &[u8],
     from: usize,
-    category: &mut [u8; 64],
-    parent: &mut [u8; 64],
-    at: &mut [u16; 64],
-    len: &mut [u8; 64],
+    category: &mut [u8; MOST_NODES],
+    parent: &mut [u8; MOST_NODES],
+    at: &mut [u16; MOST_NODES],
+    len: &mut [u8; MOST_NODES],
 ) -> Reading
-    requires { ⌜ (length (now t) ≤ 8192) × (length (now category) ≡ 64) × (length (now parent) ≡ 64) × (length (now at) ≡ 64) × (length (now len) ≡ 64) ⌝ }
+    requires { ⌜ (length (now t) ≤ mostTableBytes) × (length (now category) ≡ mostNodes) × (length (now parent) ≡ mostNodes) × (length (now at) ≡ mostNodes) × (length (now len) ≡ mostNodes) ⌝ }
     ensures { λ r. ⌜ heldRead (nodeFrom (now (t .entry)) (now (category .exit)) (now (parent .exit)) (now (at .exit)) (now (len .exit))) r ≡ nodes (now (t .entry)) from ⌝ }
-    ensures few { λ r. ⌜ readAtMost r 64 ⌝ }
+    ensures few { λ r. ⌜ readAtMost r mostNodes ⌝ }
 {
-    let got = byte_in(t, from, 1, 64);
+    let got = byte_in(t, from, 1, MOST_NODES);
     match got {
         Reading::Fault(k) => Reading::Fault(k),
         Reading::Got(n, p) => read_nodes(t, p, n, category, parent, at, len),

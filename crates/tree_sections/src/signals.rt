@@ -1,11 +1,15 @@
+// The section of the signals, read from the left: node numbers, and whose they are.
+use base_bytes::numbers::small;
+use base_numbers::MOST_TABLE_URNS;
+use base_numbers::MOST_URNS;
 use table_sections::bytes::Reading;
 use table_sections::bytes::byte_in;
-use table_sections::bytes::small;
 ghost use mathlib.Core.Path.{_≡_};
 ghost use mathlib.Core.List.{_++_, map};
 ghost use Prim.Native.Nat.{_≤_, _+_, _-_};
 ghost use lib.ListN.{length};
-ghost use Rattle.theory_resolution.specs.Lists.{tabulate};
+ghost use Rattle.base_numbers.specs.Numbers.{mostSignals, mostTableUrns, mostUrns};
+ghost use Rattle.base_lists.specs.Lists.{tabulate};
 ghost use Rattle.table_sections.specs.Stored.{times, counted};
 ghost use Rattle.table_sections.specs.Held.{tag, taggedFrom, mapRead, heldRead, readUpTo, readAtMost};
 ghost use Rattle.tree_sections.specs.Tree.{anyByte};
@@ -18,14 +22,14 @@ fn read_numbers(
     s: u8,
     start: usize,
     end: usize,
-    number: &mut [u8; 256],
-    signal: &mut [u8; 256],
+    number: &mut [u8; MOST_TABLE_URNS],
+    signal: &mut [u8; MOST_TABLE_URNS],
 ) -> Reading
-    requires { ⌜ (start ≤ end) × (end ≤ 256) × (length (now number) ≡ 256) × (length (now signal) ≡ 256) ⌝ }
+    requires { ⌜ (start ≤ end) × (end ≤ mostTableUrns) × (length (now number) ≡ mostTableUrns) × (length (now signal) ≡ mostTableUrns) ⌝ }
     ensures { λ r. ⌜ heldRead (numberAt (now (signal .exit)) (now (number .exit))) r
         ≡ mapRead (λ ks. tabulate (numberAt (now (signal .entry)) (now (number .entry))) start ++ map (tag s) ks)
         (times (anyByte (now (t .entry))) (end - start) from) ⌝ }
-    ensures few { λ r. ⌜ readUpTo r end × (length (now (number .exit)) ≡ 256) × (length (now (signal .exit)) ≡ 256) ⌝ }
+    ensures few { λ r. ⌜ readUpTo r end × (length (now (number .exit)) ≡ mostTableUrns) × (length (now (signal .exit)) ≡ mostTableUrns) ⌝ }
 {
     let mut i = start;
     let mut p = from;
@@ -52,16 +56,16 @@ fn read_signal(
     from: usize,
     s: u8,
     start: usize,
-    number: &mut [u8; 256],
-    signal: &mut [u8; 256],
+    number: &mut [u8; MOST_TABLE_URNS],
+    signal: &mut [u8; MOST_TABLE_URNS],
 ) -> Reading
-    requires { ⌜ (start + 8 ≤ 256) × (length (now number) ≡ 256) × (length (now signal) ≡ 256) ⌝ }
+    requires { ⌜ (start + mostUrns ≤ mostTableUrns) × (length (now number) ≡ mostTableUrns) × (length (now signal) ≡ mostTableUrns) ⌝ }
     ensures { λ r. ⌜ heldRead (numberAt (now (signal .exit)) (now (number .exit))) r
         ≡ mapRead (λ ks. tabulate (numberAt (now (signal .entry)) (now (number .entry))) start ++ map (tag s) ks)
-        (counted 0 8 (anyByte (now (t .entry))) (now (t .entry)) from) ⌝ }
-    ensures few { λ r. ⌜ readAtMost r (start + 8) × (length (now (number .exit)) ≡ 256) × (length (now (signal .exit)) ≡ 256) ⌝ }
+        (counted 0 mostUrns (anyByte (now (t .entry))) (now (t .entry)) from) ⌝ }
+    ensures few { λ r. ⌜ readAtMost r (start + mostUrns) × (length (now (number .exit)) ≡ mostTableUrns) × (length (now (signal .exit)) ≡ mostTableUrns) ⌝ }
 {
-    let got = byte_in(t, from, 0, 8);
+    let got = byte_in(t, from, 0, MOST_URNS);
     match got {
         Reading::Fault(k) => Reading::Fault(k),
         Reading::Got(k, p) => read_numbers(t, p, s, start, start + k, number, signal),
@@ -73,12 +77,12 @@ pub(crate) fn read_signals(
     t: &[u8],
     from: usize,
     n: usize,
-    number: &mut [u8; 256],
-    signal: &mut [u8; 256],
+    number: &mut [u8; MOST_TABLE_URNS],
+    signal: &mut [u8; MOST_TABLE_URNS],
 ) -> Reading
-    requires { ⌜ (n ≤ 32) × (length (now number) ≡ 256) × (length (now signal) ≡ 256) ⌝ }
-    ensures { λ r. ⌜ heldRead (numberAt (now (signal .exit)) (now (number .exit))) r ≡ mapRead (taggedFrom 0) (times (counted 0 8 (anyByte (now (t .entry))) (now (t .entry))) n from) ⌝ }
-    ensures few { λ r. ⌜ readAtMost r 256 ⌝ }
+    requires { ⌜ (n ≤ mostSignals) × (length (now number) ≡ mostTableUrns) × (length (now signal) ≡ mostTableUrns) ⌝ }
+    ensures { λ r. ⌜ heldRead (numberAt (now (signal .exit)) (now (number .exit))) r ≡ mapRead (taggedFrom 0) (times (counted 0 mostUrns (anyByte (now (t .entry))) (now (t .entry))) n from) ⌝ }
+    ensures few { λ r. ⌜ readAtMost r mostTableUrns ⌝ }
 {
     let mut s: usize = 0;
     let mut m: usize = 0;

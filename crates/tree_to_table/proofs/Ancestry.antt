@@ -9,46 +9,53 @@ use native.Mathlib.Nat.{zero-add}
 use lib.ListN.{length, getD, replicate, length-map, length-append}
 use lib.Dec.{leb}
 use borrow.Author.Tests.{ne-eqb, le-leb, lt-leb, leb-true}
-use Rattle.theory_resolution.specs.Lists.{tabulate}
+use Rattle.base_numbers.specs.Numbers.{mostNodes}
+use Rattle.base_lists.proofs.Each.{each-append}
+use Rattle.base_lists.specs.Cuts.{stretch}
+use Rattle.base_lists.proofs.Over.{laid-nil}
+use Rattle.base_lists.proofs.Tests.{all-mem}
+use Rattle.base_lists.specs.Tests.{all}
+use Rattle.base_lists.specs.Numbers.{within}
+use Rattle.base_lists.proofs.Tabulated.{tabulate-at, tabulate-length}
+use Rattle.base_lists.proofs.Lists.{mem-at}
+use Rattle.base_lists.specs.Lists.{tabulate, joined, laid, each}
 use Rattle.theory_resolution.specs.Names.{Name, Parts}
 use Rattle.theory_resolution.specs.Table.{Urn, Table}
 use Rattle.theory_resolution.specs.Nodes.{nodeAt}
-use Rattle.theory_resolution.proofs.Lists.{mem-at, tabulate-at, tabulate-length}
-use Rattle.base_ascii.specs.Ascii.{within}
-use Rattle.base_text.specs.Text.{all, afterColons}
-use Rattle.node_search.specs.Arrays.{stretch}
-use Rattle.table_sections.specs.Held.{joined}
+use Rattle.base_text.specs.Text.{afterColons}
 use Rattle.table_places.specs.Verdict.{verdict}
-use Rattle.table_decode.proofs.Accepting.{all-mem}
 use Rattle.tree_sections.specs.Tree.{Node, nodeOf, Tree}
-use Rattle.tree_forms.specs.Bytes.{each, section, textBytes, storedBytes}
+use Rattle.tree_forms.specs.Bytes.{section, textBytes, storedBytes}
 use Rattle.tree_forms.specs.Meaning.{urnOf, urnsOf, tableOfTree, urnText, storedIn}
 use Rattle.tree_forms.specs.Refusals.{treeRefusal}
 use Rattle.tree_decode.specs.Direct.{shortIn, fewParts, usedOnce, meant}
 use Rattle.tree_forms.specs.Conversion.{oldForm, refused, converted, fromTree, fitsOld}
 use Rattle.tree_sections.specs.Held.{nodeFrom, numberAt, treeHeld, TreeHeld}
 use Rattle.tree_decode.specs.Stages.{Sizes, Depths, GrownAs}
-use Rattle.tree_bytes.specs.Laid.{answer, laid, Puts, ofSignal, Eight}
+use Rattle.tree_bytes.specs.Laid.{answer, Puts, ofSignal, Eight}
 use Rattle.tree_to_table.specs.Urns.{parentOf, ancestorOf, lastOf, partBytes, urnBytes, Ready}
 use Rattle.tree_sections.specs.declared.Counts.{Counts}
-use Rattle.tree_bytes.specs.declared.Converted.{Converted as Answer}
+use Rattle.base_bytes.specs.declared.Built.{Built as Answer}
 use Rattle.tree_forms.proofs.Writing.{Every}
 use Rattle.tree_forms.proofs.Growing.{signal-number, after-length, is-grown}
 use Rattle.tree_forms.proofs.Theorems.{tree-refusal, tree-passed, old-form, fits-old}
 use Rattle.tree_decode.proofs.Measures.{facts, short-by, few-by}
-use Rattle.tree_decode.proofs.Composed.{fits, grew, refusal-meant, count, node-is, known, parented, numbered-in, nodes-all, sizes-right, depths-right, numbers-are}
-use Rattle.tree_bytes.proofs.Laying.{each-join, each-more, laid-nil, puts-join, signals-are, eight}
+use Rattle.tree_decode.proofs.Composed.{fits, grew, refusal-meant, count, node-is, known, parented, numbered-in, nodes-all, sizes-right, depths-right}
+use Rattle.tree_decode.proofs.Composed.{numbers-are}
+use Rattle.tree_bytes.proofs.Laying.{each-more, puts-join, signals-are, eight}
 
-within-node : (i : ℕ) → i < 64 → within 1 64 (suc i) ≡ true
-within-node i h = ap₂ _&&_ (le-leb 1 (suc i) (omega arith)) (le-leb (suc i) 64 (omega arith))
+within-node : (i : ℕ) → i < mostNodes → within 1 mostNodes (suc i) ≡ true
+within-node i h = ap₂ _&&_ (le-leb 1 (suc i) (omega arith)) (le-leb (suc i) mostNodes (omega arith))
 
-last-in : (t at len : List ℕ) (i : ℕ) → i < 64 → lastOf t at len (suc i) ≡ stretch t at len i
+last-in : (t at len : List ℕ) (i : ℕ) → i < mostNodes → lastOf t at len (suc i) ≡ stretch t at len i
 unfolding lastOf
-last-in t at len i h = let o : suc i - 1 ≡ i = omega arith in ap (λ (c : Bool). cond c (stretch t at len (suc i - 1)) []) (within-node i h) ∙ ap (stretch t at len) o
+last-in t at len i h = let o : suc i - 1 ≡ i = omega arith in ap (λ (c : Bool). cond c (stretch t at len (suc i - 1)) []) (within-node i h)
+    ∙ ap (stretch t at len) o
 
-parent-in : (parent : List ℕ) (i : ℕ) → i < 64 → parentOf parent (suc i) ≡ getD parent i 0
+parent-in : (parent : List ℕ) (i : ℕ) → i < mostNodes → parentOf parent (suc i) ≡ getD parent i 0
 unfolding parentOf
-parent-in parent i h = let o : suc i - 1 ≡ i = omega arith in ap (λ (c : Bool). cond c (getD parent (suc i - 1) 0) 0) (within-node i h) ∙ ap (λ j. getD parent j 0) o
+parent-in parent i h = let o : suc i - 1 ≡ i = omega arith in ap (λ (c : Bool). cond c (getD parent (suc i - 1) 0) 0) (within-node i h)
+    ∙ ap (λ j. getD parent j 0) o
 
 no-parts : (w : ℕ → List ℕ) → each w (tabulate (λ d. d) 0) ≡ afterColons []
 unfolding each tabulate afterColons
@@ -59,25 +66,25 @@ pub parent-low : (parent : List ℕ) (k : ℕ) → k < 1 → 0 ≡ parentOf pare
 unfolding parentOf
 parent-low parent k h = sym (rw (lt-leb 1 k h))
 
-pub parent-high : (parent : List ℕ) (k : ℕ) → 1 ≤ k → 64 < k → 0 ≡ parentOf parent k
+pub parent-high : (parent : List ℕ) (k : ℕ) → 1 ≤ k → mostNodes < k → 0 ≡ parentOf parent k
 unfolding parentOf
-parent-high parent k h l = sym (rw (le-leb 1 k h, lt-leb k 64 l))
+parent-high parent k h l = sym (rw (le-leb 1 k h, lt-leb k mostNodes l))
 
-pub parent-some : (parent : List ℕ) (k : ℕ) → 1 ≤ k → k ≤ 64 → getD parent (k - 1) 0 ≡ parentOf parent k
+pub parent-some : (parent : List ℕ) (k : ℕ) → 1 ≤ k → k ≤ mostNodes → getD parent (k - 1) 0 ≡ parentOf parent k
 unfolding parentOf
-parent-some parent k h l = sym (rw (le-leb 1 k h, le-leb k 64 l))
+parent-some parent k h l = sym (rw (le-leb 1 k h, le-leb k mostNodes l))
 
 pub last-low : (t at len : List ℕ) (k : ℕ) → k < 1 → [] ≡ lastOf t at len k
 unfolding lastOf
 last-low t at len k h = sym (rw (lt-leb 1 k h))
 
-pub last-high : (t at len : List ℕ) (k : ℕ) → 1 ≤ k → 64 < k → [] ≡ lastOf t at len k
+pub last-high : (t at len : List ℕ) (k : ℕ) → 1 ≤ k → mostNodes < k → [] ≡ lastOf t at len k
 unfolding lastOf
-last-high t at len k h l = sym (rw (le-leb 1 k h, lt-leb k 64 l))
+last-high t at len k h l = sym (rw (le-leb 1 k h, lt-leb k mostNodes l))
 
-pub last-some : (t at len : List ℕ) (k : ℕ) → 1 ≤ k → k ≤ 64 → stretch t at len (k - 1) ≡ lastOf t at len k
+pub last-some : (t at len : List ℕ) (k : ℕ) → 1 ≤ k → k ≤ mostNodes → stretch t at len (k - 1) ≡ lastOf t at len k
 unfolding lastOf
-last-some t at len k h l = sym (rw (le-leb 1 k h, le-leb k 64 l))
+last-some t at len k h l = sym (rw (le-leb 1 k h, le-leb k mostNodes l))
 
 pub ancestor-more : (parent : List ℕ) (k i : ℕ) {a b : ℕ} → a ≡ ancestorOf parent k i → b ≡ parentOf parent a → b ≡ ancestorOf parent k (i + 1)
 ancestor-more parent k i e f = f ∙ ap (parentOf parent) e ∙ ap (ancestorOf parent k) (sym (add-one i))
@@ -96,19 +103,22 @@ puts-part {x} {y} {z} {a} {r} {s} F G e = subst (λ (l : List ℕ). Puts x z a (
 -- a URN after its length
 pub puts-urn : (t nameAt nameLen category parent at len size depth : List ℕ) (k : ℕ) {x y z v : List ℕ} {a r s u n c : ℕ} {w : List ℕ}
     → n ≡ getD size (k - 1) 0 → c ≡ getD category (k - 1) 0 → w ≡ stretch t nameAt nameLen c
-    → Puts x y a (n ∷ []) r → Puts y z r w s → Puts z v s (each (partBytes t parent at len k (getD depth (k - 1) 0)) (tabulate (λ d. d) (getD depth (k - 1) 0))) u
+    → Puts x y a (n ∷ []) r → Puts y z r w s
+    → Puts z v s (each (partBytes t parent at len k (getD depth (k - 1) 0)) (tabulate (λ d. d) (getD depth (k - 1) 0))) u
     → Puts x v a (urnBytes t nameAt nameLen category parent at len size depth k) u
 unfolding urnBytes
 puts-urn t nameAt nameLen category parent at len size depth k {x} {y} {z} {v} {a} {r} {s} {u} {n} {c} {w} e f g F G H =
     subst (λ (l : List ℕ). Puts x v a l u)
-    (ap₂ (λ (m : ℕ) (l : List ℕ). m ∷ (l ++ each (partBytes t parent at len k (getD depth (k - 1) 0)) (tabulate (λ d. d) (getD depth (k - 1) 0)))) e (g ∙ ap (stretch t nameAt nameLen) f))
+    (ap₂ (λ (m : ℕ) (l : List ℕ). m
+    ∷ (l ++ each (partBytes t parent at len k (getD depth (k - 1) 0)) (tabulate (λ d. d) (getD depth (k - 1) 0)))) e (g ∙ ap (stretch t nameAt nameLen) f))
     (puts-join (puts-join F G) H)
 
 each-same : (v w : ℕ → List ℕ) (n : ℕ) → ((d : ℕ) → d < n → v d ≡ w d) → each v (tabulate (λ d. d) n) ≡ each w (tabulate (λ d. d) n)
 unfolding tabulate each
 each-same v w zero h = refl
 each-same v w (suc n) h =
-    each-join v (tabulate (λ d. d) n) (n ∷ []) ∙ ap₂ (λ (a b : List ℕ). a ++ (b ++ [])) (each-same v w n (λ d l. h d (omega arith))) (h n (omega arith)) ∙ sym (each-join w (tabulate (λ d. d) n) (n ∷ []))
+    each-append v (tabulate (λ d. d) n) (n ∷ []) ∙ ap₂ (λ (a b : List ℕ). a ++ (b ++ [])) (each-same v w n (λ d l. h d (omega arith)))
+    (h n (omega arith)) ∙ sym (each-append w (tabulate (λ d. d) n) (n ∷ []))
 
 colons-snoc : (p : Parts) (x : Name) → afterColons (p ++ x ∷ []) ≡ afterColons p ++ (58 ∷ x)
 unfolding afterColons
@@ -129,7 +139,8 @@ meant-zero : (names : List Name) (T : Table) → meant names T ≡ 0 → (shortI
 unfolding meant
 meant-zero names T e = go (shortIn names T) (fewParts T) refl refl e
   where
-    go : (a b : Bool) → shortIn names T ≡ a → fewParts T ≡ b → _≡_ {A = ℕ} (cond a (cond b (cond (usedOnce names T) (verdict T) 8) 7) 6) 0 → (shortIn names T ≡ true) × (fewParts T ≡ true)
+    go : (a b : Bool) → shortIn names T ≡ a → fewParts T ≡ b → _≡_ {A = ℕ} (cond a (cond b (cond (usedOnce names T) (verdict T) 8) 7) 6) 0
+        → (shortIn names T ≡ true) × (fewParts T ≡ true)
     go true true p q e = (p, q)
     go true false p q e = absurd (omega arith)
     go false b p q e = absurd (omega arith)
@@ -138,14 +149,16 @@ fits-room : (n room : ℕ) {f : Bool} → f ≡ fitsOld n room → f ≡ true �
 fits-room n room e t = fits-old n room (sym e ∙ t) .1
 
 -- a tree that is not refused has grown
-pub well-grown : (t nameAt nameLen category parent at len signal number : List ℕ) (r : Counts) → TreeHeld t nameAt nameLen category parent at len signal number r → treeRefusal t ≡ 0
+pub well-grown : (t nameAt nameLen category parent at len signal number : List ℕ) (r : Counts)
+    → TreeHeld t nameAt nameLen category parent at len signal number r → treeRefusal t ≡ 0
     → GrownAs t nameAt nameLen category parent at len signal number r
 well-grown t nameAt nameLen category parent at len signal number r H z =
     let y = treeHeld t nameAt nameLen category parent at len (H .signals) r in
     let p = tree-passed y (sym (tree-refusal t y (H .next) (H .short) (H .whole)) ∙ z) in
     record { read = H; names = p .names; grows = is-grown y (p .grows) }
 
-module _ (t nameAt nameLen category parent at len signal number : List ℕ) (r : Counts) (G : GrownAs t nameAt nameLen category parent at len signal number r) where
+module _ (t nameAt nameLen category parent at len signal number : List ℕ) (r : Counts) (G : GrownAs t nameAt nameLen category parent at len
+    signal number r) where
   abbrev x : Tree
   x = treeHeld t nameAt nameLen category parent at len (G .read .signals) r
 
@@ -167,30 +180,38 @@ module _ (t nameAt nameLen category parent at len signal number : List ℕ) (r :
       ∙ ap (λ (n : Node). urnOf us (n .parent) .path ++ n .last ∷ []) (own i h)
 
   -- the ancestors of a node, written
-  parts : (b i : ℕ) → i < b → i < r .nodes → each (partBytes t parent at len (suc i) (length (nodeAt us i .path))) (tabulate (λ d. d) (length (nodeAt us i .path))) ≡ afterColons (nodeAt us i .path)
+  parts : (b i : ℕ) → i < b → i < r .nodes → each (partBytes t parent at len (suc i) (length (nodeAt us i .path)))
+      (tabulate (λ d. d) (length (nodeAt us i .path))) ≡ afterColons (nodeAt us i .path)
   parts zero i l h = absurd (omega arith)
   parts (suc b) i l h = go (getD parent i 0) refl (λ j a c. parts b j a c)
     where
-      few : i < 64
+      few : i < mostNodes
       few = omega (arith, G .read .few-nodes)
 
       low : getD parent i 0 ≤ i
       low = parented t nameAt nameLen category parent at len signal number r G .low i h
 
       -- with the path of the parent, q
-      with-path : (q : Parts) (D : ℕ) → length q ≡ D → nodeAt us i .path ≡ q ++ stretch t at len i ∷ [] → each (partBytes t parent at len (suc i) (D + 1)) (tabulate (λ d. d) D) ≡ afterColons q
-          → each (partBytes t parent at len (suc i) (length (nodeAt us i .path))) (tabulate (λ d. d) (length (nodeAt us i .path))) ≡ afterColons (nodeAt us i .path)
+      with-path : (q : Parts) (D : ℕ) → length q ≡ D → nodeAt us i .path ≡ q ++ stretch t at len i ∷ []
+          → each (partBytes t parent at len (suc i) (D + 1)) (tabulate (λ d. d) D) ≡ afterColons q
+          → each (partBytes t parent at len (suc i) (length (nodeAt us i .path))) (tabulate (λ d. d) (length (nodeAt us i .path)))
+          ≡ afterColons (nodeAt us i .path)
       with-path q D e p f =
           let n : length (nodeAt us i .path) ≡ D + 1 = ap length p ∙ length-append q (stretch t at len i ∷ []) ∙ ap (λ k. k + 1) e in
           let o : D + 1 - 1 - D ≡ 0 = omega arith in
           ap (λ k. each (partBytes t parent at len (suc i) k) (tabulate (λ d. d) k)) n
           ∙ each-more (partBytes t parent at len (suc i) (D + 1)) (λ d. d) D
-          ∙ ap₂ (λ (a b : List ℕ). a ++ b) f (ap (λ k. 58 ∷ lastOf t at len (ancestorOf parent (suc i) k)) o ∙ ap (λ (w : List ℕ). 58 ∷ w) (last-in t at len i few))
+          ∙ ap₂ (λ (a b : List ℕ). a ++ b) f (ap (λ k. 58 ∷ lastOf t at len (ancestorOf parent (suc i) k)) o
+          ∙ ap (λ (w : List ℕ). 58 ∷ w) (last-in t at len i few))
           ∙ sym (ap afterColons p ∙ colons-snoc q (stretch t at len i))
 
-      go : (p : ℕ) → getD parent i 0 ≡ p → ((j : ℕ) → j < b → j < r .nodes → each (partBytes t parent at len (suc j) (length (nodeAt us j .path))) (tabulate (λ d. d) (length (nodeAt us j .path))) ≡ afterColons (nodeAt us j .path))
-          → each (partBytes t parent at len (suc i) (length (nodeAt us i .path))) (tabulate (λ d. d) (length (nodeAt us i .path))) ≡ afterColons (nodeAt us i .path)
-      go zero q ih = with-path [] 0 refl (path-is i h ∙ ap (λ p. urnOf us p .path ++ stretch t at len i ∷ []) q) (no-parts (partBytes t parent at len (suc i) (0 + 1)))
+      go : (p : ℕ) → getD parent i 0 ≡ p
+          → ((j : ℕ) → j < b → j < r .nodes → each (partBytes t parent at len (suc j) (length (nodeAt us j .path)))
+          (tabulate (λ d. d) (length (nodeAt us j .path))) ≡ afterColons (nodeAt us j .path))
+          → each (partBytes t parent at len (suc i) (length (nodeAt us i .path))) (tabulate (λ d. d) (length (nodeAt us i .path)))
+          ≡ afterColons (nodeAt us i .path)
+      go zero q ih = with-path [] 0 refl (path-is i h ∙ ap (λ p. urnOf us p .path ++ stretch t at len i ∷ []) q)
+          (no-parts (partBytes t parent at len (suc i) (0 + 1)))
       go (suc j) q ih =
           let P : Parts = nodeAt us j .path in
           let D : ℕ = length P in
@@ -199,7 +220,8 @@ module _ (t nameAt nameLen category parent at len signal number : List ℕ) (r :
           (λ d k.
           let o : D + 1 - 1 - d ≡ suc (D - 1 - d) = omega arith in
           ap (λ m. 58 ∷ lastOf t at len (ancestorOf parent (suc i) m)) o
-          ∙ ap (λ m. 58 ∷ lastOf t at len m) (ancestor-shift parent (suc i) (D - 1 - d) ∙ ap (λ m. ancestorOf parent m (D - 1 - d)) (parent-in parent i few ∙ q)))
+          ∙ ap (λ m. 58 ∷ lastOf t at len m) (ancestor-shift parent (suc i) (D - 1 - d) ∙ ap (λ m. ancestorOf parent m (D - 1 - d))
+          (parent-in parent i few ∙ q)))
           ∙ ih j (omega (arith, low, q)) (omega (arith, low, q)))
 
   module _ (size depth : List ℕ) (F : Sizes t nameAt nameLen category parent at len (r .nodes) size)
@@ -212,14 +234,18 @@ module _ (t nameAt nameLen category parent at len signal number : List ℕ) (r :
     urn-is i h =
         let o : suc i - 1 ≡ i = omega arith in
         let k : i < length (x .nodes) = omega (arith, nodes-count) in
-        let c : nodeAt us i .cat ≡ getD category i 0 = facts x (grew t nameAt nameLen category parent at len signal number r G) i k .cat ∙ ap (λ (n : Node). n .category) (own i h) in
+        let c : nodeAt us i .cat ≡ getD category i 0 = facts x (grew t nameAt nameLen category parent at len signal number r G) i k .cat
+        ∙ ap (λ (n : Node). n .category) (own i h) in
         let n : getD (x .names) (nodeAt us i .cat) [] ≡ stretch t nameAt nameLen (getD category i 0) =
-        ap (λ m. getD (x .names) m []) c ∙ tabulate-at (stretch t nameAt nameLen) (r .categories) (getD category i 0) [] (known t nameAt nameLen category parent at len signal number r G i h) in
+        ap (λ m. getD (x .names) m []) c ∙ tabulate-at (stretch t nameAt nameLen) (r .categories) (getD category i 0) []
+        (known t nameAt nameLen category parent at len signal number r G i h) in
         let s = sizes-right t nameAt nameLen category parent at len signal number r G size F i k in
         let d = depths-right t nameAt nameLen category parent at len signal number r G depth D i k in
         ap₂ (λ (m : ℕ) (w : List ℕ). m ∷ w) (sym s)
-        (ap₂ (λ (a b : List ℕ). a ++ b) n (sym (parts (suc i) i (omega arith) h) ∙ ap (λ m. each (partBytes t parent at len (suc i) m) (tabulate (λ d. d) m)) (sym d)))
-        ∙ ap (λ m. getD size m 0 ∷ (stretch t nameAt nameLen (getD category m 0) ++ each (partBytes t parent at len (suc i) (getD depth m 0)) (tabulate (λ d. d) (getD depth m 0)))) (sym o)
+        (ap₂ (λ (a b : List ℕ). a ++ b) n (sym (parts (suc i) i (omega arith) h)
+        ∙ ap (λ m. each (partBytes t parent at len (suc i) m) (tabulate (λ d. d) m)) (sym d)))
+        ∙ ap (λ m. getD size m 0 ∷ (stretch t nameAt nameLen (getD category m 0)
+        ++ each (partBytes t parent at len (suc i) (getD depth m 0)) (tabulate (λ d. d) (getD depth m 0)))) (sym o)
 
     number-is : (sig : List ℕ) → List·Memᴰ sig (x .signals) → (k : ℕ) → List·Memᴰ k sig → textBytes (urnText (x .names) (urnOf us k)) ≡ ub k
     number-is sig m k i =
@@ -241,7 +267,8 @@ module _ (t nameAt nameLen category parent at len signal number : List ℕ) (r :
     each-of p e i h =
         let f : ℕ → ℕ = λ i. getD number i 0 in
         ap p (sym (tabulate-at f (r .numbers) i 0 h))
-        ∙ all-mem p numbers (getD numbers i 0) (ap (all p) (numbers-are t nameAt nameLen category parent at len signal number r (G .read)) ∙ e) (mem-at numbers i 0 (omega (arith, tabulate-length f (r .numbers))))
+        ∙ all-mem p numbers (getD numbers i 0) (ap (all p) (numbers-are t nameAt nameLen category parent at len signal number r (G .read))
+        ∙ e) (mem-at numbers i 0 (omega (arith, tabulate-length f (r .numbers))))
 
     pub ready : treeRefusal t ≡ 0 → Ready number category size depth (r .numbers)
     ready z =
@@ -249,11 +276,14 @@ module _ (t nameAt nameLen category parent at len signal number : List ℕ) (r :
         let w = meant-zero (x .names) T (sym (refusal-meant t nameAt nameLen category parent at len signal number r G) ∙ z) in
         record {
           node = nodes-all t nameAt nameLen category parent at len signal number r G;
-          listed = λ i h. let n = numbered-in t nameAt nameLen category parent at len signal number r G i h in parented t nameAt nameLen category parent at len signal number r G .few (getD number i 0 - 1) (omega (arith, n .0, n .1));
+          listed = λ i h. let n = numbered-in t nameAt nameLen category parent at len signal number r G i h in
+              parented t nameAt nameLen category parent at len signal number r G .few (getD number i 0 - 1) (omega (arith, n .0, n .1));
           small = λ i h. leb-true (getD size (getD number i 0 - 1) 0) 255
-              (each-of (λ k. leb (getD size (k - 1) 0) 255) (sym (short-by x y (λ i. getD size i 0) (sizes-right t nameAt nameLen category parent at len signal number r G size F)) ∙ w .0) i h);
+              (each-of (λ k. leb (getD size (k - 1) 0) 255)
+              (sym (short-by x y (λ i. getD size i 0) (sizes-right t nameAt nameLen category parent at len signal number r G size F)) ∙ w .0) i h);
           shallow = λ i h. leb-true (getD depth (getD number i 0 - 1) 0) 8
-              (each-of (λ k. leb (getD depth (k - 1) 0) 8) (sym (few-by x y (λ i. getD depth i 0) (depths-right t nameAt nameLen category parent at len signal number r G depth D)) ∙ w .1) i h);
+              (each-of (λ k. leb (getD depth (k - 1) 0) 8)
+              (sym (few-by x y (λ i. getD depth i 0) (depths-right t nameAt nameLen category parent at len signal number r G depth D)) ∙ w .1) i h);
         }
 
     module _ {b y v : List ℕ} {p e : ℕ} (P : Puts b y 0 (section textBytes (tabulate (stretch t nameAt nameLen) (r .categories))) p)
@@ -264,20 +294,23 @@ module _ (t nameAt nameLen category parent at len signal number : List ℕ) (r :
           subst (λ (l : List ℕ). Puts b v 0 l e)
           (ap (λ (l : List ℕ). section textBytes (x .names) ++ l)
           (ap (section (section ub))
-          (ap (tabulate (λ s. ofSignal s (tabulate (numberAt signal number) (r .numbers)))) (sym (G .read .held .all-signals)) ∙ signals-are signal number (r .numbers) (x .signals) (G .read .held .numbers))
+          (ap (tabulate (λ s. ofSignal s (tabulate (numberAt signal number) (r .numbers)))) (sym (G .read .held .all-signals))
+          ∙ signals-are signal number (r .numbers) (x .signals) (G .read .held .numbers))
           ∙ sym signals-written)
           ∙ sym (old-form t x (G .read .next) (G .read .whole)))
           (puts-join P Q)
 
       pub old-formed : treeRefusal t ≡ 0 → {u : List ℕ} {a : Answer} {fit : Bool} → fit ≡ fitsOld e (length v)
-          → ((form c : List ℕ) → (fit ≡ true → e ≤ length c) → length form ≡ e → length c ≡ length v → v ≡ laid form c → (a ≡ answer (converted 0 fit form (length c))) × (u ≡ converted 0 fit form (length c) .buffer))
+          → ((form c : List ℕ) → (fit ≡ true → e ≤ length c) → length form ≡ e → length c ≡ length v → v ≡ laid form c
+          → (a ≡ answer (converted 0 fit form (length c))) × (u ≡ converted 0 fit form (length c) .buffer))
           → (a ≡ answer (fromTree t (length b))) × (u ≡ fromTree t (length b) .buffer)
       unfolding fromTree
       old-formed z {u} {a} {fit} f K =
           let l : length (oldForm t) ≡ e = sym (wrote .end ∙ zero-add (length (oldForm t))) in
           let k = K (oldForm t) b (λ w. omega (arith, fits-room e (length v) f w, wrote .long)) l (sym (wrote .long)) (wrote .goes-on [] b refl (laid-nil b)) in
           let o : fit ≡ fitsOld (length (oldForm t)) (length b) = f ∙ ap₂ fitsOld (sym l) (wrote .long) in
-          let q : converted 0 fit (oldForm t) (length b) ≡ converted (treeRefusal t) (fitsOld (length (oldForm t)) (length b)) (oldForm t) (length b) = ap₂ (λ (j : ℕ) (g : Bool). converted j g (oldForm t) (length b)) (sym z) o in
+          let q : converted 0 fit (oldForm t) (length b) ≡ converted (treeRefusal t) (fitsOld (length (oldForm t)) (length b)) (oldForm t)
+          (length b) = ap₂ (λ (j : ℕ) (g : Bool). converted j g (oldForm t) (length b)) (sym z) o in
           (k .0 ∙ ap answer q, k .1 ∙ ap (λ c. c .buffer) q)
 
   pub eight-read : Eight signal number (r .numbers)
@@ -287,9 +320,9 @@ module _ (t nameAt nameLen category parent at len signal number : List ℕ) (r :
 
 -- what is known of one number
 pub ready-at : (number category size depth : List ℕ) (m : ℕ) → Ready number category size depth m → (i : ℕ) → i < m → {k : ℕ} → k ≡ getD number i 0
-    → (1 ≤ k) × (k ≤ 64) × (getD category (k - 1) 0 < 8) × (getD size (k - 1) 0 ≤ 255) × (getD depth (k - 1) 0 ≤ 8)
+    → (1 ≤ k) × (k ≤ mostNodes) × (getD category (k - 1) 0 < 8) × (getD size (k - 1) 0 ≤ 255) × (getD depth (k - 1) 0 ≤ 8)
 ready-at number category size depth m R i h e =
-    subst (λ (k : ℕ). (1 ≤ k) × (k ≤ 64) × (getD category (k - 1) 0 < 8) × (getD size (k - 1) 0 ≤ 255) × (getD depth (k - 1) 0 ≤ 8)) (sym e)
+    subst (λ (k : ℕ). (1 ≤ k) × (k ≤ mostNodes) × (getD category (k - 1) 0 < 8) × (getD size (k - 1) 0 ≤ 255) × (getD depth (k - 1) 0 ≤ 8)) (sym e)
     (R .node i h .0, R .node i h .1, R .listed i h, R .small i h, R .shallow i h)
 
 -- a refused conversion
@@ -297,7 +330,8 @@ converted-no : (k : ℕ) (fits : Bool) (bytes : List ℕ) (room : ℕ) → (k �
 unfolding converted
 converted-no k fits bytes room n = rw (ne-eqb k 0 n)
 
-pub not-from : (room : ℕ) {k : ℕ} {r : Answer} {v : List ℕ} → (k ≡ 0 → ⊥) → r ≡ record { refusal = k; len = 0 } → v ≡ replicate room 0 → (t : List ℕ) → k ≡ treeRefusal t
+pub not-from : (room : ℕ) {k : ℕ} {r : Answer} {v : List ℕ} → (k ≡ 0 → ⊥) → r ≡ record { refusal = k; len = 0 } → v ≡ replicate room 0
+    → (t : List ℕ) → k ≡ treeRefusal t
     → (r ≡ answer (fromTree t room)) × (v ≡ fromTree t room .buffer)
 unfolding fromTree
 not-from room {k} n e f t q =

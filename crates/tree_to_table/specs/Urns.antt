@@ -4,19 +4,31 @@ use mathlib.Core.Path.{_≡_}
 use mathlib.Core.Bool.{cond}
 use mathlib.Core.List.{List, [], _∷_, _++_}
 use lib.ListN.{getD}
-use Rattle.theory_resolution.specs.Lists.{tabulate}
+use Rattle.base_numbers.specs.Numbers.{mostCategories, mostNodes, mostUrnBytes, mostUrnParts}
+use Rattle.base_lists.specs.Cuts.{stretch}
+use Rattle.base_lists.specs.Numbers.{within}
+use Rattle.base_lists.specs.Lists.{tabulate, each}
 use Rattle.theory_resolution.specs.Names.{Name}
-use Rattle.base_ascii.specs.Ascii.{within}
-use Rattle.node_search.specs.Arrays.{stretch}
 use Rattle.tree_sections.specs.Held.{TreeHeld}
 use Rattle.tree_sections.specs.declared.Counts.{Counts}
-use Rattle.tree_forms.specs.Bytes.{each}
 use Rattle.tree_forms.specs.Refusals.{treeRefusal}
 use Rattle.tree_decode.specs.Stages.{Measured}
 
+-- bytes of a path at most: 8 parts, each a colon and up to 255 bytes
+abbrev pub mostPath : ℕ
+mostPath = 2048
+
+-- over the bytes of a URN: its length, its category and its path
+abbrev pub urnBound : ℕ
+urnBound = 2400
+
+-- over the bytes of the URNs of a signal, with their count
+abbrev pub urnsBound : ℕ
+urnsBound = 700000
+
 -- the parent of node k, or 0
 unfoldable pub parentOf : List ℕ → ℕ → ℕ
-parentOf parent k = cond (within 1 64 k) (getD parent (k - 1) 0) 0
+parentOf parent k = cond (within 1 mostNodes k) (getD parent (k - 1) 0) 0
 
 -- the j-th ancestor of node k, itself for 0
 abbrev pub ancestorOf : List ℕ → ℕ → ℕ → ℕ
@@ -25,7 +37,7 @@ ancestorOf parent k (suc j) = parentOf parent (ancestorOf parent k j)
 
 -- the last name of node k, or none
 unfoldable pub lastOf : List ℕ → List ℕ → List ℕ → ℕ → Name
-lastOf t at len k = cond (within 1 64 k) (stretch t at len (k - 1)) []
+lastOf t at len k = cond (within 1 mostNodes k) (stretch t at len (k - 1)) []
 
 -- a colon and the last name of the ancestor of node k at depth d of n
 abbrev pub partBytes : (t parent at len : List ℕ) → ℕ → ℕ → ℕ → List ℕ
@@ -38,10 +50,10 @@ urnBytes t nameAt nameLen category parent at len size depth k =
 
 -- every number is that of a node whose URN can be written
 pub record Ready (number category size depth : List ℕ) (m : ℕ) : Type 0 where
-  pub node : (i : ℕ) → i < m → (1 ≤ getD number i 0) × (getD number i 0 ≤ 64)
-  pub listed : (i : ℕ) → i < m → getD category (getD number i 0 - 1) 0 < 8
-  pub small : (i : ℕ) → i < m → getD size (getD number i 0 - 1) 0 ≤ 255
-  pub shallow : (i : ℕ) → i < m → getD depth (getD number i 0 - 1) 0 ≤ 8
+  pub node : (i : ℕ) → i < m → (1 ≤ getD number i 0) × (getD number i 0 ≤ mostNodes)
+  pub listed : (i : ℕ) → i < m → getD category (getD number i 0 - 1) 0 < mostCategories
+  pub small : (i : ℕ) → i < m → getD size (getD number i 0 - 1) 0 ≤ mostUrnBytes
+  pub shallow : (i : ℕ) → i < m → getD depth (getD number i 0 - 1) 0 ≤ mostUrnParts
 
 -- the arrays hold a well-formed tree, and how long and deep the URN of each node is
 pub record TreeAs (t nameAt nameLen category parent at len signal number size depth : List ℕ) (r : Counts) : Type 0 where

@@ -7,7 +7,11 @@
 mod paths;
 mod urns;
 
-use tree_bytes::Converted;
+use base_bytes::Built;
+use base_numbers::MOST_CATEGORIES;
+use base_numbers::MOST_NODES;
+use base_numbers::MOST_TABLE_BYTES;
+use base_numbers::MOST_TABLE_URNS;
 use tree_sections::Counts;
 ghost use mathlib.Core.Path.{_≡_};
 ghost use lib.ListN.{length};
@@ -19,7 +23,7 @@ ghost use Rattle.tree_to_table.specs.Urns.{TreeAs};
 fn room_for(n: usize, room: usize) -> bool
     ensures { λ r. ⌜ r ≡ fitsOld n room ⌝ }
 {
-    if n <= 8192 {
+    if n <= MOST_TABLE_BYTES {
         return n <= room;
     }
     false
@@ -29,18 +33,18 @@ fn room_for(n: usize, room: usize) -> bool
 fn form<'a>(
     x: &[u8],
     l: Counts,
-    name_at: &'a [u16; 8],
-    name_len: &'a [u8; 8],
-    category: &'a [u8; 64],
-    parent: &'a [u8; 64],
-    at: &'a [u16; 64],
-    len: &'a [u8; 64],
-    number: &'a [u8; 256],
-    signal: &'a [u8; 256],
-    size: &'a [usize; 64],
-    depth: &'a [usize; 64],
+    name_at: &'a [u16; MOST_CATEGORIES],
+    name_len: &'a [u8; MOST_CATEGORIES],
+    category: &'a [u8; MOST_NODES],
+    parent: &'a [u8; MOST_NODES],
+    at: &'a [u16; MOST_NODES],
+    len: &'a [u8; MOST_NODES],
+    number: &'a [u8; MOST_TABLE_URNS],
+    signal: &'a [u8; MOST_TABLE_URNS],
+    size: &'a [usize; MOST_NODES],
+    depth: &'a [usize; MOST_NODES],
     buf: &mut [u8],
-) -> Converted
+) -> Built
     requires { ⌜ TreeAs (now x) (now «name_at») (now «name_len») (now category) (now parent) (now at) (now len) (now signal) (now number) (now size) (now depth) l ⌝ }
     ensures { λ r. ⌜ r ≡ answer (fromTree (now (x .entry)) (length (now (buf .entry)))) ⌝ }
     ensures { λ _. ⌜ now (buf .exit) ≡ fromTree (now (x .entry)) (length (now (buf .entry))) .buffer ⌝ }
@@ -68,14 +72,14 @@ fn form<'a>(
 }
 
 // The form of a table whose tree is written once, with zeros after it; or all zeros and the number of the refusal.
-pub fn write(x: &[u8], buf: &mut [u8]) -> Converted
+pub fn write(x: &[u8], buf: &mut [u8]) -> Built
     ensures { λ r. ⌜ r ≡ answer (fromTree (now (x .entry)) (length (now (buf .entry)))) ⌝ }
     ensures { λ _. ⌜ now (buf .exit) ≡ fromTree (now (x .entry)) (length (now (buf .entry))) .buffer ⌝ }
 {
     let d = tree_decode::decode(x);
     let refused = d.refusal;
     if refused != 0 {
-        return tree_bytes::refuse(buf, refused);
+        return base_bytes::refuse(buf, refused);
     }
     let l = Counts {
         ok: d.sections.counts.ok,

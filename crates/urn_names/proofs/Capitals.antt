@@ -1,6 +1,6 @@
 -- Laws of stored names: a look at each byte tells of their form and of capital letters.
 use Prim.Native.Nat.{ℕ, zero, suc, _+_, _-_, _≤_, _<_}
-use mathlib.Core.Path.{_≡_, refl, ap, ap₂, sym, _∙_}
+use mathlib.Core.Path.{_≡_, refl, ap, sym, _∙_}
 use mathlib.Core.Bool.{Bool, true, false, cond, _&&_, and-assoc, and-true, and-false, and-eq-true-iff}
 use mathlib.Core.List.{List, [], _∷_}
 use mathlib.Core.Logic.{_⊎_, inl, inr, ⊎-elim}
@@ -9,17 +9,20 @@ use native.Mathlib.Numerals.{add-one}
 use lib.ListN.{length, getD, take, drop}
 use lib.Seq.{length-take-le, take-all}
 use lib.Dec.{eqb, leb}
-use borrow.Author.Tests.{ne-eqb, eqb-true, lt-leb, leb-true}
-use Rattle.base_ascii.specs.Ascii.{within}
-use Rattle.base_text.specs.Text.{all, upTo, onFirst, fields}
-use Rattle.urn_names.specs.Names.{labelByte, runBy, labelOk, nameOk, lengthBy}
+use borrow.Author.Tests.{ne-eqb, eqb-true, lt-leb}
+use Rattle.base_lists.proofs.Tests.{all-two}
+use Rattle.base_lists.proofs.Numbers.{within-is}
+use Rattle.base_lists.proofs.Cuts.{part-end, run-le}
+use Rattle.base_lists.proofs.Bools.{byTest}
+use Rattle.base_lists.specs.Cuts.{upTo, run}
+use Rattle.base_lists.specs.Tests.{all}
+use Rattle.base_lists.specs.Numbers.{within}
+use Rattle.base_text.specs.Text.{onFirst, fields}
+use Rattle.urn_names.specs.Names.{labelByte, labelOk, nameOk, lengthBy}
 use Rattle.urn_names.specs.Urn.{notCapital, noCapital, storedByte, storedName, urnOk, namesBy}
-use Rattle.base_text.proofs.Fields.{byTest, fields-first, part-end}
-use Rattle.urn_names.proofs.Runs.{run-le, colon-byte, at-byte, run-upTo, label-name, name-some, run-fits, bytes-fit, all-label, part-label, name-run, name-other, two-labels}
-
--- one byte
-within-to : (lo hi x : ℕ) → within lo hi x ≡ true → (lo ≤ x) × (x ≤ hi)
-within-to lo hi x e = let a = and-eq-true-iff (leb lo x) (leb x hi) .0 e in (leb-true lo x (a .0), leb-true x hi (a .1))
+use Rattle.base_text.proofs.Fields.{fields-first}
+use Rattle.urn_names.proofs.Runs.{colon-byte, at-byte, run-upTo, label-name, name-some, run-fits, bytes-fit, all-label, part-label, name-run}
+use Rattle.urn_names.proofs.Runs.{name-other, two-labels}
 
 low-other : (b : ℕ) → b < 65 → within 65 90 b ≡ false
 low-other b h = rw (lt-leb 65 b h)
@@ -31,26 +34,26 @@ pub small-letter : (b : ℕ) {x : Bool} → x ≡ within 97 122 b → x ≡ true
 unfolding storedByte labelByte
 small-letter b e t =
     let w : within 97 122 b ≡ true = sym e ∙ t in
-    sym (rw (w, high-other b (omega (arith, within-to 97 122 b w .0))))
+    sym (rw (w, high-other b (omega (arith, within-is 97 122 b w .0))))
 
 module _ (b : ℕ) {x y : Bool} (e : x ≡ within 97 122 b) (t : x ≡ false) (f : y ≡ within 48 57 b) where
   pub small-digit : y ≡ true → true ≡ storedByte b
   unfolding storedByte labelByte
   small-digit u =
       let w : within 48 57 b ≡ true = sym f ∙ u in
-      sym (rw (sym e ∙ t, low-other b (omega (arith, within-to 48 57 b w .1)), w))
+      sym (rw (sym e ∙ t, low-other b (omega (arith, within-is 48 57 b w .1)), w))
 
   pub small-hyphen : y ≡ false → eqb b 45 ≡ storedByte b
   unfolding storedByte labelByte
   small-hyphen u =
       byTest (within 65 90 b)
-      (λ w. ne-eqb b 45 (λ q. omega (arith, within-to 65 90 b w .0)) ∙ sym (rw (sym e ∙ t, w)))
+      (λ w. ne-eqb b 45 (λ q. omega (arith, within-is 65 90 b w .0)) ∙ sym (rw (sym e ∙ t, w)))
       (λ w. sym (rw (sym e ∙ t, w, sym f ∙ u) (and-true (eqb b 45))))
 
 -- before a byte that no label has, or the end, the run is that of all label bytes, and has no capital letter
-stored-run-of : (c : ℕ) → labelByte c ≡ false → (s : List ℕ) → (runBy storedByte s < length s → getD s (runBy storedByte s) 0 ≡ c)
-    → (runBy storedByte s ≡ runBy labelByte s) × (all notCapital (take (runBy storedByte s) s) ≡ true)
-unfolding runBy all storedByte
+stored-run-of : (c : ℕ) → labelByte c ≡ false → (s : List ℕ) → (run storedByte s < length s → getD s (run storedByte s) 0 ≡ c)
+    → (run storedByte s ≡ run labelByte s) × (all notCapital (take (run storedByte s) s) ≡ true)
+unfolding run all storedByte
 stored-run-of c n [] h = (refl, refl)
 stored-run-of c n (x ∷ xs) h =
     byTest (storedByte x)
@@ -63,13 +66,13 @@ stored-run-of c n (x ∷ xs) h =
     let l : labelByte x ≡ false = ap labelByte q ∙ n in
     simp l (refl, refl))
 
-stored-run-is : (s : List ℕ) → (runBy storedByte s < length s → getD s (runBy storedByte s) 0 ≡ 58)
-    → (runBy storedByte s ≡ runBy labelByte s) × (all notCapital (take (runBy storedByte s) s) ≡ true)
+stored-run-is : (s : List ℕ) → (run storedByte s < length s → getD s (run storedByte s) 0 ≡ 58)
+    → (run storedByte s ≡ run labelByte s) × (all notCapital (take (run storedByte s) s) ≡ true)
 stored-run-is = stored-run-of 58 colon-byte
 
 -- where the run ends within a text, there is a capital letter, or no label goes on
-run-ends : (s : List ℕ) → runBy storedByte s < length s → (noCapital s ≡ false) ⊎ (runBy storedByte s ≡ runBy labelByte s)
-unfolding runBy noCapital all storedByte
+run-ends : (s : List ℕ) → run storedByte s < length s → (noCapital s ≡ false) ⊎ (run storedByte s ≡ run labelByte s)
+unfolding run noCapital all storedByte
 run-ends [] h = absurd (omega arith)
 run-ends (x ∷ xs) h =
     byTest (labelByte x)
@@ -89,23 +92,23 @@ all-front p (x ∷ xs) (suc n) t h q =
     simp (a .0) (all-front p xs n (a .1) (omega arith) q)
 
 -- a stored label, and a stored name, by the run
-module _ (s : List ℕ) (n : ℕ) (e : n ≡ runBy storedByte s) where
+module _ (s : List ℕ) (n : ℕ) (e : n ≡ run storedByte s) where
   stored-le : n ≤ length s
   stored-le = omega (arith, run-le storedByte s)
 
   -- what the run is before `@` or the end
   module _ (h : n < length s → getD s n 0 ≡ 64) where
-    at-run : (n ≡ runBy labelByte s) × (all notCapital (take n s) ≡ true)
+    at-run : (n ≡ run labelByte s) × (all notCapital (take n s) ≡ true)
     at-run = rw e (stored-run-of 64 at-byte s (rw e at h))
 
-    pub at-run-label : n ≡ runBy labelByte s
+    pub at-run-label : n ≡ run labelByte s
     at-run-label = at-run .0
 
   module _ (h : n ≡ length s) where
     ends : n < length s → getD s n 0 ≡ 64
     ends l = absurd (omega arith)
 
-    pub end-run-label : n ≡ runBy labelByte s
+    pub end-run-label : n ≡ run labelByte s
     end-run-label = at-run ends .0
 
     small : noCapital s ≡ true
@@ -120,7 +123,7 @@ module _ (s : List ℕ) (n : ℕ) (e : n ≡ runBy storedByte s) where
     stored-name-run f = name-run s n end-run-label h f ∙ sym (rw small)
 
   module _ (h : n ≡ length s → ⊥) where
-    inside : runBy storedByte s < length s
+    inside : run storedByte s < length s
     inside = omega (arith, stored-le)
 
     pub stored-within : n < length s
@@ -140,7 +143,8 @@ module _ (s : List ℕ) (n : ℕ) (e : n ≡ runBy storedByte s) where
       unfolding noCapital
       rest-small = all-front notCapital s n (at-run (λ l. k) .1) stored-within (ap notCapital k) ∙ ap (λ i. all notCapital (drop i s)) (sym (add-one n))
 
-      pub stored-second : {r : Bool} → b ≡ true → r ≡ (noCapital (take (length s - (n + 1)) (drop (n + 1) s)) && labelOk (take (length s - (n + 1)) (drop (n + 1) s))) → r ≡ storedName s
+      pub stored-second : {r : Bool} → b ≡ true
+          → r ≡ (noCapital (take (length s - (n + 1)) (drop (n + 1) s)) && labelOk (take (length s - (n + 1)) (drop (n + 1) s))) → r ≡ storedName s
       unfolding storedName
       stored-second t g =
           g ∙ ap (λ l. noCapital l && labelOk l) (part-end s (n + 1))
@@ -154,11 +158,11 @@ pub stored-some : (l : List ℕ) → storedName l ≡ true → 0 < length l
 unfolding storedName
 stored-some l e = name-some l (and-eq-true-iff (noCapital l) (nameOk l) .0 e .1)
 
-module _ (s : List ℕ) (n : ℕ) (e : n ≡ runBy storedByte s) (h : n < length s → getD s n 0 ≡ 58) where
-  is : (n ≡ runBy labelByte s) × (all notCapital (take n s) ≡ true)
+module _ (s : List ℕ) (n : ℕ) (e : n ≡ run storedByte s) (h : n < length s → getD s n 0 ≡ 58) where
+  is : (n ≡ run labelByte s) × (all notCapital (take n s) ≡ true)
   is = rw e (stored-run-is s (rw e at h))
 
-  pub stored-run-label : n ≡ runBy labelByte s
+  pub stored-run-label : n ≡ run labelByte s
   stored-run-label = is .0
 
   module _ {b : Bool} (f : b ≡ labelOk (take n s)) where
@@ -186,19 +190,8 @@ fields-small (x ∷ s) =
     simp (e, n) (fields-small s))
     (λ e.
     let f = fields-first 58 s in
-    simp (e, f .1) (and-assoc (notCapital x) (all notCapital (upTo 58 s)) (all noCapital (f .0)) ∙ ap (λ z. notCapital x && z) (ap (all noCapital) (sym (f .1)) ∙ fields-small s)))
-
-pub exchange : (a b c d : Bool) → ((a && b) && (c && d)) ≡ ((a && c) && (b && d))
-exchange true true c d = refl
-exchange true false true d = refl
-exchange true false false d = refl
-exchange false b c d = refl
-
--- a test that is two, over a list
-pub all-two : {A : Type 0} (p q r : A → Bool) → ((x : A) → r x ≡ (p x && q x)) → (l : List A) → all r l ≡ (all p l && all q l)
-unfolding all
-all-two p q r e [] = refl
-all-two p q r e (x ∷ l) = ap₂ _&&_ (e x) (all-two p q r e l) ∙ exchange (p x) (q x) (all p l) (all q l)
+    simp (e, f .1) (and-assoc (notCapital x) (all notCapital (upTo 58 s)) (all noCapital (f .0))
+    ∙ ap (λ z. notCapital x && z) (ap (all noCapital) (sym (f .1)) ∙ fields-small s)))
 
 pub name-two : (x : List ℕ) → storedName x ≡ (noCapital x && nameOk x)
 unfolding storedName
@@ -208,7 +201,8 @@ name-two x = refl
 pub urn-names : (s : List ℕ) {n : ℕ} → n ≡ namesBy storedName s → within 2 9 n ≡ urnOk s
 unfolding namesBy urnOk
 urn-names s e =
-    let t : all storedName (fields 58 s) ≡ (noCapital s && all nameOk (fields 58 s)) = all-two noCapital nameOk storedName name-two (fields 58 s) ∙ ap (λ z. z && all nameOk (fields 58 s)) (fields-small s) in
+    let t : all storedName (fields 58 s) ≡ (noCapital s && all nameOk (fields 58 s)) =
+    all-two noCapital nameOk storedName name-two (fields 58 s) ∙ ap (λ z. z && all nameOk (fields 58 s)) (fields-small s) in
     byTest (noCapital s)
     (λ a. byTest (all nameOk (fields 58 s)) (λ b. simp (e, t, a, b, and-true)) (λ b. simp (e, t, a, b, and-false)))
     (λ a. simp (e, t, a))

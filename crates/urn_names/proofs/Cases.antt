@@ -1,23 +1,24 @@
 -- Letter case: laws of the forms.
-use Prim.Native.Nat.{ℕ, zero, suc, _+_, _-_, _≤_}
+use Prim.Native.Nat.{ℕ, zero, suc, _+_, _-_}
 use mathlib.Core.Path.{_≡_, refl, ap, ap₂, sym, _∙_}
 use mathlib.Core.Logic.{inl}
-use mathlib.Core.Bool.{Bool, true, false, not, _&&_, _||_, and-eq-true-iff, false≢true}
+use mathlib.Core.Bool.{Bool, true, false, not, _&&_, _||_, and-eq-true-iff}
 use mathlib.Core.List.{List, [], _∷_, map}
 use native.Mathlib.Omega.{arith}
 use lib.ListN.{length, getD, drop}
 use lib.Dec.{eqb, leb}
-use borrow.Author.Tests.{le-leb}
-use Rattle.base_ascii.specs.Ascii.{within, bytes}
-use Rattle.base_text.specs.Text.{all, upTo, past, fields, lower, lowered}
+use borrow.Author.Tests.{not-true}
+use Rattle.base_numbers.specs.Numbers.{mostLabelBytes}
+use Rattle.base_lists.proofs.Numbers.{in-range}
+use Rattle.base_lists.specs.Cuts.{upTo, past}
+use Rattle.base_lists.specs.Tests.{all}
+use Rattle.base_lists.specs.Numbers.{within}
+use Rattle.base_ascii.specs.Ascii.{bytes}
+use Rattle.base_text.specs.Text.{fields, lower, lowered}
 use Rattle.urn_names.specs.Names.{labelByte, labelOk, nameOk}
 use Rattle.urn_names.specs.Urn.{notCapital, noCapital, begins, restOk, alertUrn}
 use Rattle.urn_names.specs.Claims.{NoCapitalExactly}
 use Rattle.base_text.proofs.Cases.{lower-cases, lower-out, lower-other, lowered-length, lowered-upTo, lowered-past, lowered-drop, lower-twice, fields-case}
-
--- the form of a URI has no regard to letter case
-in-range : (lo hi x : ℕ) → lo ≤ x → x ≤ hi → within lo hi x ≡ true
-in-range lo hi x a b = ap₂ _&&_ (le-leb lo x a) (le-leb x hi b)
 
 label-case : (x : ℕ) → labelByte (lower x) ≡ labelByte x
 unfolding labelByte
@@ -46,7 +47,7 @@ hyphen-case (x ∷ s) (suc i) = hyphen-case s i
 labelOk-case : (s : List ℕ) → labelOk (lowered s) ≡ labelOk s
 unfolding labelOk
 labelOk-case s =
-    ap₂ _&&_ (ap (within 1 27) (lowered-length s))
+    ap₂ _&&_ (ap (within 1 mostLabelBytes) (lowered-length s))
     (ap₂ _&&_ (ap not (hyphen-case s 0))
     (ap₂ _&&_ (ap (λ k. not (eqb (getD (lowered s) (k - 1) 0) 45)) (lowered-length s) ∙ ap not (hyphen-case s (length s - 1))) (labels-case s)))
 
@@ -81,11 +82,6 @@ begins-case (x ∷ w) (y ∷ s) = ap₂ _&&_ (ap (λ z. eqb z x) (lower-twice y)
 pub alert-case : (uri : List ℕ) → alertUrn (lowered uri) ≡ alertUrn uri
 unfolding alertUrn
 alert-case uri = ap₂ _&&_ (begins-case (bytes "urn:alert:") uri) (ap restOk (lowered-drop 10 uri) ∙ rest-case (drop 10 uri))
-
--- capital letters
-not-true : (b : Bool) → not b ≡ true → b ≡ false
-not-true true e = absurd (false≢true e)
-not-true false e = refl
 
 small-stays : (s : List ℕ) → noCapital s ≡ true → lowered s ≡ s
 unfolding noCapital all lowered

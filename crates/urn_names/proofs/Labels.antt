@@ -8,24 +8,31 @@ use native.Mathlib.Omega.{arith}
 use lib.ListN.{length, getD, length-drop}
 use lib.Dec.{eqb, leb}
 use borrow.Author.Tests.{leb-true}
-use Rattle.base_ascii.specs.Ascii.{within}
-use Rattle.base_text.specs.Text.{all, upTo, past, onFirst, fields}
+use Rattle.base_numbers.specs.Numbers.{mostLabelBytes}
+use Rattle.base_lists.proofs.Cuts.{past-drop}
+use Rattle.base_lists.proofs.Bools.{byTest}
+use Rattle.base_lists.specs.Cuts.{upTo, past}
+use Rattle.base_lists.specs.Tests.{all}
+use Rattle.base_lists.specs.Numbers.{within}
+use Rattle.base_text.specs.Text.{onFirst, fields}
 use Rattle.urn_names.specs.Names.{labelByte, labelOk, nameOk}
-use Rattle.base_text.proofs.Fields.{byTest, past-drop, fields-more}
+use Rattle.base_text.proofs.Fields.{fields-more}
 use Rattle.urn_names.proofs.Runs.{other-byte, at-byte}
 
 -- what the form of a label says of its length and its bytes
-pub label-length : (l : List ℕ) → labelOk l ≡ true → (1 ≤ length l) × (length l ≤ 27)
+pub label-length : (l : List ℕ) → labelOk l ≡ true → (1 ≤ length l) × (length l ≤ mostLabelBytes)
 unfolding labelOk
 label-length l e =
-    let a = and-eq-true-iff (within 1 27 (length l)) (not (eqb (getD l 0 0) 45) && (not (eqb (getD l (length l - 1) 0) 45) && all labelByte l)) .0 e in
-    let b = and-eq-true-iff (leb 1 (length l)) (leb (length l) 27) .0 (a .0) in
-    (leb-true 1 (length l) (b .0), leb-true (length l) 27 (b .1))
+    let a = and-eq-true-iff (within 1 mostLabelBytes (length l)) (not (eqb (getD l 0 0) 45)
+    && (not (eqb (getD l (length l - 1) 0) 45) && all labelByte l)) .0 e in
+    let b = and-eq-true-iff (leb 1 (length l)) (leb (length l) mostLabelBytes) .0 (a .0) in
+    (leb-true 1 (length l) (b .0), leb-true (length l) mostLabelBytes (b .1))
 
 label-bytes : (l : List ℕ) → labelOk l ≡ true → all labelByte l ≡ true
 unfolding labelOk
 label-bytes l e =
-    let a = and-eq-true-iff (within 1 27 (length l)) (not (eqb (getD l 0 0) 45) && (not (eqb (getD l (length l - 1) 0) 45) && all labelByte l)) .0 e in
+    let a = and-eq-true-iff (within 1 mostLabelBytes (length l)) (not (eqb (getD l 0 0) 45)
+    && (not (eqb (getD l (length l - 1) 0) 45) && all labelByte l)) .0 e in
     let b = and-eq-true-iff (not (eqb (getD l 0 0) 45)) (not (eqb (getD l (length l - 1) 0) 45) && all labelByte l) .0 (a .1) in
     and-eq-true-iff (not (eqb (getD l (length l - 1) 0) 45)) (all labelByte l) .0 (b .1) .1
 
@@ -46,7 +53,13 @@ name-labels x e l m =
     ap labelOk i ∙ t)
     (λ t.
     let a = and-eq-true-iff (labelOk (upTo 64 x)) (labelOk (past 64 x)) .0 (rw t at e) in
-    let h : length (upTo 64 x) < length x = omega (arith, label-length (past 64 x) (a .1) .0, ap length (past-drop 64 x), length-drop (suc (length (upTo 64 x))) x) in
-    let f : fields 64 x ≡ upTo 64 x ∷ past 64 x ∷ [] = fields-more 64 x h ∙ ap (λ r. upTo 64 x ∷ r) (whole-label (past 64 x) (label-bytes (past 64 x) (a .1))) in
+    let h : length (upTo 64 x) < length x = omega (
+      arith,
+      label-length (past 64 x) (a .1) .0,
+      ap length (past-drop 64 x),
+      length-drop (suc (length (upTo 64 x))) x,
+    ) in
+    let f : fields 64 x ≡ upTo 64 x ∷ past 64 x ∷ [] = fields-more 64 x h
+    ∙ ap (λ r. upTo 64 x ∷ r) (whole-label (past 64 x) (label-bytes (past 64 x) (a .1))) in
     ⊎-elim (λ i. ap labelOk i ∙ a .0) (λ k. ap labelOk (List·Memᴰ·eq-of-singleton k) ∙ a .1)
     (List·Memᴰ·cases-cons (subst (λ (r : List (List ℕ)). List·Memᴰ l r) f m)))

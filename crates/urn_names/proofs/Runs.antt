@@ -10,44 +10,41 @@ use lib.ListN.{length, getD, take, drop}
 use lib.Seq.{drop-cons, drop-length, take-all, length-take-le, getD-take}
 use lib.Dec.{eqb, leb}
 use borrow.Author.Tests.{eq-eqb, ne-eqb, leb-true}
-use Rattle.base_ascii.specs.Ascii.{within}
-use Rattle.base_text.specs.Text.{all, upTo, past}
-use Rattle.urn_names.specs.Names.{labelByte, runBy, labelOk, nameOk, lengthBy}
-use Rattle.base_text.proofs.Fields.{byTest, upTo-take, past-drop, part-end}
+use Rattle.base_numbers.specs.Numbers.{mostLabelBytes}
+use Rattle.base_lists.proofs.Cuts.{upTo-take, past-drop, part-end, run-le}
+use Rattle.base_lists.proofs.Bools.{byTest}
+use Rattle.base_lists.specs.Cuts.{upTo, past, run}
+use Rattle.base_lists.specs.Tests.{all}
+use Rattle.base_lists.specs.Numbers.{within}
+use Rattle.urn_names.specs.Names.{labelByte, labelOk, nameOk, lengthBy}
 
 -- the run, one byte further
 module _ (p : ℕ → Bool) (s : List ℕ) (i : ℕ) where
-  pub run-more : {b : Bool} → i < length s → b ≡ p (getD s i 0) → b ≡ true → runBy p (drop i s) ≡ suc (runBy p (drop (i + 1) s))
-  unfolding runBy
+  pub run-more : {b : Bool} → i < length s → b ≡ p (getD s i 0) → b ≡ true → run p (drop i s) ≡ suc (run p (drop (i + 1) s))
+  unfolding run
   run-more h e t = rw (add-one, drop-cons s i 0, ← e, t)
 
-  pub run-stop : {b : Bool} → i < length s → b ≡ p (getD s i 0) → b ≡ false → runBy p (drop i s) ≡ 0
-  unfolding runBy
+  pub run-stop : {b : Bool} → i < length s → b ≡ p (getD s i 0) → b ≡ false → run p (drop i s) ≡ 0
+  unfolding run
   run-stop h e t = rw (drop-cons s i 0, ← e, t)
 
-  pub run-end : length s ≤ i → i ≤ length s → runBy p (drop i s) ≡ 0
-  unfolding runBy
+  pub run-end : length s ≤ i → i ≤ length s → run p (drop i s) ≡ 0
+  unfolding run
   run-end h k = let e : i ≡ length s = omega arith in rw (e, drop-length)
 
--- the run ends within the text
-pub run-le : (p : ℕ → Bool) (s : List ℕ) → runBy p s ≤ length s
-unfolding runBy
-run-le p [] = omega arith
-run-le p (x ∷ xs) = byTest (p x) (λ e. simp e (omega (arith, run-le p xs))) (λ e. simp e (omega arith))
-
 -- its bytes may stand in a label
-run-all : (s : List ℕ) → all labelByte (take (runBy labelByte s) s) ≡ true
-unfolding runBy all
+run-all : (s : List ℕ) → all labelByte (take (run labelByte s) s) ≡ true
+unfolding run all
 run-all [] = refl
 run-all (x ∷ xs) = byTest (labelByte x) (λ e. simp (e, run-all xs)) (λ e. simp e)
 
 -- a text that goes on after the run is no label
-run-short : (s : List ℕ) → runBy labelByte s < length s → all labelByte s ≡ false
-unfolding runBy all
+run-short : (s : List ℕ) → run labelByte s < length s → all labelByte s ≡ false
+unfolding run all
 run-short [] h = absurd (omega arith)
 run-short (x ∷ xs) h =
     byTest (labelByte x)
-    (λ e. let k : runBy labelByte xs < length xs = omega (arith, simp e at h) in simp (e, run-short xs k))
+    (λ e. let k : run labelByte xs < length xs = omega (arith, simp e at h) in simp (e, run-short xs k))
     (λ e. simp e)
 
 -- a byte that no label has is none of a label's
@@ -55,8 +52,8 @@ pub other-byte : (c x : ℕ) → labelByte c ≡ false → labelByte x ≡ true 
 other-byte c x n e = ne-eqb x c (λ q. false≢true (sym n ∙ ap labelByte (sym q) ∙ e))
 
 -- before a byte that no label has, or the end, the run is what stands up to that byte
-run-upTo-of : (c : ℕ) → labelByte c ≡ false → (s : List ℕ) → (runBy labelByte s < length s → getD s (runBy labelByte s) 0 ≡ c) → upTo c s ≡ take (runBy labelByte s) s
-unfolding runBy upTo
+run-upTo-of : (c : ℕ) → labelByte c ≡ false → (s : List ℕ) → (run labelByte s < length s → getD s (run labelByte s) 0 ≡ c) → upTo c s ≡ take (run labelByte s) s
+unfolding run upTo
 run-upTo-of c n [] h = refl
 run-upTo-of c n (x ∷ xs) h =
     byTest (labelByte x)
@@ -72,12 +69,12 @@ unfolding labelByte
 at-byte = refl
 
 -- before a colon or the end the run is what stands up to the colon
-pub run-upTo : (s : List ℕ) → (runBy labelByte s < length s → getD s (runBy labelByte s) 0 ≡ 58) → upTo 58 s ≡ take (runBy labelByte s) s
+pub run-upTo : (s : List ℕ) → (run labelByte s < length s → getD s (run labelByte s) 0 ≡ 58) → upTo 58 s ≡ take (run labelByte s) s
 run-upTo = run-upTo-of 58 colon-byte
 
 -- before another byte than `@` the text up to the first `@` is no label either
-run-other : (s : List ℕ) → runBy labelByte s < length s → (getD s (runBy labelByte s) 0 ≡ 64 → ⊥) → all labelByte (upTo 64 s) ≡ false
-unfolding runBy upTo all
+run-other : (s : List ℕ) → run labelByte s < length s → (getD s (run labelByte s) 0 ≡ 64 → ⊥) → all labelByte (upTo 64 s) ≡ false
+unfolding run upTo all
 run-other [] h k = absurd (omega arith)
 run-other (x ∷ xs) h k =
     byTest (labelByte x)
@@ -107,7 +104,7 @@ unfolding nameOk labelOk upTo past
 name-some [] h = absurd (false≢true h)
 name-some (x ∷ xs) h = omega arith
 
-module _ (s : List ℕ) (n : ℕ) (e : n ≡ runBy labelByte s) where
+module _ (s : List ℕ) (n : ℕ) (e : n ≡ run labelByte s) where
   pub run-fits : n ≤ length s
   run-fits = omega (arith, run-le labelByte s)
 
@@ -115,7 +112,7 @@ module _ (s : List ℕ) (n : ℕ) (e : n ≡ runBy labelByte s) where
   bytes-fit = rw e (run-all s)
 
   -- the run is a label by its length and its ends
-  pub run-label : labelOk (take n s) ≡ (within 1 27 n && (not (eqb (getD s 0 0) 45) && not (eqb (getD s (n - 1) 0) 45)))
+  pub run-label : labelOk (take n s) ≡ (within 1 mostLabelBytes n && (not (eqb (getD s 0 0) 45) && not (eqb (getD s (n - 1) 0) 45)))
   unfolding labelOk
   run-label =
       let l : length (take n s) ≡ n = length-take-le n s run-fits in

@@ -10,13 +10,17 @@ use lib.ListN.{length, getD, take, drop, length-drop, drop-of-length-le, take-ap
 use lib.Seq.{drop-cons, take-all}
 use lib.Dec.{leb}
 use borrow.Author.Tests.{eq-eqb, ne-eqb}
+use Rattle.base_lists.proofs.Cuts.{upTo-le, past-at, part-end}
+use Rattle.base_lists.proofs.Bools.{byTest}
+use Rattle.base_lists.specs.Cuts.{upTo, past}
+use Rattle.base_lists.specs.Tests.{all}
 use Rattle.theory_resolution.specs.Names.{sameName}
 use Rattle.theory_resolution.proofs.Names.{name-exact}
-use Rattle.base_text.specs.Text.{all, upTo, past, fields, lower}
+use Rattle.base_text.specs.Text.{fields, lower}
 use Rattle.urn_names.specs.Names.{nameOk, lengthBy}
 use Rattle.base_ascii.specs.Ascii.{bytes}
 use Rattle.urn_names.specs.Urn.{begins, namesBy, restOk, alertUrn}
-use Rattle.base_text.proofs.Fields.{byTest, upTo-le, past-at, part-end, fields-first, fields-more, fields-last}
+use Rattle.base_text.proofs.Fields.{fields-first, fields-more, fields-last}
 use Rattle.urn_names.proofs.Runs.{length-bad, length-good}
 
 -- `urn:alert:`, byte by byte
@@ -108,7 +112,8 @@ pub alert-other : (uri : List ℕ) {a : Bool} → a ≡ begins (bytes "urn:alert
 unfolding alertUrn
 alert-other uri e t = simp (sym e ∙ t)
 
-pub alert-rest : (uri s : List ℕ) {a b : Bool} → a ≡ begins (bytes "urn:alert:") uri → a ≡ true → s ≡ take (length uri) (drop 10 uri) → b ≡ restOk s → b ≡ alertUrn uri
+pub alert-rest : (uri s : List ℕ) {a b : Bool} → a ≡ begins (bytes "urn:alert:") uri → a ≡ true → s ≡ take (length uri) (drop 10 uri)
+    → b ≡ restOk s → b ≡ alertUrn uri
 unfolding alertUrn
 alert-rest uri s e t i f =
     f ∙ ap restOk (i ∙ take-all (length uri) (drop 10 uri) (simp length-drop (omega arith))) ∙ sym (simp (sym e ∙ t))

@@ -1,25 +1,22 @@
 -- Labels and names, as bytes.
-use Prim.Native.Nat.{ℕ, suc, _-_}
+use Prim.Native.Nat.{ℕ, _-_}
 use mathlib.Core.Bool.{Bool, cond, not, _&&_, _||_}
-use mathlib.Core.List.{List, [], _∷_}
+use mathlib.Core.List.{List}
 use lib.ListN.{length, getD}
 use lib.Dec.{eqb}
-use Rattle.base_ascii.specs.Ascii.{within}
-use Rattle.base_text.specs.Text.{all, upTo, past}
+use Rattle.base_numbers.specs.Numbers.{mostLabelBytes}
+use Rattle.base_lists.specs.Cuts.{upTo, past}
+use Rattle.base_lists.specs.Tests.{all}
+use Rattle.base_lists.specs.Numbers.{within}
 
 -- a letter, a digit or a hyphen: a to z, A to Z, 0 to 9, `-`
 unfoldable pub labelByte : ℕ → Bool
 labelByte b = within 97 122 b || (within 65 90 b || (within 48 57 b || eqb b 45))
 
--- how many bytes at the front pass the test
-unfoldable pub runBy : (ℕ → Bool) → List ℕ → ℕ
-runBy p [] = 0
-runBy p (x ∷ xs) = cond (p x) (suc (runBy p xs)) 0
-
 -- at least 1 and at most 27 letters, digits and hyphens; a hyphen stands at neither end
 unfoldable pub labelOk : List ℕ → Bool
 labelOk s =
-    within 1 27 (length s)
+    within 1 mostLabelBytes (length s)
     && (not (eqb (getD s 0 0) 45) && (not (eqb (getD s (length s - 1) 0) 45) && all labelByte s))
 
 -- a category or part: a label, or a label, `@` (64) and a label

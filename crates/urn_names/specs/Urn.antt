@@ -4,8 +4,12 @@ use mathlib.Core.Bool.{Bool, true, false, cond, not, _&&_}
 use mathlib.Core.List.{List, [], _∷_}
 use lib.ListN.{length, drop}
 use lib.Dec.{eqb, leb}
-use Rattle.base_ascii.specs.Ascii.{within, bytes}
-use Rattle.base_text.specs.Text.{all, upTo, past, fields, lower}
+use Rattle.base_numbers.specs.Numbers.{mostUrnNames}
+use Rattle.base_lists.specs.Cuts.{upTo, past}
+use Rattle.base_lists.specs.Tests.{all}
+use Rattle.base_lists.specs.Numbers.{within}
+use Rattle.base_ascii.specs.Ascii.{bytes}
+use Rattle.base_text.specs.Text.{fields, lower}
 use Rattle.urn_names.specs.Names.{labelByte, nameOk}
 
 -- no capital letter
@@ -36,7 +40,7 @@ storedName s = noCapital s && nameOk s
 
 -- a URN in a stored table, without `urn:alert:` : a category and 1 to 8 parts, without capital letters
 unfoldable pub urnOk : List ℕ → Bool
-urnOk s = noCapital s && (within 2 9 (length (fields 58 s)) && all nameOk (fields 58 s))
+urnOk s = noCapital s && (within 2 mostUrnNames (length (fields 58 s)) && all nameOk (fields 58 s))
 
 -- what stands before the first colon of a URN without `urn:alert:`
 abbrev pub categoryOf : List ℕ → List ℕ

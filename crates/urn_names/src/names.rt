@@ -1,19 +1,21 @@
 // Labels and names, as a URI may have them.
+use base_numbers::MOST_LABEL_BYTES;
 ghost use mathlib.Core.Path.{_≡_};
 ghost use lib.ListN.{take};
-ghost use Rattle.urn_names.specs.Names.{labelByte, runBy, labelOk, nameOk, lengthBy};
+ghost use Rattle.base_lists.specs.Cuts.{run};
+ghost use Rattle.urn_names.specs.Names.{labelByte, labelOk, nameOk, lengthBy};
 
 // A letter, a digit or a hyphen.
 pub(crate) fn label_byte(b: u8) -> bool
     ensures { λ r. ⌜ r ≡ labelByte b ⌝ }
 {
-    if base_text::compare::in_range(b, 97, 122) {
+    if base_bytes::numbers::in_range(b, 97, 122) {
         return true;
     }
-    if base_text::compare::in_range(b, 65, 90) {
+    if base_bytes::numbers::in_range(b, 65, 90) {
         return true;
     }
-    if base_text::compare::in_range(b, 48, 57) {
+    if base_bytes::numbers::in_range(b, 48, 57) {
         return true;
     }
     b == 45
@@ -21,7 +23,7 @@ pub(crate) fn label_byte(b: u8) -> bool
 
 // How many bytes at the front may stand in a label.
 pub(crate) fn label_run(s: &[u8]) -> usize
-    ensures { λ r. ⌜ r ≡ runBy labelByte (now (s .entry)) ⌝ }
+    ensures { λ r. ⌜ r ≡ run labelByte (now (s .entry)) ⌝ }
 {
     let mut i = 0;
     while i < s.len() {
@@ -36,13 +38,13 @@ pub(crate) fn label_run(s: &[u8]) -> usize
 
 // The n bytes at the front that may stand in a label are one: 1 to 27, no hyphen first or last.
 pub(crate) fn run_label(s: &[u8], n: usize) -> bool
-    requires { ⌜ n ≡ runBy labelByte (now s) ⌝ }
+    requires { ⌜ n ≡ run labelByte (now s) ⌝ }
     ensures { λ r. ⌜ r ≡ labelOk (take n (now (s .entry))) ⌝ }
 {
     if n < 1 {
         return false;
     }
-    if 27 < n {
+    if MOST_LABEL_BYTES < n {
         return false;
     }
     if s[0] == 45 {

@@ -1,17 +1,18 @@
 // Names as a table stores them, without capital letters: one look at each byte tells of form and letter case.
 ghost use mathlib.Core.Path.{_≡_};
 ghost use mathlib.Core.Bool.{_&&_};
-ghost use Rattle.urn_names.specs.Names.{runBy, labelOk, lengthBy};
+ghost use Rattle.base_lists.specs.Cuts.{run};
+ghost use Rattle.urn_names.specs.Names.{labelOk, lengthBy};
 ghost use Rattle.urn_names.specs.Urn.{noCapital, storedByte, storedName, namesBy};
 
 // A small letter, a digit or a hyphen.
 fn stored_byte(b: u8) -> bool
     ensures { λ r. ⌜ r ≡ storedByte b ⌝ }
 {
-    if base_text::compare::in_range(b, 97, 122) {
+    if base_bytes::numbers::in_range(b, 97, 122) {
         return true;
     }
-    if base_text::compare::in_range(b, 48, 57) {
+    if base_bytes::numbers::in_range(b, 48, 57) {
         return true;
     }
     b == 45
@@ -19,7 +20,7 @@ fn stored_byte(b: u8) -> bool
 
 // How many bytes at the front may stand in a label.
 fn stored_run(s: &[u8]) -> usize
-    ensures { λ r. ⌜ r ≡ runBy storedByte (now (s .entry)) ⌝ }
+    ensures { λ r. ⌜ r ≡ run storedByte (now (s .entry)) ⌝ }
 {
     let mut i = 0;
     while i < s.len() {

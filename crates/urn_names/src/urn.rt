@@ -1,4 +1,5 @@
 // Alert URNs in a value, without regard to letter case, and the forms that a table stores.
+use base_numbers::MOST_URN_NAMES;
 ghost use mathlib.Core.Path.{_≡_};
 ghost use Rattle.base_ascii.specs.Ascii.{bytes};
 ghost use Rattle.urn_names.specs.Names.{nameOk};
@@ -88,5 +89,5 @@ pub fn urn_formed(s: &[u8]) -> bool
     if n < 2 {
         return false;
     }
-    n <= 9
+    n <= MOST_URN_NAMES
 }

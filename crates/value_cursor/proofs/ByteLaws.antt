@@ -8,7 +8,8 @@ use Prim.Native.Nat.{ℕ, zero, suc, _<_}
 use native.Mathlib.Omega.{arith}
 use lib.Dec.{leb, ltb, eqb}
 use borrow.Author.Tests.{eqb-true, leb-true, ltb-true}
-use Rattle.base_ascii.specs.Ascii.{bytes, within}
+use Rattle.base_lists.specs.Numbers.{within}
+use Rattle.base_ascii.specs.Ascii.{bytes}
 use Rattle.value_cursor.specs.Bytes.{oneOf, isBlank, isUri, isToken, isText, isEscapable}
 use Rattle.value_cursor.specs.Claims.{ClassesOfBytes}
 

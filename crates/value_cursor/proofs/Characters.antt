@@ -1,8 +1,8 @@
 -- The byte rules agree with the bytes written out: one test, which antt computes over all bytes, and one law.
 -- Assumes nothing.
 use mathlib.Core.Path.{_≡_, refl, sym, ap, _∙_}
-use mathlib.Core.Logic.{_⊎_, ⊎-elim}
-use mathlib.Core.Bool.{Bool, true, false, _||_}
+use mathlib.Core.Logic.{⊎-elim}
+use mathlib.Core.Bool.{Bool, true, _||_, or-true}
 use mathlib.Core.List.{List, [], _∷_, List·Memᴰ, List·Memᴰ·head, List·Memᴰ·tail, List·Memᴰ·cases-cons, List·Memᴰ·not-nil}
 use Prim.Native.Nat.{ℕ, zero, suc, _<_}
 use native.Mathlib.Omega.{arith}
@@ -19,14 +19,10 @@ one-member [] b e = absurd (let z : _≡_ {A = ℕ} 0 1 = cc in omega arith)
 one-member (x ∷ l) b e =
     ⊎-elim (λ f. List·Memᴰ·head (eqb-true b x f)) (λ f. List·Memᴰ·tail (one-member l b f)) (either (eqb b x) (oneOf l b) e)
 
-or-right : (a : Bool) → (a || true) ≡ true
-or-right true = refl
-or-right false = refl
-
 member-one : (l : List ℕ) (b : ℕ) → List·Memᴰ b l → oneOf l b ≡ true
 member-one [] b m = absurd (List·Memᴰ·not-nil m)
 member-one (x ∷ l) b m =
-    ⊎-elim (λ e. ap (λ a. a || oneOf l b) (eq-eqb b x e)) (λ k. ap (λ a. eqb b x || a) (member-one l b k) ∙ or-right (eqb b x))
+    ⊎-elim (λ e. ap (λ a. a || oneOf l b) (eq-eqb b x e)) (λ k. ap (λ a. eqb b x || a) (member-one l b k) ∙ or-true (eqb b x))
     (List·Memᴰ·cases-cons m)
 
 -- of one byte the test and the list say the same

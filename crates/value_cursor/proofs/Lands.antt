@@ -2,14 +2,15 @@
 -- Assumes nothing.
 use mathlib.Core.Path.{_≡_, subst}
 use mathlib.Core.Bool.{Bool}
-use mathlib.Core.List.{List, [], _∷_}
-use Prim.Native.Nat.{ℕ, suc, _+_, _≤_, _<_, max}
+use mathlib.Core.List.{List}
+use Prim.Native.Nat.{ℕ, _+_, _≤_, _<_, max}
 use native.Mathlib.Omega.{arith}
 use lib.Dec.{eqb, leb}
 use lib.ListN.{length, getD, drop, length-drop}
 use borrow.Author.Tests.{eqb-true, eqb-false, leb-false}
+use Rattle.base_lists.proofs.Cuts.{run-le}
 use Rattle.value_cursor.specs.Bytes.{isToken, isUri, isText, isEscapable}
-use Rattle.value_cursor.specs.Walk.{run, runAt}
+use Rattle.value_cursor.specs.Walk.{runAt}
 use Rattle.value_cursor.specs.Walk.{halt, move}
 use Rattle.value_cursor.specs.Parts.{whiteAt, tokenAt, escapeByte, quoteAt, quoteMove, quotedStep}
 use Rattle.value_cursor.specs.Parts.{quotedFrom, quotedAt}
@@ -31,12 +32,6 @@ use Rattle.value_cursor.proofs.RunLaws.{peeked, by-test}
 use Rattle.value_cursor.proofs.WhiteLaws.{white-from}
 use Rattle.value_cursor.proofs.WalkLaws.{walk-ind}
 
-run-length : (p : ℕ → Bool) (l : List ℕ) → run p l ≤ length l
-unfolding run
-run-length p [] = omega arith
-run-length p (b ∷ l) = let h = run-length p l in by-test (λ (x : ℕ). x ≤ suc (length l)) (p b) _ _ (λ _. omega arith)
-    (λ _. omega arith)
-
 module _ (p : ℕ → Bool) (s : List ℕ) (at : ℕ) where
   pub run-from : at ≤ runAt p s at
   unfolding runAt
@@ -44,7 +39,7 @@ module _ (p : ℕ → Bool) (s : List ℕ) (at : ℕ) where
 
   pub run-to : runAt p s at ≤ max at (length s)
   unfolding runAt
-  run-to = omega (arith, run-length p (drop at s), length-drop at s)
+  run-to = omega (arith, run-le p (drop at s), length-drop at s)
 
 abbrev pub Inner : List ℕ → ℕ → ℕ → Type 0
 Inner s at n = (at < n) × (n ≤ length s)

@@ -9,7 +9,8 @@ use native.Mathlib.Numerals.{add-one}
 use native.Mathlib.Omega.{arith}
 use lib.ListN.{length, getD, drop-of-length-le}
 use lib.Seq.{drop-cons}
-use Rattle.value_cursor.specs.Walk.{run, runAt, fourAt}
+use Rattle.base_lists.specs.Cuts.{run}
+use Rattle.value_cursor.specs.Walk.{runAt, fourAt}
 
 module _ (p : ℕ → Bool) (s : List ℕ) (at : ℕ) where
   pub run-step : at < length s → p (getD s at 0) ≡ true → runAt p s at ≡ runAt p s (at + 1)

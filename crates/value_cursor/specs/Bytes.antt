@@ -6,7 +6,8 @@ use mathlib.Core.Bool.{Bool, false, not, _&&_, _||_}
 use mathlib.Core.List.{List, [], _∷_}
 use lib.Dec.{leb, eqb}
 use lib.ListN.{getD}
-use Rattle.base_ascii.specs.Ascii.{bytes, within}
+use Rattle.base_lists.specs.Numbers.{within}
+use Rattle.base_ascii.specs.Ascii.{bytes}
 
 -- one of some bytes
 abbrev pub oneOf : List ℕ → ℕ → Bool

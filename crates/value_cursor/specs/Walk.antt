@@ -1,14 +1,10 @@
 -- Going along a list: over a run of bytes of one kind, or in strides. Structural on the list, with no fuel.
 -- Assumes nothing.
 use Prim.Native.Nat.{ℕ, zero, suc, _+_, _-_}
-use mathlib.Core.Bool.{Bool, cond, _&&_}
+use mathlib.Core.Bool.{Bool, _&&_}
 use mathlib.Core.List.{List, [], _∷_}
 use lib.ListN.{getD, drop}
-
--- how many bytes at the front pass a test
-unfoldable pub run : (ℕ → Bool) → List ℕ → ℕ
-run p [] = 0
-run p (b ∷ l) = cond (p b) (suc (run p l)) 0
+use Rattle.base_lists.specs.Cuts.{run}
 
 -- the position after the run at a position
 unfoldable pub runAt : (ℕ → Bool) → List ℕ → ℕ → ℕ

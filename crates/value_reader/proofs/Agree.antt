@@ -8,6 +8,7 @@ use native.Mathlib.Omega.{arith}
 use lib.Dec.{ltb}
 use lib.ListN.{length, length-map}
 use borrow.Author.Tests.{ltb-true, ltb-false}
+use Rattle.base_numbers.specs.Numbers.{mostEntries, mostValueBytes}
 use Rattle.value_cursor.specs.Reading.{Reading, unfit, spans, readingOf}
 use Rattle.value_cursor.specs.declared.alert_param.Span.{Span}
 use Rattle.value_reader.specs.Value.{partOf, refusalOf}
@@ -43,24 +44,24 @@ misfit s = ((λ e us k. let a = complete s us k in never (readingOf s) (a .0) e 
 
 module _ (s : List ℕ) where
   -- the number that is given says what holds
-  few : length s ≤ 4096 → (ps : List Span) → readingOf s ≡ spans ps → (x : Bool) → ltb 64 (length ps) ≡ x
+  few : length s ≤ mostValueBytes → (ps : List Span) → readingOf s ≡ spans ps → (x : Bool) → ltb mostEntries (length ps) ≡ x
       → Given White s (refusalOf s)
   few short ps e true f =
-      let m = ltb-true 64 (length ps) f in
+      let m = ltb-true mostEntries (length ps) f in
       subst (Given White s) (sym (refusal-many s short (spans ps) e ps refl m))
       (short, map (partOf s) ps, sound s ps e, omega (arith, length-map ps (partOf s)))
   few short ps e false f =
-      let m = ltb-false 64 (length ps) f in
+      let m = ltb-false mostEntries (length ps) f in
       subst (Given White s) (sym (refusal-none s short (spans ps) e ps refl m))
       (short, map (partOf s) ps, sound s ps e, omega (arith, length-map ps (partOf s)))
 
-  fits : length s ≤ 4096 → (r : Reading) → readingOf s ≡ r → Given White s (refusalOf s)
+  fits : length s ≤ mostValueBytes → (r : Reading) → readingOf s ≡ r → Given White s (refusalOf s)
   fits short unfit e = subst (Given White s) (sym (refusal-unfit s short unfit e refl)) (short, misfit s .0 e)
-  fits short (spans ps) e = few short ps e (ltb 64 (length ps)) refl
+  fits short (spans ps) e = few short ps e (ltb mostEntries (length ps)) refl
 
-  holds : (x : Bool) → ltb 4096 (length s) ≡ x → Given White s (refusalOf s)
-  holds true f = let h = ltb-true 4096 (length s) f in subst (Given White s) (sym (refusal-long s h)) h
-  holds false f = fits (ltb-false 4096 (length s) f) (readingOf s) refl
+  holds : (x : Bool) → ltb mostValueBytes (length s) ≡ x → Given White s (refusalOf s)
+  holds true f = let h = ltb-true mostValueBytes (length s) f in subst (Given White s) (sym (refusal-long s h)) h
+  holds false f = fits (ltb-false mostValueBytes (length s) f) (readingOf s) refl
 
   -- where it holds, the number is given
   given : (n : ℕ) → Given White s n → refusalOf s ≡ n
@@ -77,10 +78,10 @@ module _ (s : List ℕ) where
   given (suc (suc (suc (suc n)))) h = absurd h
 
 pub refused-exactly : RefusedExactly
-refused-exactly s n = ((λ e. subst (Given White s) e (holds s (ltb 4096 (length s)) refl)), given s n)
+refused-exactly s n = ((λ e. subst (Given White s) e (holds s (ltb mostValueBytes (length s)) refl)), given s n)
 
 pub refusal-numbers : RefusalNumbers
-refusal-numbers s = go (refusalOf s) (holds s (ltb 4096 (length s)) refl)
+refusal-numbers s = go (refusalOf s) (holds s (ltb mostValueBytes (length s)) refl)
   where
     go : (n : ℕ) → Given White s n → n ≤ 3
     go zero g = omega arith
@@ -91,9 +92,9 @@ refusal-numbers s = go (refusalOf s) (holds s (ltb 4096 (length s)) refl)
 
 pub accepted-list : AcceptedList
 accepted-list s e =
-    let g = subst (Given White s) e (holds s (ltb 4096 (length s)) refl) in
+    let g = subst (Given White s) e (holds s (ltb mostValueBytes (length s)) refl) in
     let a = complete s (g .1) (g .2) in
-    let l : length (a .0) ≤ 64 = omega (arith, g .3, length-map (a .0) (partOf s), ap length (a .2)) in
+    let l : length (a .0) ≤ mostEntries = omega (arith, g .3, length-map (a .0) (partOf s), ap length (a .2)) in
     subst (Value White s) (sym (accepted-uris s (g .0) (readingOf s) refl (a .0) (a .1) l ∙ a .2)) (g .2)
 
 pub refused-list : RefusedList

@@ -11,8 +11,9 @@ use lib.Dec.{T, eqb}
 use lib.ListN.{length, getD, drop, take, length-drop, length-append}
 use lib.Seq.{drop-drop, drop-append-seam, take-append-seam, getD-drop}
 use borrow.Author.Tests.{eqb-true, ne-eqb}
+use Rattle.base_lists.specs.Cuts.{run}
 use Rattle.value_cursor.specs.Bytes.{isBlank, isUri, isToken, isText, isEscapable}
-use Rattle.value_cursor.specs.Walk.{run, runAt}
+use Rattle.value_cursor.specs.Walk.{runAt}
 use Rattle.value_cursor.specs.Parts.{blankAt, whiteAt, tokenAt, quoteAt, quotedFrom}
 use Rattle.value_cursor.specs.Parts.{settingAt, paramAt, followingAt, endingAt, spanTo, found}
 use Rattle.value_cursor.specs.Parts.{entryAt}

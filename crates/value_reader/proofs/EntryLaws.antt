@@ -10,6 +10,7 @@ use native.Mathlib.Omega.{arith}
 use lib.Dec.{ltb, eqb}
 use lib.ListN.{length, getD, length-map, List·getD-eq-default}
 use borrow.Author.Tests.{ltb-true, ltb-false, eqb-true, eqb-false, eq-eqb, ne-eqb, lt-ltb, le-ltb}
+use Rattle.base_numbers.specs.Numbers.{mostEntries, mostValueBytes}
 use Rattle.value_cursor.specs.Reading.{readingOf}
 use Rattle.value_cursor.specs.Pass.{nowhere}
 use Rattle.value_cursor.specs.declared.alert_param.Span.{Span}
@@ -25,17 +26,17 @@ use Rattle.value_reader.proofs.Complete.{complete-places}
 use Rattle.value_reader.proofs.Place.{starts-after}
 
 -- a value's list by the grammar is its list
-same-list : (s : List ℕ) (us : List (List ℕ)) → length s ≤ 4096 → Value White s us → length us ≤ 64
+same-list : (s : List ℕ) (us : List (List ℕ)) → length s ≤ mostValueBytes → Value White s us → length us ≤ mostEntries
     → (refusalOf s ≡ 0) × (urisOf s ≡ us)
 same-list s us short v few =
     let e = refused-exactly s 0 .1 (short, us, v, few) in (e, unique s (urisOf s) us (accepted-list s e) v)
 
 -- an accepted value's list by the grammar, with the limits
-its-list : (s : List ℕ) → refusalOf s ≡ 0 → (length s ≤ 4096) × Value White s (urisOf s) × (length (urisOf s) ≤ 64)
+its-list : (s : List ℕ) → refusalOf s ≡ 0 → (length s ≤ mostValueBytes) × Value White s (urisOf s) × (length (urisOf s) ≤ mostEntries)
 its-list s e =
     let g = refused-exactly s 0 .0 e in
     let v = accepted-list s e in
-    (g .0, v, subst (λ (us : List (List ℕ)). length us ≤ 64) (unique s (g .1) (urisOf s) (g .2) v) (g .3))
+    (g .0, v, subst (λ (us : List (List ℕ)). length us ≤ mostEntries) (unique s (g .1) (urisOf s) (g .2) v) (g .3))
 
 module _ (s : List ℕ) (k : ℕ) where
   -- a value with an entry is accepted
@@ -139,7 +140,7 @@ unfolding entriesOf entryOf spanOf
 places s k h =
     let l = its-list s (has-entry s k h) in
     let c = complete-places s (urisOf s) (l .1) in
-    let few : length (c .0) ≤ 64 = omega (arith, l .2, length-map (c .0) (partOf s), ap length (c .2)) in
+    let few : length (c .0) ≤ mostEntries = omega (arith, l .2, length-map (c .0) (partOf s), ap length (c .2)) in
     let p = c .3 k h in
     let q : 0 + length (p .0) ≡ length (p .0) = omega arith in (
       p .0,
@@ -155,7 +156,7 @@ unfolding spanOf
 one-place s k a b h before e =
     let l = its-list s (has-entry s k h) in
     let c = complete-places s (urisOf s) (l .1) in
-    let few : length (c .0) ≤ 64 = omega (arith, l .2, length-map (c .0) (partOf s), ap length (c .2)) in
+    let few : length (c .0) ≤ mostEntries = omega (arith, l .2, length-map (c .0) (partOf s), ap length (c .2)) in
     let q : 0 + length a ≡ length a = omega arith in
     ap (λ (ps : List Span). getD ps k nowhere .start) (accepted-spans s (l .0) (readingOf s) refl (c .0) (c .1) few)
     ∙ starts-after s before 0 (omega arith) b e (c .0) (sym (reading-start s) ∙ c .1) ∙ q

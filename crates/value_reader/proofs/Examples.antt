@@ -8,10 +8,12 @@ use Prim.Native.Nat.{ℕ, zero, suc}
 use native.Mathlib.Omega.{arith}
 use lib.Dec.{T}
 use lib.ListN.{replicate, length-replicate}
+use Rattle.base_lists.specs.Cuts.{run}
 use Rattle.base_ascii.specs.Ascii.{bytes}
 use Rattle.value_cursor.specs.Bytes.{isBlank, isEscapable, isText, isToken, isUri}
-use Rattle.value_cursor.specs.Parts.{blankAt, endingAt, endingStep, entryAt, followingAt, paramAt, quoteAt, quotedAt, quotedFrom, quotedStep, settingAt, tokenAt, whiteAt, whiteStep}
-use Rattle.value_cursor.specs.Walk.{run, runAt, walk, walkAt}
+use Rattle.value_cursor.specs.Parts.{blankAt, endingAt, endingStep, entryAt, followingAt, paramAt, quoteAt, quotedAt, quotedFrom, quotedStep}
+use Rattle.value_cursor.specs.Parts.{settingAt, tokenAt, whiteAt, whiteStep}
+use Rattle.value_cursor.specs.Walk.{runAt, walk, walkAt}
 use Rattle.value_cursor.specs.Reading.{readingFrom, readingOf, valueStep}
 use Rattle.value_reader.specs.Value.{refusalOf, spansOf, urisOf, entriesOf, entryRefusalOf}
 use Rattle.value_reader.specs.Grammar.{Any, Blanks, Value}
@@ -25,11 +27,13 @@ use Rattle.value_reader.proofs.Unfolded.{as-before}
 
 -- 64 entries are accepted, 65 are not
 accepted : refusalOf (entriesMore 63) ≡ 0
-unfolding isBlank isEscapable isText isToken isUri blankAt endingAt endingStep entryAt followingAt paramAt quoteAt quotedAt quotedFrom quotedStep settingAt tokenAt whiteAt whiteStep readingFrom readingOf refusalOf spansOf urisOf valueStep run runAt walk walkAt
+unfolding isBlank isEscapable isText isToken isUri blankAt endingAt endingStep entryAt followingAt paramAt quoteAt quotedAt quotedFrom
+    quotedStep settingAt tokenAt whiteAt whiteStep readingFrom readingOf refusalOf spansOf urisOf valueStep run runAt walk walkAt
 accepted = refl
 
 many : refusalOf (entriesMore 64) ≡ 3
-unfolding isBlank isEscapable isText isToken isUri blankAt endingAt endingStep entryAt followingAt paramAt quoteAt quotedAt quotedFrom quotedStep settingAt tokenAt whiteAt whiteStep readingFrom readingOf refusalOf spansOf urisOf valueStep run runAt walk walkAt
+unfolding isBlank isEscapable isText isToken isUri blankAt endingAt endingStep entryAt followingAt paramAt quoteAt quotedAt quotedFrom
+    quotedStep settingAt tokenAt whiteAt whiteStep readingFrom readingOf refusalOf spansOf urisOf valueStep run runAt walk walkAt
 many = refl
 
 empty : refusalOf [] ≡ 2
@@ -38,11 +42,13 @@ empty = refl
 
 -- one entry: number 0 is there, number 1 is not
 first : entryRefusalOf (bytes "<a>") 0 ≡ 0
-unfolding isBlank isEscapable isText isToken isUri blankAt endingAt endingStep entryAt followingAt paramAt quoteAt quotedAt quotedFrom quotedStep settingAt tokenAt whiteAt whiteStep readingFrom readingOf refusalOf spansOf urisOf valueStep run runAt walk walkAt entriesOf entryRefusalOf
+unfolding isBlank isEscapable isText isToken isUri blankAt endingAt endingStep entryAt followingAt paramAt quoteAt quotedAt quotedFrom
+    quotedStep settingAt tokenAt whiteAt whiteStep readingFrom readingOf refusalOf spansOf urisOf valueStep run runAt walk walkAt entriesOf entryRefusalOf
 first = refl
 
 second : entryRefusalOf (bytes "<a>") 1 ≡ 18
-unfolding isBlank isEscapable isText isToken isUri blankAt endingAt endingStep entryAt followingAt paramAt quoteAt quotedAt quotedFrom quotedStep settingAt tokenAt whiteAt whiteStep readingFrom readingOf refusalOf spansOf urisOf valueStep run runAt walk walkAt entriesOf entryRefusalOf
+unfolding isBlank isEscapable isText isToken isUri blankAt endingAt endingStep entryAt followingAt paramAt quoteAt quotedAt quotedFrom
+    quotedStep settingAt tokenAt whiteAt whiteStep readingFrom readingOf refusalOf spansOf urisOf valueStep run runAt walk walkAt entriesOf entryRefusalOf
 second = refl
 
 pub each-number : EachNumber
@@ -75,7 +81,8 @@ one-line = any-every notCr onOneLine refl
 
 -- the value is accepted, and these are its URIs
 line-read : (refusalOf onOneLine ≡ 0) × (urisOf onOneLine ≡ bytes "urn:a" ∷ bytes "http://b/?c" ∷ [])
-unfolding isBlank isEscapable isText isToken isUri blankAt endingAt endingStep entryAt followingAt paramAt quoteAt quotedAt quotedFrom quotedStep settingAt tokenAt whiteAt whiteStep readingFrom readingOf refusalOf spansOf urisOf valueStep run runAt walk walkAt
+unfolding isBlank isEscapable isText isToken isUri blankAt endingAt endingStep entryAt followingAt paramAt quoteAt quotedAt quotedFrom
+    quotedStep settingAt tokenAt whiteAt whiteStep readingFrom readingOf refusalOf spansOf urisOf valueStep run runAt walk walkAt
 line-read = (refl, refl)
 
 line-accepted : Value Blanks onOneLine (bytes "urn:a" ∷ bytes "http://b/?c" ∷ [])

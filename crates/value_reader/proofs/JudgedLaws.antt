@@ -7,6 +7,7 @@ use Prim.Native.Nat.{ℕ, _+_, _-_, _≤_, _<_}
 use native.Mathlib.Omega.{arith}
 use lib.ListN.{length, drop, take}
 use borrow.Author.Tests.{eq-eqb, ne-eqb, lt-ltb, le-ltb}
+use Rattle.base_numbers.specs.Numbers.{mostEntries, mostValueBytes}
 use Rattle.value_cursor.specs.Reading.{Reading, unfit, spans, readingOf}
 use Rattle.value_cursor.specs.Pass.{nowhere, noteAll, summary, blank, scanOf}
 use Rattle.value_cursor.specs.declared.alert_param.Span.{Span}
@@ -30,26 +31,26 @@ module _ (s : List ℕ) (k : ℕ) where
       let z : refusalOf s ≡ 0 → ⊥ = λ i. omega arith in
       e ∙ simp (refused-spans s z, q)
 
-  pub judged-long : (r : Judged) → r ≡ refusedWith 1 → 4096 < length s → r ≡ judgedOf s k
+  pub judged-long : (r : Judged) → r ≡ refusedWith 1 → mostValueBytes < length s → r ≡ judgedOf s k
   judged-long r e h = refused-is 1 r e (refusal-long s h) (omega arith)
 
-  module _ (short : length s ≤ 4096) where
+  module _ (short : length s ≤ mostValueBytes) where
     misfit : (r : Reading) → readingOf s ≡ r → summary k blank r .fits ≡ false → refusalOf s ≡ 2
     misfit unfit e f = refusal-unfit s short unfit e refl
     misfit (spans ps) e f = absurd (let g = all-fits k blank ps in let z : true ≡ false = sym g
         ∙ f in let y : _≡_ {A = ℕ} 0 1 = cc in omega arith)
 
-    many : (r : Reading) → readingOf s ≡ r → summary k blank r .fits ≡ true → 64 < summary k blank r .entries
+    many : (r : Reading) → readingOf s ≡ r → summary k blank r .fits ≡ true → mostEntries < summary k blank r .entries
         → refusalOf s ≡ 3
     many unfit e f h = absurd (let z : false ≡ true = f in let y : _≡_ {A = ℕ} 0 1 = cc in omega arith)
     many (spans ps) e f h = refusal-many s short (spans ps) e ps refl (omega (arith, all-entries k blank ps))
 
-    fine : (r : Reading) → readingOf s ≡ r → summary k blank r .fits ≡ true → summary k blank r .entries ≤ 64
+    fine : (r : Reading) → readingOf s ≡ r → summary k blank r .fits ≡ true → summary k blank r .entries ≤ mostEntries
         → record { refusal = 0; entries = summary k blank r .entries; span = summary k blank r .span } ≡ judgedOf s k
     unfolding judgedOf spanOf
     fine unfit e f h = absurd (let z : false ≡ true = f in let y : _≡_ {A = ℕ} 0 1 = cc in omega arith)
     fine (spans ps) e f h =
-        let g : length ps ≤ 64 = omega (arith, all-entries k blank ps) in
+        let g : length ps ≤ mostEntries = omega (arith, all-entries k blank ps) in
         let z = refusal-none s short (spans ps) e ps refl g in
         let y = accepted-spans s short (spans ps) e ps refl g in
         let n : noteAll k blank ps .entries ≡ length ps = omega (arith, all-entries k blank ps) in
@@ -65,18 +66,18 @@ module _ (s : List ℕ) (k : ℕ) where
       pub judged-misfit : (r : Judged) → r ≡ refusedWith 2 → t .fits ≡ false → r ≡ judgedOf s k
       judged-misfit r e f = refused-is 2 r e (misfit (readingOf s) refl (fits-is false f)) (omega arith)
 
-      pub judged-many : (r : Judged) → r ≡ refusedWith 3 → t .fits ≡ true → 64 < t .entries → r ≡ judgedOf s k
+      pub judged-many : (r : Judged) → r ≡ refusedWith 3 → t .fits ≡ true → mostEntries < t .entries → r ≡ judgedOf s k
       unfolding scanOf
       judged-many r e f h =
-          refused-is 3 r e (many (readingOf s) refl (fits-is true f) (subst (λ (x : Scan). 64 < x .entries) is h))
+          refused-is 3 r e (many (readingOf s) refl (fits-is true f) (subst (λ (x : Scan). mostEntries < x .entries) is h))
           (omega arith)
 
-      pub judged-fine : t .fits ≡ true → t .entries ≤ 64
+      pub judged-fine : t .fits ≡ true → t .entries ≤ mostEntries
           → record { refusal = 0; entries = t .entries; span = t .span } ≡ judgedOf s k
       unfolding scanOf
       judged-fine f h =
           ap (λ (x : Scan). record { refusal = 0; entries = x .entries; span = x .span }) is
-          ∙ fine (readingOf s) refl (fits-is true f) (subst (λ (x : Scan). x .entries ≤ 64) is h)
+          ∙ fine (readingOf s) refl (fits-is true f) (subst (λ (x : Scan). x .entries ≤ mostEntries) is h)
 
   -- what the public functions take from the whole answer
   module _ (j : Judged) (is : j ≡ judgedOf s k) where

@@ -11,8 +11,10 @@ use lib.Dec.{T, eqb, leb}
 use lib.ListN.{length, getD, drop, take, take-append-drop, drop-of-length-le}
 use lib.Seq.{drop-cons, drop-drop}
 use borrow.Author.Tests.{eqb-true, eqb-false, leb-true, leb-false}
+use Rattle.base_lists.proofs.Bools.{is-true}
+use Rattle.base_lists.specs.Cuts.{run}
 use Rattle.value_cursor.specs.Bytes.{isBlank, isUri, isToken, isText, isEscapable}
-use Rattle.value_cursor.specs.Walk.{run, runAt}
+use Rattle.value_cursor.specs.Walk.{runAt}
 use Rattle.value_cursor.specs.Walk.{halt, move}
 use Rattle.value_cursor.specs.Parts.{foldAt, blankAt, blankMove, whiteStep, whiteAt, tokenAt, escapeByte}
 use Rattle.value_cursor.specs.Parts.{quoteAt, quoteMove}
@@ -40,9 +42,6 @@ use Rattle.value_cursor.proofs.ReadingLaws.{value-ok}
 use Rattle.value_reader.specs.Value.{partOf}
 use Rattle.value_reader.specs.Grammar.{Any, Some, White, Token, Uri, Text, Setting, Param, Params, Entry, Value}
 use Rattle.value_reader.specs.Grammar as G
-
-is-true : (b : Bool) → b ≡ true → T b
-is-true b e = subst T (sym e) tt
 
 -- the list from a position is some bytes of a kind, and then the list from another position
 abbrev pub Reads : (List ℕ → Type 0) → List ℕ → ℕ → ℕ → Type 0

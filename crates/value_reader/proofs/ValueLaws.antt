@@ -8,6 +8,7 @@ use native.Mathlib.Omega.{arith}
 use lib.Dec.{eqb}
 use lib.ListN.{length, getD, length-map, List·getD-map}
 use borrow.Author.Tests.{ne-eqb, lt-ltb, le-ltb}
+use Rattle.base_numbers.specs.Numbers.{mostEntries, mostValueBytes}
 use Rattle.value_cursor.specs.Reading.{Reading, unfit, spans, readingFrom, readingOf}
 use Rattle.value_cursor.specs.Pass.{nowhere}
 use Rattle.value_cursor.specs.declared.alert_param.Span.{Span}
@@ -18,7 +19,7 @@ use Rattle.value_reader.specs.Value.{entryOf, spanOf}
 
 -- the answers, from the value's length and its reading
 module _ (s : List ℕ) where
-  pub refusal-long : 4096 < length s → refusalOf s ≡ 1
+  pub refusal-long : mostValueBytes < length s → refusalOf s ≡ 1
   unfolding refusalOf
   refusal-long h = simp (lt-ltb _ _ h)
 
@@ -30,21 +31,21 @@ module _ (s : List ℕ) where
   unfolding urisOf
   refused-uris n = ap (map (partOf s)) (refused-spans n)
 
-  module _ (short : length s ≤ 4096) (r : Reading) (is : readingOf s ≡ r) where
+  module _ (short : length s ≤ mostValueBytes) (r : Reading) (is : readingOf s ≡ r) where
     pub refusal-short : refusalOf s ≡ readingRefusal r
     unfolding refusalOf
-    refusal-short = simp (le-ltb 4096 (length s) short) (ap readingRefusal is)
+    refusal-short = simp (le-ltb mostValueBytes (length s) short) (ap readingRefusal is)
 
     pub refusal-unfit : r ≡ unfit → refusalOf s ≡ 2
     refusal-unfit e = refusal-short ∙ ap readingRefusal e
 
     module _ (ps : List Span) (read : r ≡ spans ps) where
-      pub refusal-many : 64 < length ps → refusalOf s ≡ 3
-      refusal-many h = refusal-short ∙ ap readingRefusal read ∙ simp (lt-ltb 64 (length ps) h)
+      pub refusal-many : mostEntries < length ps → refusalOf s ≡ 3
+      refusal-many h = refusal-short ∙ ap readingRefusal read ∙ simp (lt-ltb mostEntries (length ps) h)
 
-      module _ (few : length ps ≤ 64) where
+      module _ (few : length ps ≤ mostEntries) where
         pub refusal-none : refusalOf s ≡ 0
-        refusal-none = refusal-short ∙ ap readingRefusal read ∙ simp (le-ltb 64 (length ps) few)
+        refusal-none = refusal-short ∙ ap readingRefusal read ∙ simp (le-ltb mostEntries (length ps) few)
 
         pub accepted-spans : spansOf s ≡ ps
         unfolding spansOf

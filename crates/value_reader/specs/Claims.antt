@@ -10,6 +10,7 @@ use Prim.Native.Nat.{ℕ, zero, suc, _≤_, _<_}
 use Prim.Native.Char.{code}
 use lib.Dec.{eqb}
 use lib.ListN.{length}
+use Rattle.base_numbers.specs.Numbers.{mostEntries, mostValueBytes}
 use Rattle.value_cursor.specs.Reading.{unfit, spans, readingOf}
 use Rattle.value_cursor.specs.Pass.{nowhere}
 use Rattle.value_cursor.specs.declared.alert_param.Span.{Span}
@@ -32,10 +33,10 @@ UnfitIsNoValue = (s : List ℕ) → readingOf s ≡ unfit ↔ ((us : List (List 
 
 -- what each refusal number of a value says, in the words of the grammar over white space W and the limits; 0 is accepted
 abbrev pub Given : (List ℕ → Type 0) → List ℕ → ℕ → Type 0
-Given W s zero = (length s ≤ 4096) × (us : List (List ℕ)) × Value W s us × (length us ≤ 64)
-Given W s (suc zero) = 4096 < length s
-Given W s (suc (suc zero)) = (length s ≤ 4096) × ((us : List (List ℕ)) → Value W s us → ⊥)
-Given W s (suc (suc (suc zero))) = (length s ≤ 4096) × (us : List (List ℕ)) × Value W s us × (64 < length us)
+Given W s zero = (length s ≤ mostValueBytes) × (us : List (List ℕ)) × Value W s us × (length us ≤ mostEntries)
+Given W s (suc zero) = mostValueBytes < length s
+Given W s (suc (suc zero)) = (length s ≤ mostValueBytes) × ((us : List (List ℕ)) → Value W s us → ⊥)
+Given W s (suc (suc (suc zero))) = (length s ≤ mostValueBytes) × (us : List (List ℕ)) × Value W s us × (mostEntries < length us)
 Given W s (suc (suc (suc (suc n)))) = ⊥
 
 -- a number is the value's exactly if what it says holds
@@ -63,9 +64,9 @@ RefusedList = (s : List ℕ) → (refusalOf s ≡ 0 → ⊥) → urisOf s ≡ []
 -- what each refusal number of entry k says: 0, the value is accepted and has an entry k; 1 to 3, the value has that
 -- number; 18, the value is accepted and has no entry k
 pub data EntryGiven (W : List ℕ → Type 0) (s : List ℕ) (k : ℕ) : ℕ → Type 0 where
-  there : {us : List (List ℕ)} → length s ≤ 4096 → Value W s us → length us ≤ 64 → k < length us → EntryGiven W s k 0
+  there : {us : List (List ℕ)} → length s ≤ mostValueBytes → Value W s us → length us ≤ mostEntries → k < length us → EntryGiven W s k 0
   refused : {n : ℕ} → Given W s (suc n) → EntryGiven W s k (suc n)
-  missing : {us : List (List ℕ)} → length s ≤ 4096 → Value W s us → length us ≤ 64 → length us ≤ k
+  missing : {us : List (List ℕ)} → length s ≤ mostValueBytes → Value W s us → length us ≤ mostEntries → length us ≤ k
       → EntryGiven W s k 18
 
 -- a number is entry k's exactly if what it says holds

@@ -5,18 +5,19 @@ use mathlib.Core.Bool.{cond}
 use mathlib.Core.List.{List, [], map}
 use lib.ListN.{length, getD, drop, take}
 use lib.Dec.{ltb, eqb}
+use Rattle.base_numbers.specs.Numbers.{mostEntries, mostValueBytes, noEntry, valueMisfit, valueTooLong}
 use Rattle.value_cursor.specs.Reading.{Reading, unfit, spans, readingOf}
 use Rattle.value_cursor.specs.Pass.{nowhere}
 use Rattle.value_cursor.specs.declared.alert_param.Span.{Span}
 
 -- 2: the value does not fit; 3: over 64 entries; 0: neither
 abbrev pub readingRefusal : Reading → ℕ
-readingRefusal unfit = 2
-readingRefusal (spans ps) = cond (ltb 64 (length ps)) 3 0
+readingRefusal unfit = valueMisfit
+readingRefusal (spans ps) = cond (ltb mostEntries (length ps)) 3 0
 
 -- the refusal number of a value: 1 over 4,096 bytes, then as above
 unfoldable pub refusalOf : List ℕ → ℕ
-refusalOf s = cond (ltb 4096 (length s)) 1 (readingRefusal (readingOf s))
+refusalOf s = cond (ltb mostValueBytes (length s)) valueTooLong (readingRefusal (readingOf s))
 
 abbrev pub spansIn : Reading → List Span
 spansIn unfit = []
@@ -48,4 +49,4 @@ spanOf s k = getD (spansOf s) k nowhere
 
 -- the refusal number of entry k: the value's, 18 if there is no entry k, else 0
 unfoldable pub entryRefusalOf : List ℕ → ℕ → ℕ
-entryRefusalOf s k = cond (eqb (refusalOf s) 0) (cond (ltb k (entriesOf s)) 0 18) (refusalOf s)
+entryRefusalOf s k = cond (eqb (refusalOf s) 0) (cond (ltb k (entriesOf s)) 0 noEntry) (refusalOf s)

@@ -10,6 +10,7 @@ mod c;
 mod value;
 
 use crate::value::judge;
+use base_numbers::NO_ENTRY;
 ghost use mathlib.Core.Path.{_≡_};
 ghost use Prim.Native.Nat.{_+_};
 ghost use Rattle.value_reader.specs.Value.{refusalOf, entriesOf, entryOf, spanOf, entryRefusalOf};
@@ -50,5 +51,5 @@ pub fn entry_refusal(v: &[u8], k: usize) -> u8
     if j.refusal != 0 {
         return j.refusal;
     }
-    if k < j.entries { 0 } else { 18 }
+    if k < j.entries { 0 } else { NO_ENTRY }
 }

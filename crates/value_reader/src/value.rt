@@ -1,4 +1,9 @@
 // What is answered about a value.
+use base_numbers::MOST_ENTRIES;
+use base_numbers::MOST_VALUE_BYTES;
+use base_numbers::TOO_MANY_ENTRIES;
+use base_numbers::VALUE_MISFIT;
+use base_numbers::VALUE_TOO_LONG;
 use value_cursor::Span;
 use value_cursor::scan_value;
 ghost use mathlib.Core.Path.{_≡_};
@@ -26,15 +31,15 @@ fn refused(number: u8) -> Judged
 pub(crate) fn judge(v: &[u8], k: usize) -> Judged
     ensures { λ r. ⌜ r ≡ judgedOf (now (v .entry)) k ⌝ }
 {
-    if 4096 < v.len() {
-        return refused(1);
+    if MOST_VALUE_BYTES < v.len() {
+        return refused(VALUE_TOO_LONG);
     }
     let t = scan_value(v, k);
     if !t.fits {
-        return refused(2);
+        return refused(VALUE_MISFIT);
     }
-    if 64 < t.entries {
-        return refused(3);
+    if MOST_ENTRIES < t.entries {
+        return refused(TOO_MANY_ENTRIES);
     }
     let span = t.span;
     Judged {

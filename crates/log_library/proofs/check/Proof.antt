@@ -19,13 +19,19 @@ judge-requires : tie.Need-judge-requires
 judge-requires c κs = c .before .before .before .before .decode .ensures
 
 returns-2 : tie.Need-returns-2
-returns-2 c = decoded-log _ _ _ (c .before .before .before .before .before .decode .ensures) (c .before .before .before .if1 .left) (c .before .before .is-log .ensures) (c .before .if2 .taken) (c .judge .ensures)
+returns-2 c =
+    let b = c .before .before .before in let if1 = b .if1 in
+    let decode = b .before .before .decode in
+    decoded-log _ _ _ (decode .ensures) (if1 .left) (c .before .before .is-log .ensures) (c .before .if2 .taken) (c .judge .ensures)
 
 without-call-requires-2 : tie.Need-without-call-requires-2
 without-call-requires-2 c κs = search needs
 
 returns-3 : tie.Need-returns-3
-returns-3 c = decoded-log _ _ _ (c .before .before .before .before .before .decode .ensures) (c .before .before .before .if1 .left) (c .before .before .is-log .ensures) (c .before .if2 .left) (c .without-call2 .ensures)
+returns-3 c =
+    let b = c .before .before .before in let if1 = b .if1 in
+    let decode = b .before .before .decode in
+    decoded-log _ _ _ (decode .ensures) (if1 .left) (c .before .before .is-log .ensures) (c .before .if2 .left) (c .without-call2 .ensures)
 
 pub check-spec : {M : Type 1} → statement M
 check-spec =

@@ -3,6 +3,7 @@ use mathlib.Core.Path.{_≡_}
 use native.Mathlib.Omega.{arith}
 use lib.ListN.{length}
 use lib.Dec.{eqb}
+use Rattle.base_numbers.specs.Numbers.{mostLogBytes}
 use Rattle.log_library.specs.Log.{endFrom, isLog}
 use Rattle.log_library.proofs.ReadLaws.{log-long, log-start, log-on, log-cut, log-end}
 use borrow.Author.Needs.{needs}
@@ -10,7 +11,7 @@ use Rattle.log_library.proofs.is_log.Statement.{statement}
 use Rattle.log_library.proofs.is_log.Tie as tie
 
 abbrev Inv-loop : tie.InvT-loop
-Inv-loop log n left₀ at₀ left at = (isLog log ≡ eqb (endFrom log at left) (length log)) × (at ≤ 32768)
+Inv-loop log n left₀ at₀ left at = (isLog log ≡ eqb (endFrom log at left) (length log)) × (at ≤ mostLogBytes)
 
 abbrev μ-loop : tie.MeasureT-loop
 μ-loop log n left₀ at₀ left at = left
@@ -37,7 +38,11 @@ add-next : tie.Need-add-next Inv-loop μ-loop
 add-next c = omega (arith, c .before .before .loop .inv .1, c .word2 .ensures .1)
 
 returns-2 : tie.Need-returns-2 Inv-loop μ-loop
-returns-2 c = log-cut (c .before .before .before .before .before .before .before .args .log .now) (c .before .before .before .loop .left) (c .before .before .before .loop .at) (c .before .before .before .loop .inv .0) (c .before .before .before .loop .left - 1) (omega (arith, c .before .before .loop-test .taken)) (c .before .word2 .ensures .0) (omega (arith, c .if2 .taken))
+returns-2 c =
+    let at = c .before .before .before .loop .at in let inv = c .before .before .before .loop .inv in
+    let left = c .before .before .before .loop .left in
+    let log = c .before .before .before .before .before .before .before .args .log .now in
+    log-cut log left at (inv .0) (left - 1) (omega (arith, c .before .before .loop-test .taken)) (c .before .word2 .ensures .0) (omega (arith, c .if2 .taken))
 
 sub-left : tie.Need-sub-left Inv-loop μ-loop
 sub-left c = search needs
@@ -46,10 +51,18 @@ loop-less : tie.Need-loop-less Inv-loop μ-loop
 loop-less c = omega (arith, c .before .before .loop-test .taken)
 
 loop-again : tie.Need-loop-again Inv-loop μ-loop
-loop-again c = (log-on (c .before .before .before .before .before .before .before .args .log .now) (c .before .before .before .loop .left) (c .before .before .before .loop .at) (c .before .before .before .loop .inv .0) (c .before .before .before .loop .left - 1) (omega (arith, c .before .before .loop-test .taken)) (c .before .word2 .ensures .0), omega (arith, c .if2 .left, c .before .before .before .before .before .if1 .left))
+loop-again c =
+    let at = c .before .before .before .loop .at in let inv = c .before .before .before .loop .inv in
+    let left = c .before .before .before .loop .left in let if1 = c .before .before .before .before .before .if1 .left in
+    let log = c .before .before .before .before .before .before .before .args .log .now in (
+      log-on log left at (inv .0) (left - 1) (omega (arith, c .before .before .loop-test .taken)) (c .before .word2 .ensures .0),
+      omega (arith, c .if2 .left, if1),
+    )
 
 returns-3 : tie.Need-returns-3 Inv-loop μ-loop
-returns-3 c = log-end (c .before .before .before .before .before .args .log .now) (c .before .loop .left) (c .before .loop .at) (c .before .loop .inv .0) (omega (arith, c .loop-test .left))
+returns-3 c =
+    let log = c .before .before .before .before .before .args .log .now in
+    log-end log (c .before .loop .left) (c .before .loop .at) (c .before .loop .inv .0) (omega (arith, c .loop-test .left))
 
 pub is-log-spec : {M : Type 1} → statement M
 is-log-spec =

@@ -16,7 +16,10 @@ byte-requires-2 : tie.Need-byte-requires-2
 byte-requires-2 c κs = search needs
 
 returns-2 : tie.Need-returns-2
-returns-2 c = said-used _ _ _ _ (c .before .before .before .before .before .byte .ensures) (c .before .before .before .if1 .left) (c .before .before .byte2 .ensures) (c .if2 .taken)
+returns-2 c =
+    let b = c .before .before .before in let if1 = b .if1 in
+    let byte = b .before .before .byte in
+    said-used _ _ _ _ (byte .ensures) (if1 .left) (c .before .before .byte2 .ensures) (c .if2 .taken)
 
 add-byte-2 : tie.Need-add-byte-2
 add-byte-2 c = search needs
@@ -25,7 +28,11 @@ byte-requires-3 : tie.Need-byte-requires-3
 byte-requires-3 c κs = search needs
 
 returns-3 : tie.Need-returns-3
-returns-3 c = said-last _ _ _ _ (c .before .before .before .before .before .before .before .byte .ensures) (c .before .before .before .before .before .if1 .left) (c .before .before .before .before .byte2 .ensures) (c .before .before .if2 .left) (c .before .byte3 .ensures)
+returns-3 c =
+    let b = c .before .before .before .before in let byte2 = b .byte2 in
+    let if1 = b .before .if1 in
+    let byte = b .before .before .before .byte in
+    said-last _ _ _ _ (byte .ensures) (if1 .left) (byte2 .ensures) (c .before .before .if2 .left) (c .before .byte3 .ensures)
 
 pub says-spec : {M : Type 1} → statement M
 says-spec =

@@ -19,10 +19,15 @@ same-length : tie.Need-same-length
 same-length c = search needs
 
 returns : tie.Need-returns
-returns c = let a = c .before .before .before .before .before .before .before .args in
-    let next = nextState (a .rows .now) (a .parents .now) (a .inner .now) (a .signals) (a .symbols .now) in (
-      c .before .before .write-image .ensures .0 ∙ ap₂ (λ k n. builtBy next k n (length (a .buf .now))) (c .before .before .before .before .before .at-most .ensures .0) (c .before .before .before .before .at-most2 .ensures .0),
-      c .before .before .write-image .ensures .1 ∙ ap₂ (λ k n. bufferBy next k n (a .symbols .now) (length (a .buf .now))) (c .before .before .before .before .before .at-most .ensures .0) (c .before .before .before .before .at-most2 .ensures .0),
+returns c =
+    let b = c .before .before in let write-image = b .write-image in
+    let b2 = b .before .before in let at-most2 = b2 .at-most2 in
+    let at-most = b2 .before .at-most in
+    let a = b2 .before .before .before .args in
+    let symbols = a .symbols .now in let buf = a .buf .now in
+    let next = nextState (a .rows .now) (a .parents .now) (a .inner .now) (a .signals) symbols in (
+      write-image .ensures .0 ∙ ap₂ (λ k n. builtBy next k n (length buf)) (at-most .ensures .0) (at-most2 .ensures .0),
+      write-image .ensures .1 ∙ ap₂ (λ k n. bufferBy next k n symbols (length buf)) (at-most .ensures .0) (at-most2 .ensures .0),
     )
 
 pub build-by-spec : {M : Type 1} → statement M

@@ -3,16 +3,17 @@ use mathlib.Core.List.{List, [], _∷_, _++_, append-assoc}
 use Prim.Native.Nat.{ℕ, _+_, _-_, _*_, _/_, _%_, _≤_}
 use native.Mathlib.Omega.{arith}
 use lib.ListN.{length, set, getD, length-set, length-append}
-use Rattle.theory_resolution.specs.Lists.{tabulate}
-use Rattle.theory_resolution.proofs.Lists.{tabulate-length}
+use Rattle.base_lists.proofs.Over.{over-tabulate, over-one, over-set, over-all}
+use Rattle.base_lists.proofs.Tabulated.{tabulate-length}
+use Rattle.base_lists.specs.Lists.{tabulate, over}
 use Rattle.machine_build.specs.States.{symbolByte}
-use Rattle.machine_build.proofs.Over.{over, over-tabulate, over-one, over-set, over-all}
 use borrow.Author.Needs.{needs}
 use Rattle.machine_build.proofs.put_head.Statement.{statement}
 use Rattle.machine_build.proofs.put_head.Tie as tie
 
 abbrev Inv-loop : tie.InvT-loop
-Inv-loop symbols count n head₀ end j₀ head j = (j ≤ end) × (end ≡ 3 * count) × (length head₀ ≡ 3 + end) × (length head ≡ 3 + end) × (head ≡ over (count ∷ tabulate (symbolByte symbols) j) head₀)
+Inv-loop symbols count n head₀ end j₀ head j = (j ≤ end) × (end ≡ 3 * count) × (length head₀ ≡ 3 + end) × (length head ≡ 3 + end)
+    × (head ≡ over (count ∷ tabulate (symbolByte symbols) j) head₀)
 
 abbrev μ-loop : tie.MeasureT-loop
 μ-loop symbols count n head₀ end j₀ head j = end - j
@@ -46,14 +47,15 @@ loop-less : tie.Need-loop-less Inv-loop μ-loop
 loop-less c = search needs
 
 loop-again : tie.Need-loop-again Inv-loop μ-loop
-loop-again c = let at = c .before .before .loop in
-    let a = c .before .before .before .args in (
+loop-again c =
+    let a = c .before .before .before .args in let count = a .count in let symbols = a .symbols .now in
+    let inv = c .before .before .loop .inv in let j = c .before .before .loop .j in (
       omega arith,
       refl,
-      at .inv .2,
-      simp length-set (at .inv .3),
-      over-tabulate (a .count ∷ []) (set (a .head .now) 0 (a .count)) (at .head) (1 + at .j) (getD (a .symbols .now) (at .j) 0) (omega arith) (symbolByte (a .symbols .now)) (at .j)
-          (at .inv .4) refl refl,
+      inv .2,
+      simp length-set (inv .3),
+      over-tabulate (count ∷ []) (set (a .head .now) 0 count) (c .before .before .loop .head) (1 + j) (getD symbols j 0) (omega arith)
+          (symbolByte symbols) j (inv .4) refl refl,
     )
 
 cast-head-2 : tie.Need-cast-head-2 Inv-loop μ-loop

@@ -1,12 +1,12 @@
 use mathlib.Core.Path.{refl, sym, ap, _∙_}
 use native.Mathlib.Omega.{arith}
 use lib.ListN.{replicate}
+use Rattle.base_lists.proofs.Numbers.{min-le}
 use Rattle.machine_symbols.specs.Steps.{nextState}
 use Rattle.machine_build.proofs.WriteLaws.{first-length, built-many, built-short, built-done, rows-fit}
 use borrow.Author.Needs.{needs}
 use Rattle.machine_build.proofs.write_image.Statement.{statement}
 use Rattle.machine_build.proofs.write_image.Tie as tie
-use Rattle.base_text.proofs.Lesser.{min-le}
 
 mul-head : tie.Need-mul-head
 mul-head c = search needs
@@ -36,10 +36,19 @@ same-length : tie.Need-same-length
 same-length c = search needs
 
 returns : tie.Need-returns
-returns c = let a = c .before .before .before .before .before .before .before .before .before .before .before .args in
-    let m = built-many (nextState (a .rows .now) (a .parents .now) (a .inner .now) (a .signals) (a .symbols .now)) (a .categories) (a .count) (a .symbols .now) (a .buf .now) (c .before .before .before .before .before .before .before .discover .last .1 .1 .1 .1 .1 .1 .1 .0) _ (c .before .before .before .before .before .before .before .before .before .at-most .result) (c .before .before .before .before .before .before .before .discover .result) (c .before .before .before .before .before .before .before .discover .ensures) (c .before .before .before .before .if1 .taken) in (
-      c .before .before .refuse .ensures .0 ∙ m .0,
-      c .before .before .refuse .ensures .1 ∙ ap (λ k. replicate k 0) (first-length (a .buf .now) (c .before .before .before .before .before .before .before .discover .last .1 .1 .1 .1 .1 .1 .1 .0) (c .before .before .before .before .before .before .before .before .before .at-most .result) (c .before .before .before .before .before .before .before .before .before .at-most .ensures .1) (c .before .before .before .before .before .before .before .discover .ensures .same-length)) ∙ m .1,
+returns c =
+    let b = c .before .before in let refuse = b .refuse in
+    let b2 = b .before .before in let if1 = b2 .if1 in
+    let b3 = b2 .before .before .before in let discover = b3 .discover in
+    let at-most = b3 .before .before .at-most in
+    let a = b3 .before .before .before .before .args in
+    let symbols = a .symbols .now in let buf = a .buf .now in
+    let m = built-many (nextState (a .rows .now) (a .parents .now) (a .inner .now) (a .signals) symbols) (a .categories) (a .count) symbols
+    buf (discover .last .1 .1 .1 .1 .1 .1 .1 .0) _ (at-most .result) (discover .result) (discover .ensures) (if1 .taken) in (
+      refuse .ensures .0 ∙ m .0,
+      refuse .ensures .1
+          ∙ ap (λ k. replicate k 0) (first-length buf (discover .last .1 .1 .1 .1 .1 .1 .1 .0) (at-most .result) (at-most .ensures .1)
+          (discover .ensures .same-length)) ∙ m .1,
     )
 
 add-size : tie.Need-add-size
@@ -49,10 +58,18 @@ add-size-2 : tie.Need-add-size-2
 add-size-2 c = search needs
 
 mul-size : tie.Need-mul-size
-mul-size c = let a = c .before .before .before .before .before .before .before .args in omega (arith, rows-fit (c .before .before .before .discover .result) (a .count) (a .categories) (c .if1 .left) (c .before .before .before .before .before .before .before .pre .1) (c .before .before .before .before .before .before .before .pre .0))
+mul-size c =
+    let a = c .before .before .before .before .before .before .before .args in
+    let discover-result = c .before .before .before .discover .result in
+    let pre = c .before .before .before .before .before .before .before .pre in
+    omega (arith, rows-fit discover-result (a .count) (a .categories) (c .if1 .left) (pre .1) (pre .0))
 
 add-size-3 : tie.Need-add-size-3
-add-size-3 c = let a = c .before .before .before .before .before .before .before .args in omega (arith, rows-fit (c .before .before .before .discover .result) (a .count) (a .categories) (c .if1 .left) (c .before .before .before .before .before .before .before .pre .1) (c .before .before .before .before .before .before .before .pre .0))
+add-size-3 c =
+    let a = c .before .before .before .before .before .before .before .args in
+    let discover-result = c .before .before .before .discover .result in
+    let pre = c .before .before .before .before .before .before .before .pre in
+    omega (arith, rows-fit discover-result (a .count) (a .categories) (c .if1 .left) (pre .1) (pre .0))
 
 refuse-requires-2 : tie.Need-refuse-requires-2
 refuse-requires-2 c κs = search needs
@@ -61,10 +78,20 @@ same-length-2 : tie.Need-same-length-2
 same-length-2 c = search needs
 
 returns-2 : tie.Need-returns-2
-returns-2 c = let a = c .before .before .before .before .before .before .before .before .before .before .before .before .args in
-    let m = built-short (nextState (a .rows .now) (a .parents .now) (a .inner .now) (a .signals) (a .symbols .now)) (a .categories) (a .count) (a .symbols .now) (a .buf .now) (c .before .before .before .before .before .before .before .before .discover .last .1 .1 .1 .1 .1 .1 .1 .0) _ (c .before .before .before .before .before .before .before .before .before .before .at-most .result) (c .before .before .before .before .before .before .before .before .discover .result) (c .before .before .before .before .before .before .before .before .discover .ensures) (c .before .before .before .before .before .if1 .left) (c .before .before .before .before .if2 .taken) in (
-      c .before .before .refuse2 .ensures .0 ∙ m .0,
-      c .before .before .refuse2 .ensures .1 ∙ ap (λ k. replicate k 0) (first-length (a .buf .now) (c .before .before .before .before .before .before .before .before .discover .last .1 .1 .1 .1 .1 .1 .1 .0) (c .before .before .before .before .before .before .before .before .before .before .at-most .result) (c .before .before .before .before .before .before .before .before .before .before .at-most .ensures .1) (c .before .before .before .before .before .before .before .before .discover .ensures .same-length)) ∙ m .1,
+returns-2 c =
+    let b = c .before .before in let refuse2 = b .refuse2 in
+    let b2 = b .before .before in let if2 = b2 .if2 in
+    let if1 = b2 .before .if1 in
+    let b3 = b2 .before .before .before .before in let discover = b3 .discover in
+    let at-most = b3 .before .before .at-most in
+    let a = b3 .before .before .before .before .args in
+    let symbols = a .symbols .now in let buf = a .buf .now in
+    let m = built-short (nextState (a .rows .now) (a .parents .now) (a .inner .now) (a .signals) symbols) (a .categories) (a .count)
+    symbols buf (discover .last .1 .1 .1 .1 .1 .1 .1 .0) _ (at-most .result) (discover .result) (discover .ensures) (if1 .left) (if2 .taken) in (
+      refuse2 .ensures .0 ∙ m .0,
+      refuse2 .ensures .1
+          ∙ ap (λ k. replicate k 0) (first-length buf (discover .last .1 .1 .1 .1 .1 .1 .1 .0) (at-most .result) (at-most .ensures .1)
+          (discover .ensures .same-length)) ∙ m .1,
     )
 
 sub-put-head : tie.Need-sub-put-head
@@ -92,9 +119,20 @@ same-length-3 : tie.Need-same-length-3
 same-length-3 c = search needs
 
 returns-3 : tie.Need-returns-3
-returns-3 c = let a = c .before .before .before .before .before .before .before .before .before .before .before .before .before .before .before .before .args in
-    built-done (nextState (a .rows .now) (a .parents .now) (a .inner .now) (a .signals) (a .symbols .now)) (a .categories) (a .count) (a .symbols .now) (a .buf .now) (c .before .before .before .before .before .before .before .before .before .before .before .before .discover .last .1 .1 .1 .1 .1 .1 .1 .0) _ (c .before .before .before .before .before .before .before .before .before .before .before .before .before .before .at-most .result) (c .before .before .before .before .before .before .before .before .before .before .before .before .discover .result) (c .before .before .before .before .before .before .before .before .before .before .before .before .discover .ensures) (c .before .before .before .before .before .before .before .before .before .if1 .left)
-    (c .before .before .before .before .before .before .before .before .if2 .left) (c .before .before .before .before .before .before .put-head .last .1 .1 .1 .0) (c .before .before .clear .last .0) (c .before .before .before .before .before .before .before .before .before .before .before .before .before .before .at-most .ensures .0 ∙ sym (min-le _ _ (omega arith))) refl (c .before .before .before .before .before .before .put-head .ensures) (c .before .before .clear .ensures)
+returns-3 c =
+    let a = c .before .before .before .before .before .before .before .before .before .before .before .before .before .before .before .before .args in
+    let symbols = a .symbols .now in let put-head = c .before .before .before .before .before .before .put-head .ensures in
+    let put-head-last = c .before .before .before .before .before .before .put-head .last in
+    let if2 = c .before .before .before .before .before .before .before .before .if2 .left in
+    let if1 = c .before .before .before .before .before .before .before .before .before .if1 .left in
+    let discover = c .before .before .before .before .before .before .before .before .before .before .before .before .discover .ensures in
+    let discover-last = c .before .before .before .before .before .before .before .before .before .before .before .before .discover .last in
+    let discover-result = c .before .before .before .before .before .before .before .before .before .before .before .before .discover .result in
+    let at-most = c .before .before .before .before .before .before .before .before .before .before .before .before .before .before .at-most .ensures in
+    let at-most-result = c .before .before .before .before .before .before .before .before .before .before .before .before .before .before .at-most .result in
+    built-done (nextState (a .rows .now) (a .parents .now) (a .inner .now) (a .signals) symbols) (a .categories) (a .count) symbols
+    (a .buf .now) (discover-last .1 .1 .1 .1 .1 .1 .1 .0) _ at-most-result discover-result discover if1 if2 (put-head-last .1 .1 .1 .0)
+    (c .before .before .clear .last .0) (at-most .0 ∙ sym (min-le _ _ (omega arith))) refl put-head (c .before .before .clear .ensures)
 
 pub write-image-spec : {M : Type 1} → statement M
 write-image-spec =

@@ -15,10 +15,13 @@ same-length : tie.Need-same-length
 same-length c = search needs
 
 returns : tie.Need-returns
-returns c = let a = c .before .before .before .before .before .before .before .before .args in
-    let d = c .before .before .before .before .before .decode in (
-      c .before .before .refuse .ensures .0 ∙ refused-built (a .t .now) (d .result) (d .ensures) (c .before .before .before .before .if1 .taken) (length (a .buf .now)),
-      c .before .before .refuse .ensures .1 ∙ refused-buffer (a .t .now) (d .result) (d .ensures) (c .before .before .before .before .if1 .taken) (length (a .buf .now)),
+returns c =
+    let b = c .before .before in let refuse = b .refuse in
+    let b2 = b .before .before in let if1 = b2 .if1 in
+    let d = b2 .before .decode in
+    let a = b2 .before .before .before .before .args in (
+      refuse .ensures .0 ∙ refused-built (a .t .now) (d .result) (d .ensures) (if1 .taken) (length (a .buf .now)),
+      refuse .ensures .1 ∙ refused-buffer (a .t .now) (d .result) (d .ensures) (if1 .taken) (length (a .buf .now)),
     )
 
 list-requires : tie.Need-list-requires
@@ -31,11 +34,15 @@ same-length-2 : tie.Need-same-length-2
 same-length-2 c = search needs
 
 returns-2 : tie.Need-returns-2
-returns-2 c = let a = c .before .before .before .before .before .before .before .before .before .before .before .before .before .before .before .before .before .before .args in
-    let d = c .before .before .before .before .before .before .before .before .before .before .before .before .before .before .before .decode in
-    let s = c .before .before .before .before .before .before .before .before .before .before .list in (
-      c .before .before .build-by .ensures .0 ∙ table-built (a .t .now) (d .result) (d .ensures) (c .before .before .before .before .before .before .before .before .before .before .before .before .before .before .if1 .left) (s .result) (s .ensures) (length (a .buf .now)),
-      c .before .before .build-by .ensures .1 ∙ table-buffer (a .t .now) (d .result) (d .ensures) (c .before .before .before .before .before .before .before .before .before .before .before .before .before .before .if1 .left) (s .result) (s .ensures) (length (a .buf .now)),
+returns-2 c =
+    let b = c .before .before in let build-by = b .build-by in
+    let b2 = b .before .before .before .before .before .before .before .before in let s = b2 .list in
+    let b3 = b2 .before .before .before .before in let if1 = b3 .if1 in
+    let d = b3 .before .decode in
+    let a = b3 .before .before .before .before .args in
+    let t = a .t .now in let buf = a .buf .now in (
+      build-by .ensures .0 ∙ table-built t (d .result) (d .ensures) (if1 .left) (s .result) (s .ensures) (length buf),
+      build-by .ensures .1 ∙ table-buffer t (d .result) (d .ensures) (if1 .left) (s .result) (s .ensures) (length buf),
     )
 
 pub build-spec : {M : Type 1} → statement M

@@ -8,7 +8,10 @@ decode-requires : tie.Need-decode-requires
 decode-requires c κs = search needs
 
 returns : tie.Need-returns
-returns c = let a = c .before .before .before .before .args in refused-check (a .t .now) (c .before .decode .result) (c .before .decode .ensures) (c .if1 .taken) (a .image .now)
+returns c =
+    let decode = c .before .decode in
+    let a = c .before .before .before .before .args in
+    refused-check (a .t .now) (decode .result) (decode .ensures) (c .if1 .taken) (a .image .now)
 
 list-requires : tie.Need-list-requires
 list-requires c κs = search needs
@@ -17,10 +20,12 @@ check-by-requires : tie.Need-check-by-requires
 check-by-requires c κs = search needs
 
 returns-2 : tie.Need-returns-2
-returns-2 c = let a = c .before .before .before .before .before .before .before .before .before .before .before .before .before .before .before .before .args in
-    let d = c .before .before .before .before .before .before .before .before .before .before .before .before .before .decode in
-    let s = c .before .before .before .before .before .before .before .before .list in
-    c .check-by .ensures ∙ table-check (a .t .now) (d .result) (d .ensures) (c .before .before .before .before .before .before .before .before .before .before .before .before .if1 .left) (s .result) (s .ensures) (a .image .now)
+returns-2 c =
+    let b = c .before .before .before .before .before .before .before .before in let s = b .list in
+    let b2 = b .before .before .before .before in let if1 = b2 .if1 in
+    let d = b2 .before .decode in
+    let a = b2 .before .before .before .before .args in
+    c .check-by .ensures ∙ table-check (a .t .now) (d .result) (d .ensures) (if1 .left) (s .result) (s .ensures) (a .image .now)
 
 pub check-spec : {M : Type 1} → statement M
 check-spec = tie.close (tie.spec decode-requires returns list-requires check-by-requires returns-2)

@@ -10,7 +10,10 @@ refused-requires : tie.Need-refused-requires
 refused-requires c κs = search needs
 
 returns : tie.Need-returns
-returns c = let a = c .before .before .before .before .before .args in match-refused (a .t .now) (c .before .before .decode .result) (c .before .before .decode .ensures) (a .uri .now) (c .before .if1 .taken) (c .refused .ensures)
+returns c =
+    let b = c .before .before in let decode = b .decode in
+    let a = b .before .before .before .args in
+    match-refused (a .t .now) (decode .result) (decode .ensures) (a .uri .now) (c .before .if1 .taken) (c .refused .ensures)
 
 uses-requires : tie.Need-uses-requires
 uses-requires c κs = search needs
@@ -19,7 +22,12 @@ answer-requires : tie.Need-answer-requires
 answer-requires c κs = search needs
 
 returns-2 : tie.Need-returns-2
-returns-2 c = let a = c .before .before .before .before .before .before .before .before .before .before .before .before .before .before .args in match-right (a .t .now) (c .before .before .before .before .before .before .before .before .before .before .before .decode .result) (c .before .before .before .before .before .before .before .before .before .before .before .decode .ensures) (a .uri .now) (c .before .before .before .before .before .before .before .before .before .before .if1 .left) (c .before .uses .ensures) (c .answer .ensures)
+returns-2 c =
+    let b = c .before .before .before .before .before .before .before .before in
+    let b2 = b .before .before in let if1 = b2 .if1 in
+    let decode = b2 .before .decode in
+    let a = b2 .before .before .before .before .args in
+    match-right (a .t .now) (decode .result) (decode .ensures) (a .uri .now) (if1 .left) (c .before .uses .ensures) (c .answer .ensures)
 
 pub match-urn-spec : {M : Type 1} → statement M
 match-urn-spec =

@@ -11,7 +11,9 @@ wide-requires : tie.Need-wide-requires
 wide-requires c κs = search needs
 
 returns : tie.Need-returns
-returns c = let a = c .before .before .before .before .args in entry-in (a .index .now) (a .s) (c .before .before .if1 .taken) (c .wide .ensures .0 ∙ c .before .byte .ensures)
+returns c =
+    let a = c .before .before .before .before .args in
+    entry-in (a .index .now) (a .s) (c .before .before .if1 .taken) (c .wide .ensures .0 ∙ c .before .byte .ensures)
 
 returns-2 : tie.Need-returns-2
 returns-2 c = let a = c .before .before .args in entry-out (a .index .now) (a .s) (c .if1 .left)

@@ -24,7 +24,11 @@ cast-result : tie.Need-cast-result Inv-loop μ-loop
 cast-result c = search needs
 
 returns : tie.Need-returns Inv-loop μ-loop
-returns c = let a = c .before .before .before .before .before .args in index-found (a .bytes .now) (a .c) (a .d) (a .kind) (a .n) (c .before .before .before .loop .k) (c .before .before .before .loop .inv .1) (c .before .before .loop-test .taken) (c .before .is-symbol .ensures) (c .if1 .taken)
+returns c =
+    let b = c .before .before .before in let loop = b .loop in
+    let a = b .before .before .args in
+    index-found (a .bytes .now) (a .c) (a .d) (a .kind) (a .n) (loop .k) (loop .inv .1) (c .before .before .loop-test .taken)
+    (c .before .is-symbol .ensures) (c .if1 .taken)
 
 add-k : tie.Need-add-k Inv-loop μ-loop
 add-k c = search needs
@@ -33,13 +37,22 @@ loop-less : tie.Need-loop-less Inv-loop μ-loop
 loop-less c = omega arith
 
 loop-again : tie.Need-loop-again Inv-loop μ-loop
-loop-again c = let a = c .before .before .before .before .before .args in (omega arith, index-more (a .bytes .now) (a .c) (a .d) (a .kind) (a .n) (c .before .before .before .loop .k) (c .before .before .before .loop .inv .1) (c .before .before .loop-test .taken) (c .before .is-symbol .ensures) (c .if1 .left))
+loop-again c =
+    let a = c .before .before .before .before .before .args in let inv = c .before .before .before .loop .inv in
+    let k = c .before .before .before .loop .k in (
+      omega arith,
+      index-more (a .bytes .now) (a .c) (a .d) (a .kind) (a .n) k (inv .1) (c .before .before .loop-test .taken)
+          (c .before .is-symbol .ensures) (c .if1 .left),
+    )
 
 cast-result-2 : tie.Need-cast-result-2 Inv-loop μ-loop
 cast-result-2 c = search needs
 
 returns-2 : tie.Need-returns-2 Inv-loop μ-loop
-returns-2 c = let a = c .before .before .before .args in index-end (a .bytes .now) (a .c) (a .d) (a .kind) (a .n) (c .before .loop .k) (c .before .loop .inv .1) (c .before .loop .inv .0) (c .loop-test .left)
+returns-2 c =
+    let loop = c .before .loop in
+    let a = c .before .before .before .args in
+    index-end (a .bytes .now) (a .c) (a .d) (a .kind) (a .n) (loop .k) (loop .inv .1) (loop .inv .0) (c .loop-test .left)
 
 pub find-spec : {M : Type 1} → statement M
 find-spec =

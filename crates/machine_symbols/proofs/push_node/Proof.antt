@@ -18,26 +18,30 @@ cast-d c = search needs
 push-requires : tie.Need-push-requires
 push-requires c κs = search needs
 
-is-leaf-requires : tie.Need-is-leaf-requires
-is-leaf-requires c κs = search needs
-
-returns : tie.Need-returns
-returns c = let a = c .before .before .before .before .before .before .args in
-    (c .before .before .push .ensures .0, λ l v. node-leaf (a .category .now) (a .parents .now) (a .nodes) (a .c) (a .i) (c .before .before .before .before .if1 .taken) (c .before .is-leaf .ensures) (c .if2 .taken) _ _ l (c .before .before .push .ensures .1 l v))
+element-copy-out-if2 : tie.Need-element-copy-out-if2
+element-copy-out-if2 c = search needs
 
 push-requires-2 : tie.Need-push-requires-2
 push-requires-2 c κs = search needs
 
-returns-2 : tie.Need-returns-2
-returns-2 c = let a = c .before .before .before .before .before .before .before .before .args in (
+returns : tie.Need-returns
+returns c = let a = c .before .before .before .before .before .before .before .before .args in (
   c .push2 .ensures .0,
-  λ l v. node-both (a .category .now) (a .parents .now) (a .nodes) (a .c) (a .i) (c .before .before .before .before .before .before .if1 .taken) (c .before .before .before .is-leaf .ensures) (c .before .before .if2 .left) _ _ l
+  λ l v. node-both (a .category .now) (a .inner .now) (a .c) (a .i) (c .before .before .before .before .before .before .if1 .taken)
+      (c .before .before .if2 .taken) _ _ l
       (c .push2 .ensures .1 (l ++ triple (a .c) (a .i + 1) 0) (c .before .before .before .before .push .ensures .1 l v)),
+)
+
+returns-2 : tie.Need-returns-2
+returns-2 c = let a = c .before .before .before .before .before .before .args in (
+  c .before .before .push .ensures .0,
+  λ l v. node-leaf (a .category .now) (a .inner .now) (a .c) (a .i) (c .before .before .before .before .if1 .taken) (c .if2 .left) _ _ l
+      (c .before .before .push .ensures .1 l v),
 )
 
 returns-3 : tie.Need-returns-3
 returns-3 c = let a = c .before .before .args in
-    (c .before .before .pre .2, λ l v. node-other (a .category .now) (a .parents .now) (a .nodes) (a .c) (a .i) (c .if1 .left) (a .bytes .now) (a .n) l v)
+    (c .before .before .pre .1, λ l v. node-other (a .category .now) (a .inner .now) (a .c) (a .i) (c .if1 .left) (a .bytes .now) (a .n) l v)
 
 pub push-node-spec : {M : Type 1} → statement M
 push-node-spec =
@@ -47,8 +51,8 @@ push-node-spec =
     add-d
     cast-d
     push-requires
-    is-leaf-requires
-    returns
+    element-copy-out-if2
     push-requires-2
+    returns
     returns-2
     returns-3)

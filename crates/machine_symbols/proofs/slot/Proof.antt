@@ -27,7 +27,9 @@ add-result-2 : tie.Need-add-result-2
 add-result-2 c = search needs
 
 returns-2 : tie.Need-returns-2
-returns-2 c = let a = c .before .before .before .args in ap₂ (λ x y. 6 + 2 * x + y) (c .before .wide2 .ensures .0) (c .wide3 .ensures .0) ∙ slot-node (a .c) (a .d) (a .kind) (c .before .before .if1 .left)
+returns-2 c =
+    let a = c .before .before .before .args in
+    ap₂ (λ x y. 6 + 2 * x + y) (c .before .wide2 .ensures .0) (c .wide3 .ensures .0) ∙ slot-node (a .c) (a .d) (a .kind) (c .before .before .if1 .left)
 
 pub slot-spec : {M : Type 1} → statement M
 slot-spec =

@@ -26,10 +26,16 @@ seek-from-requires : tie.Need-seek-from-requires
 seek-from-requires c κs = search needs
 
 returns : tie.Need-returns
-returns c = hit-sought _ _ _ _ _ _ _ _ _ (c .before .before .before .before .before .before .before .before .row-at .ensures) (c .before .before .before .before .before .before .before .digit-at .ensures) (ap (λ x. x .status) (c .before .before .before .before .before .progress-in .ensures)) (takes-last _ _ _ _ _ (c .before .before .before .before .last-taken .ensures) (c .before .before .before .takes-at .ensures)) (c .before .before .if1 .taken) (c .before .at-most .ensures .0) (c .seek-from .ensures)
+returns c = hit-sought _ _ _ _ _ _ _ _ _ (c .before .before .before .before .before .before .before .before .row-at .ensures)
+    (c .before .before .before .before .before .before .before .digit-at .ensures)
+    (ap (λ x. x .status) (c .before .before .before .before .before .progress-in .ensures))
+    (takes-last _ _ _ _ _ (c .before .before .before .before .last-taken .ensures) (c .before .before .before .takes-at .ensures))
+    (c .before .before .if1 .taken) (c .before .at-most .ensures .0) (c .seek-from .ensures)
 
 returns-2 : tie.Need-returns-2
-returns-2 c = hit-none _ _ _ _ _ _ _ _ _ (c .before .before .before .before .before .before .row-at .ensures) (c .before .before .before .before .before .digit-at .ensures) (ap (λ x. x .status) (c .before .before .before .progress-in .ensures)) (takes-last _ _ _ _ _ (c .before .before .last-taken .ensures) (c .before .takes-at .ensures)) (c .if1 .left)
+returns-2 c = hit-none _ _ _ _ _ _ _ _ _ (c .before .before .before .before .before .before .row-at .ensures)
+    (c .before .before .before .before .before .digit-at .ensures) (ap (λ x. x .status) (c .before .before .before .progress-in .ensures))
+    (takes-last _ _ _ _ _ (c .before .before .last-taken .ensures) (c .before .takes-at .ensures)) (c .if1 .left)
 
 pub hit-for-spec : {M : Type 1} → statement M
 hit-for-spec =

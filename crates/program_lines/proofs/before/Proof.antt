@@ -1,6 +1,7 @@
 use native.Mathlib.Omega.{arith}
 use denote.Ref.{now}
-use Rattle.program_lines.proofs.LineLaws.{short, before-found}
+use Rattle.base_lists.proofs.Cuts.{upTo-le}
+use Rattle.program_lines.proofs.LineLaws.{before-found}
 use borrow.Author.Needs.{needs}
 use Rattle.program_lines.proofs.before.Statement.{statement}
 use Rattle.program_lines.proofs.before.Tie as tie
@@ -15,7 +16,7 @@ part-result-start : tie.Need-part-result-start
 part-result-start c = search needs
 
 part-result-end : tie.Need-part-result-end
-part-result-end c = omega (arith, c .find .ensures, short (c .before .before .args .mark) (now (c .before .before .args .s)))
+part-result-end c = omega (arith, c .find .ensures, upTo-le (c .before .before .args .mark) (now (c .before .before .args .s)))
 
 returns : tie.Need-returns
 returns c = before-found _ _ _ (c .before .find .ensures)

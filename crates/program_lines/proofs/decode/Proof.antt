@@ -1,10 +1,11 @@
 use denote.Ref.{now}
+use Rattle.base_lists.specs.Lists.{tabulate, over}
 use Rattle.program_lines.proofs.NumberLaws.{pair-is}
 use mathlib.Core.Path.{_≡_, refl}
 use Prim.Native.Nat.{_-_, _≤_}
 use native.Mathlib.Omega.{arith}
 use lib.ListN.{length, length-set}
-use Rattle.program_lines.specs.Numbers.{hexPair, tab, over}
+use Rattle.program_lines.specs.Numbers.{hexPair}
 use Rattle.program_lines.proofs.NumberLaws.{over-none, over-more}
 use borrow.Author.Needs.{needs}
 use Rattle.program_lines.proofs.Counted.{counted}
@@ -12,7 +13,7 @@ use Rattle.program_lines.proofs.decode.Statement.{statement}
 use Rattle.program_lines.proofs.decode.Tie as tie
 
 abbrev Inv-loop : tie.InvT-loop
-Inv-loop text out₀ n room k₀ out k = (k ≤ n) × (k ≤ length out₀) × (length out ≡ length out₀) × (out ≡ over (tab (hexPair text) k) out₀)
+Inv-loop text out₀ n room k₀ out k = (k ≤ n) × (k ≤ length out₀) × (length out ≡ length out₀) × (out ≡ over (tabulate (hexPair text) k) out₀)
 
 abbrev μ-loop : tie.MeasureT-loop
 μ-loop text out₀ n room k₀ out k = n - k
@@ -63,7 +64,14 @@ loop-less : tie.Need-loop-less Inv-loop μ-loop
 loop-less c = search needs
 
 loop-again : tie.Need-loop-again Inv-loop μ-loop
-loop-again c = (omega arith, omega arith, simp length-set (c .before .before .before .before .before .before .loop .inv .2), over-more _ _ _ _ _ (c .before .before .before .before .before .before .loop .inv .3) (omega arith) (pair-is (now (c .before .before .before .before .before .before .before .before .before .args .text)) (c .before .before .before .before .before .before .loop .k) _ _ (c .before .before .hex-digit .ensures .0) (c .hex-digit2 .ensures .0)))
+loop-again c = (
+  omega arith,
+  omega arith,
+  simp length-set (c .before .before .before .before .before .before .loop .inv .2),
+  over-more _ _ _ _ _ (c .before .before .before .before .before .before .loop .inv .3) (omega arith)
+      (pair-is (now (c .before .before .before .before .before .before .before .before .before .args .text))
+      (c .before .before .before .before .before .before .loop .k) _ _ (c .before .before .hex-digit .ensures .0) (c .hex-digit2 .ensures .0)),
+)
 
 same-length-2 : tie.Need-same-length-2 Inv-loop μ-loop
 same-length-2 c = c .before .loop .inv .2

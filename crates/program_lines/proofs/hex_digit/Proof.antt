@@ -19,14 +19,30 @@ returns-3 c = (simp (le-ltb _ _ (c .before .before .if1 .left), lt-leb _ _ (c .b
 
 returns-4 : tie.Need-returns-4
 unfolding hexDigit
-returns-4 c = (simp (le-ltb _ _ (c .before .before .before .if1 .left), lt-leb _ _ (c .before .before .if2 .left), le-ltb _ _ (c .before .if3 .left), lt-ltb _ _ (c .if4 .taken)), omega arith)
+returns-4 c = (
+  simp (
+    le-ltb _ _ (c .before .before .before .if1 .left),
+    lt-leb _ _ (c .before .before .if2 .left),
+    le-ltb _ _ (c .before .if3 .left),
+    lt-ltb _ _ (c .if4 .taken),
+  ),
+  omega arith,
+)
 
 add-result : tie.Need-add-result
 add-result c = search needs
 
 returns-5 : tie.Need-returns-5
 unfolding hexDigit
-returns-5 c = (simp (le-ltb _ _ (c .before .before .before .if1 .left), lt-leb _ _ (c .before .before .if2 .left), le-ltb _ _ (c .before .if3 .left), le-ltb _ _ (c .if4 .left)), omega arith)
+returns-5 c = (
+  simp (
+    le-ltb _ _ (c .before .before .before .if1 .left),
+    lt-leb _ _ (c .before .before .if2 .left),
+    le-ltb _ _ (c .before .if3 .left),
+    le-ltb _ _ (c .if4 .left),
+  ),
+  omega arith,
+)
 
 pub hex-digit-spec : {M : Type 1} → statement M
 hex-digit-spec = tie.close (tie.spec returns returns-2 returns-3 returns-4 add-result returns-5)

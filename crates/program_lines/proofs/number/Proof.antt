@@ -30,7 +30,8 @@ loop-less : tie.Need-loop-less Inv-loop μ-loop
 loop-less c = search needs
 
 loop-again : tie.Need-loop-again Inv-loop μ-loop
-loop-again c = c .before .before .before .loop .inv ∙ number-next (now (c .before .before .before .before .before .args .s)) (c .before .before .before .loop .n) (c .before .before .before .loop .at) (search needs) _ (c .more-digits .ensures)
+loop-again c = c .before .before .before .loop .inv ∙ number-next (now (c .before .before .before .before .before .args .s))
+    (c .before .before .before .loop .n) (c .before .before .before .loop .at) (search needs) _ (c .more-digits .ensures)
 
 returns : tie.Need-returns Inv-loop μ-loop
 returns c = sym (c .before .loop .inv ∙ number-end (now (c .before .before .before .args .s)) (c .before .loop .n) (c .before .loop .at) (search needs))

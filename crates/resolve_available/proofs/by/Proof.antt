@@ -21,7 +21,8 @@ value-first-requires-2 c κs = search needs
 returns-2 : tie.Need-returns-2
 returns-2 c = λ m.
     let z = sym (m .refusal) ∙ c .before .before .before .if1 .left in
-    c .value-first2 .ensures ∙ available-strange _ _ _ z (sym (c .before .before .is-known .ensures ∙ ap (known _) (signals-few _ _ (m .holds z))) ∙ not-true _ (c .before .if2 .taken))
+    c .value-first2 .ensures ∙ available-strange _ _ _ z
+    (sym (c .before .before .is-known .ensures ∙ ap (known _) (signals-few _ _ (m .holds z))) ∙ not-true _ (c .before .if2 .taken))
 
 among-requires : tie.Need-among-requires
 among-requires c κs = search needs
@@ -35,7 +36,9 @@ direct-requires c κs = search needs
 returns-3 : tie.Need-returns-3
 returns-3 c = λ m.
     let z = sym (m .refusal) ∙ c .before .before .before .before .before .before .if1 .left in
-    available-right _ _ _ z _ (m .holds z) (sym (c .before .before .before .before .before .is-known .ensures ∙ ap (known _) (signals-few _ _ (m .holds z))) ∙ not-false _ (c .before .before .before .before .if2 .left)) _ (c .before .before .at-start .ensures) (c .before .before .before .among .ensures) (c .before .direct .ensures)
+    available-right _ _ _ z _ (m .holds z) (sym (c .before .before .before .before .before .is-known .ensures
+    ∙ ap (known _) (signals-few _ _ (m .holds z))) ∙ not-false _ (c .before .before .before .before .if2 .left)) _
+    (c .before .before .at-start .ensures) (c .before .before .before .among .ensures) (c .before .direct .ensures)
 
 pub by-spec : {M : Type 1} → statement M
 by-spec =

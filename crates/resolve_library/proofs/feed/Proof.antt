@@ -36,7 +36,8 @@ returns-3 : tie.Need-returns-3
 returns-3 c =
     let d = c .before .before .before .before .before .before .before .before .before .before .before .decode .ensures in
     let z = sym (d .refusal) ∙ c .before .before .before .before .before .before .before .before .before .before .if1 .left in
-    let e = sym (fits-table _ _ (d .holds z) _ (c .before .before .before .before .fits2 .ensures .1)) ∙ sym (c .before .before .before .before .fits2 .ensures .0) in
+    let e = sym (fits-table _ _ (d .holds z) _ (c .before .before .before .before .fits2 .ensures .1))
+    ∙ sym (c .before .before .before .before .fits2 .ensures .0) in
     c .unchanged3 .ensures ∙ feed-full _ _ _ z (e ∙ not-false _ (c .before .before .before .if2 .left)) (c .before .if3 .taken)
 
 read-from-requires : tie.Need-read-from-requires
@@ -51,7 +52,8 @@ returns-4 : tie.Need-returns-4
 returns-4 c =
     let d = c .before .before .before .before .before .before .before .before .before .before .before .decode .ensures in
     let z = sym (d .refusal) ∙ c .before .before .before .before .before .before .before .before .before .before .if1 .left in
-    let e = sym (fits-table _ _ (d .holds z) _ (c .before .before .before .before .fits2 .ensures .1)) ∙ sym (c .before .before .before .before .fits2 .ensures .0) in
+    let e = sym (fits-table _ _ (d .holds z) _ (c .before .before .before .before .fits2 .ensures .1))
+    ∙ sym (c .before .before .before .before .fits2 .ensures .0) in
     c .read-from .ensures ∙ feed-read _ _ _ z (e ∙ not-false _ (c .before .before .before .if2 .left)) (c .before .if3 .left)
 
 pub feed-spec : {M : Type 1} → statement M

@@ -34,7 +34,8 @@ loop-less : tie.Need-loop-less Inv-loop μ-loop
 loop-less c = omega (arith, c .before .before .loop-test .taken)
 
 loop-again : tie.Need-loop-again Inv-loop μ-loop
-loop-again c = fill-more 0 (byteAt (c .before .before .before .before .args .t1)) _ _ _ (c .before .before .before .loop .inv) (c .before .before .loop-test .taken) (c .byte-of .ensures)
+loop-again c = fill-more 0 (byteAt (c .before .before .before .before .args .t1)) _ _ _ (c .before .before .before .loop .inv)
+    (c .before .before .loop-test .taken) (c .byte-of .ensures)
 
 returns : tie.Need-returns Inv-loop μ-loop
 returns c = fill-done 0 _ _ (c .before .loop .c) (c .before .loop .inv) (c .loop-test .left)

@@ -16,7 +16,11 @@ statuses-fit-requires : tie.Need-statuses-fit-requires
 statuses-fit-requires c κs = search needs
 
 returns-3 : tie.Need-returns-3
-returns-3 c = (fits-rest _ _ _ _ _ _ _ (c .before .before .before .before .before .before .args .carried) (c .before .before .before .before .if1 .left) (c .before .before .if2 .left) (c .statuses-fit .ensures), search needs)
+returns-3 c = (
+  fits-rest _ _ _ _ _ _ _ (c .before .before .before .before .before .before .args .carried)
+      (c .before .before .before .before .if1 .left) (c .before .before .if2 .left) (c .statuses-fit .ensures),
+  search needs,
+)
 
 pub fits-spec : {M : Type 1} → statement M
 fits-spec = tie.close (tie.spec cast-signal returns returns-2 statuses-fit-requires returns-3)

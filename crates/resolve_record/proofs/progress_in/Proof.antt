@@ -46,7 +46,8 @@ loop-less c = omega (arith, c .before .before .loop-test .taken)
 
 loop-again : tie.Need-loop-again Inv-loop μ-loop
 loop-again c =
-    fill-more blank (progressAt (now (c .before .before .before .before .before .args .status))) _ _ _ (c .before .before .before .loop .inv) (c .before .before .loop-test .taken)
+    fill-more blank (progressAt (now (c .before .before .before .before .before .args .status))) _ _ _
+    (c .before .before .before .loop .inv) (c .before .before .loop-test .taken)
     (ap (λ s. record { status = s }) (c .progress-of2 .ensures))
 
 returns : tie.Need-returns Inv-loop μ-loop

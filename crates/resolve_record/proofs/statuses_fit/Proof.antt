@@ -3,15 +3,16 @@ use mathlib.Core.Path.{_≡_}
 use mathlib.Core.Bool.{true}
 use native.Mathlib.Omega.{arith}
 use borrow.Author.Tests.{not-true, not-false}
-use Rattle.theory_resolution.specs.Lists.{allBelow}
+use Rattle.base_lists.proofs.Below.{all-none, all-next, all-fails, all-done}
+use Rattle.base_lists.specs.Lists.{allBelow}
 use Rattle.resolve_record.specs.Coded.{statusAt}
-use Rattle.resolve_record.proofs.FitLaws.{all-none, all-next, all-fails, all-done}
 use borrow.Author.Needs.{needs}
 use Rattle.resolve_record.proofs.statuses_fit.Statement.{statement}
 use Rattle.resolve_record.proofs.statuses_fit.Tie as tie
 
 abbrev Inv-loop : tie.InvT-loop
-Inv-loop rows parents inner category nodes categories s status c₀ c = (c ≤ 8) × (allBelow c (statusAt rows parents inner category nodes categories s status) ≡ true)
+Inv-loop rows parents inner category nodes categories s status c₀ c = (c ≤ 8)
+    × (allBelow c (statusAt rows parents inner category nodes categories s status) ≡ true)
 
 abbrev μ-loop : tie.MeasureT-loop
 μ-loop rows parents inner category nodes categories s status c₀ c = 8 - c
@@ -26,7 +27,8 @@ status-fits-requires : tie.Need-status-fits-requires Inv-loop μ-loop
 status-fits-requires c κs = search needs
 
 returns : tie.Need-returns Inv-loop μ-loop
-returns c = all-fails _ (c .before .before .before .before .loop .c) 8 (c .before .before .before .loop-test .taken) (c .before .status-fits .ensures) (not-true _ (c .if1 .taken))
+returns c = all-fails _ (c .before .before .before .before .loop .c) 8 (c .before .before .before .loop-test .taken)
+    (c .before .status-fits .ensures) (not-true _ (c .if1 .taken))
 
 add-c : tie.Need-add-c Inv-loop μ-loop
 add-c c = search needs
@@ -35,10 +37,14 @@ loop-less : tie.Need-loop-less Inv-loop μ-loop
 loop-less c = omega (arith, c .before .before .before .loop-test .taken)
 
 loop-again : tie.Need-loop-again Inv-loop μ-loop
-loop-again c = (omega (arith, c .before .before .before .loop-test .taken), all-next _ (c .before .before .before .before .loop .c) (c .before .before .before .before .loop .inv .1) (c .before .status-fits .ensures) (not-false _ (c .if1 .left)))
+loop-again c = (
+  omega (arith, c .before .before .before .loop-test .taken),
+  all-next _ (c .before .before .before .before .loop .c) (c .before .before .before .before .loop .inv .1)
+      (c .before .status-fits .ensures) (not-false _ (c .if1 .left)),
+)
 
 returns-2 : tie.Need-returns-2 Inv-loop μ-loop
-returns-2 c = all-done _ (c .before .loop .c) 8 (c .before .loop .inv .0) (c .loop-test .left) (c .before .loop .inv .1)
+returns-2 c = all-done _ 8 (c .before .loop .c) (c .before .loop .inv .0) (c .loop-test .left) (c .before .loop .inv .1)
 
 pub statuses-fit-spec : {M : Type 1} → statement M
 statuses-fit-spec =

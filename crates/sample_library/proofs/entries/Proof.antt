@@ -11,7 +11,8 @@ use Rattle.sample_library.proofs.entries.Statement.{statement}
 use Rattle.sample_library.proofs.entries.Tie as tie
 
 abbrev Inv-loop : tie.InvT-loop
-Inv-loop t d x buf₀ y more w₀ k₀ buf w k = (k ≤ more) × (length buf ≡ length buf₀) × After t y (suc k) w × ((o : List ℕ) → buf₀ ≡ sets o 0 (valueUpTo t y 1) → buf ≡ sets o 0 (valueUpTo t y (suc k)))
+Inv-loop t d x buf₀ y more w₀ k₀ buf w k = (k ≤ more) × (length buf ≡ length buf₀) × After t y (suc k) w
+    × ((o : List ℕ) → buf₀ ≡ sets o 0 (valueUpTo t y 1) → buf ≡ sets o 0 (valueUpTo t y (suc k)))
 
 abbrev μ-loop : tie.MeasureT-loop
 μ-loop t d x buf₀ y more w₀ k₀ buf w k = more - k
@@ -26,16 +27,63 @@ entry-requires : tie.Need-entry-requires Inv-loop μ-loop
 entry-requires c κs = search needs
 
 loop-holds : tie.Need-loop-holds Inv-loop μ-loop
-loop-holds c = (omega arith, refl, after-first _ (c .before .before .before .before .before .before .before .before .pre .0 .formed) _ (c .before .before .before .before .before .before .before .before .args .buf .now) (c .before .before .entry .ensures) .0, λ o e. e)
+loop-holds c =
+    let buf = c .before .before .before .before .before .before .before .before .args .buf .now in
+    let pre = c .before .before .before .before .before .before .before .before .pre in
+    (omega arith, refl, after-first _ (pre .0 .formed) _ buf (c .before .before .entry .ensures) .0, λ o e. e)
 
 slice-write-buf : tie.Need-slice-write-buf Inv-loop μ-loop
-slice-write-buf c = omega (arith, c .before .loop .inv .1, c .before .before .before .buf .given, c .before .loop .inv .2 .0, value-few _ (c .before .before .before .before .before .before .before .before .before .before .pre .0 .formed) (c .before .before .before .before .before .before .before .drawn .result) (suc (c .before .loop .k)), c .loop-test .taken, c .before .before .before .before .before .before .choice .ensures, few-choice (c .before .before .before .before .before .before .before .drawn .result), c .before .before .before .before .before .before .before .before .before .before .pre .1)
+slice-write-buf c =
+    let inv = c .before .loop .inv in let buf-given = c .before .before .before .buf .given in
+    let choice = c .before .before .before .before .before .before .choice .ensures in
+    let drawn-result = c .before .before .before .before .before .before .before .drawn .result in
+    let pre = c .before .before .before .before .before .before .before .before .before .before .pre in
+    omega (
+      arith,
+      inv .1,
+      buf-given,
+      inv .2 .0,
+      value-few _ (pre .0 .formed) drawn-result (suc (c .before .loop .k)),
+      c .loop-test .taken,
+      choice,
+      few-choice drawn-result,
+      pre .1,
+    )
 
 add-at : tie.Need-add-at Inv-loop μ-loop
-add-at c = omega (arith, c .before .loop .inv .2 .0, value-few _ (c .before .before .before .before .before .before .before .before .before .before .pre .0 .formed) (c .before .before .before .before .before .before .before .drawn .result) (suc (c .before .loop .k)), c .loop-test .taken, c .before .before .before .before .before .before .choice .ensures, few-choice (c .before .before .before .before .before .before .before .drawn .result))
+add-at c =
+    let choice = c .before .before .before .before .before .before .choice .ensures in
+    let drawn-result = c .before .before .before .before .before .before .before .drawn .result in
+    let pre = c .before .before .before .before .before .before .before .before .before .before .pre in
+    omega (
+      arith,
+      c .before .loop .inv .2 .0,
+      value-few _ (pre .0 .formed) drawn-result (suc (c .before .loop .k)),
+      c .loop-test .taken,
+      choice,
+      few-choice drawn-result,
+    )
 
 entry-requires-2 : tie.Need-entry-requires-2 Inv-loop μ-loop
-entry-requires-2 c κs = (c .before .before .before .before .before .before .before .before .before .before .before .pre .0, omega (arith, length-set (c .before .before .loop .buf) (c .before .before .loop .w .len) 44, c .before .before .loop .inv .1, c .before .before .before .before .buf .given, c .before .before .loop .inv .2 .0, value-few _ (c .before .before .before .before .before .before .before .before .before .before .before .pre .0 .formed) (c .before .before .before .before .before .before .before .before .drawn .result) (suc (c .before .before .loop .k)), c .before .loop-test .taken, c .before .before .before .before .before .before .before .choice .ensures, few-choice (c .before .before .before .before .before .before .before .before .drawn .result), c .before .before .before .before .before .before .before .before .before .before .before .pre .1))
+entry-requires-2 c κs =
+    let inv = c .before .before .loop .inv in let buf-given = c .before .before .before .before .buf .given in
+    let choice = c .before .before .before .before .before .before .before .choice .ensures in
+    let drawn-result = c .before .before .before .before .before .before .before .before .drawn .result in
+    let pre = c .before .before .before .before .before .before .before .before .before .before .before .pre in (
+      pre .0,
+      omega (
+        arith,
+        length-set (c .before .before .loop .buf) (c .before .before .loop .w .len) 44,
+        inv .1,
+        buf-given,
+        inv .2 .0,
+        value-few _ (pre .0 .formed) drawn-result (suc (c .before .before .loop .k)),
+        c .before .loop-test .taken,
+        choice,
+        few-choice drawn-result,
+        pre .1,
+      ),
+    )
 
 add-k : tie.Need-add-k Inv-loop μ-loop
 add-k c = search needs
@@ -44,13 +92,32 @@ loop-less : tie.Need-loop-less Inv-loop μ-loop
 loop-less c = omega (arith, c .before .before .before .before .loop-test .taken)
 
 loop-again : tie.Need-loop-again Inv-loop μ-loop
-loop-again c = (omega (arith, c .before .before .before .before .loop-test .taken), c .before .buf2 .given ∙ length-set (c .before .before .before .before .before .loop .buf) (c .before .before .before .before .before .loop .w .len) 44 ∙ c .before .before .before .before .before .loop .inv .1, (after-more _ (c .before .before .before .before .before .before .before .before .before .before .before .before .before .before .pre .0 .formed) _ (c .before .before .before .before .before .loop .k) {b = c .before .before .before .before .before .loop .buf} (c .before .before .before .before .before .loop .inv .2) (c .before .before .entry2 .ensures)) .0, λ o e. (after-more _ (c .before .before .before .before .before .before .before .before .before .before .before .before .before .before .pre .0 .formed) _ (c .before .before .before .before .before .loop .k) {b = c .before .before .before .before .before .loop .buf} (c .before .before .before .before .before .loop .inv .2) (c .before .before .entry2 .ensures)) .1 o (c .before .before .before .before .before .loop .inv .3 o e))
+loop-again c =
+    let entry2 = c .before .before .entry2 .ensures in let loop-test = c .before .before .before .before .loop-test .taken in
+    let buf = c .before .before .before .before .before .loop .buf in
+    let inv = c .before .before .before .before .before .loop .inv in
+    let k = c .before .before .before .before .before .loop .k in
+    let w = c .before .before .before .before .before .loop .w in
+    let pre = c .before .before .before .before .before .before .before .before .before .before .before .before .before .before .pre in (
+      omega (arith, loop-test),
+      c .before .buf2 .given ∙ length-set buf (w .len) 44 ∙ inv .1,
+      (after-more _ (pre .0 .formed) _ k {b = buf} (inv .2) entry2) .0,
+      λ o e. (after-more _ (pre .0 .formed) _ k {b = buf} (inv .2) entry2) .1 o (inv .3 o e),
+    )
 
 same-length : tie.Need-same-length Inv-loop μ-loop
 same-length c = c .before .loop .inv .1 ∙ c .before .before .before .buf .given
 
 returns : tie.Need-returns Inv-loop μ-loop
-returns c = after-all _ (c .before .before .before .before .before .before .before .before .before .before .pre .0 .formed) (c .before .before .before .before .before .before .before .before .before .before .args .x) (c .before .before .before .before .before .before .before .before .before .before .args .buf .now) (c .before .before .before .before .before .before .before .drawn .ensures) (c .before .before .before .before .before .before .choice .ensures) (omega (arith, c .loop-test .left, c .before .loop .inv .0)) (c .before .before .before .before .before .before .before .before .before .before .pre .1) (c .before .loop .inv .2) (c .before .loop .inv .3 _ (after-first _ (c .before .before .before .before .before .before .before .before .before .before .pre .0 .formed) _ (c .before .before .before .before .before .before .before .before .before .before .args .buf .now) (c .before .before .before .before .entry .ensures) .1))
+returns c =
+    let inv = c .before .loop .inv in let entry = c .before .before .before .before .entry .ensures in
+    let choice = c .before .before .before .before .before .before .choice .ensures in
+    let drawn = c .before .before .before .before .before .before .before .drawn .ensures in
+    let buf = c .before .before .before .before .before .before .before .before .before .before .args .buf .now in
+    let x = c .before .before .before .before .before .before .before .before .before .before .args .x in
+    let pre = c .before .before .before .before .before .before .before .before .before .before .pre in
+    after-all _ (pre .0 .formed) x buf drawn choice (omega (arith, c .loop-test .left, inv .0)) (pre .1) (inv .2)
+    (inv .3 _ (after-first _ (pre .0 .formed) _ buf entry .1))
 
 pub entries-spec : {M : Type 1} → statement M
 entries-spec =

@@ -13,7 +13,10 @@ z-name-requires : tie.Need-z-name-requires
 z-name-requires c κs = search needs
 
 returns : tie.Need-returns
-returns c = (foreign-name _ _ _ _ (c .before .before .before .before .before .at-most .ensures .0) (c .before .first-name .ensures .0) (c .z-name .ensures .0), (c .z-name .ensures .1, c .z-name .ensures .2))
+returns c =
+    let z-name = c .z-name in
+    let at-most = c .before .before .before .before .before .at-most in
+    (foreign-name _ _ _ _ (at-most .ensures .0) (c .before .first-name .ensures .0) (z-name .ensures .0), (z-name .ensures .1, z-name .ensures .2))
 
 pub foreign-spec : {M : Type 1} → statement M
 foreign-spec = tie.close (tie.spec at-most-requires first-name-requires z-name-requires returns)

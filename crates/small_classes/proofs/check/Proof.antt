@@ -30,7 +30,9 @@ part-y-end : tie.Need-part-y-end
 part-y-end c = search needs
 
 check-in-requires : tie.Need-check-in-requires
-check-in-requires c κs = (c .before .before .if2 .left, simp length-take (omega (arith, c .before .before .before .if1 .left)), simp length-take (omega (arith, c .before .before .before .if1 .left)))
+check-in-requires c κs =
+    let if1 = c .before .before .before .if1 .left in
+    (c .before .before .if2 .left, simp length-take (omega (arith, if1)), simp length-take (omega (arith, if1)))
 
 returns-3 : tie.Need-returns-3
 returns-3 c = search needs

@@ -30,7 +30,9 @@ part-y-end : tie.Need-part-y-end
 part-y-end c = search needs
 
 propose-in-requires : tie.Need-propose-in-requires
-propose-in-requires c κs = (c .before .before .before .if2 .left, simp length-take (omega (arith, c .before .before .before .before .if1 .left)), simp length-take (omega (arith, c .before .before .before .before .if1 .left)))
+propose-in-requires c κs =
+    let if2 = c .before .before .before .if2 .left in let if1 = c .before .before .before .before .if1 .left in
+    (if2, simp length-take (omega (arith, if1)), simp length-take (omega (arith, if1)))
 
 same-length : tie.Need-same-length
 same-length c = search needs

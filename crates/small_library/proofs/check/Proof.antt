@@ -8,10 +8,14 @@ judge-requires : tie.Need-judge-requires
 judge-requires c κs = search needs
 
 returns : tie.Need-returns
-returns c = let a = c .before .before .before .before .before .before .args in check-refused (a .t .now) (a .im .now) _ (c .before .before .judge .ensures .number) (c .if1 .taken) (a .p .now)
+returns c =
+    let a = c .before .before .before .before .before .before .args in
+    check-refused (a .t .now) (a .im .now) _ (c .before .before .judge .ensures .number) (c .if1 .taken) (a .p .now)
 
 fit-requires : tie.Need-fit-requires
-fit-requires c κs = let a = c .before .before .before .before .before .before .args in formed (a .t .now) (a .im .now) (sym (c .before .before .judge .ensures .number) ∙ c .if1 .left) .counts-fit
+fit-requires c κs =
+    let a = c .before .before .before .before .before .before .args in
+    formed (a .t .now) (a .im .now) (sym (c .before .before .judge .ensures .number) ∙ c .if1 .left) .counts-fit
 
 returns-2 : tie.Need-returns-2
 returns-2 c = let a = c .before .before .before .before .before .before .before .args in

@@ -26,12 +26,17 @@ add-head : tie.Need-add-head
 add-head c = search needs
 
 returns-2 : tie.Need-returns-2
-returns-2 c = let a = c .before .before .before .before .before .before .before .before .before .before .before .before .before .before .before .before .before .args in
-    let d = c .before .before .before .before .before .before .before .before .before .before .before .before .before .before .decode in
-    let s = c .before .before .before .before .before .before .before .before .before .list in
+returns-2 c =
+    let b = c .before .before .before .before .before .before .before .before in
+    let s = b .before .list in
+    let b2 = b .before .before .before .before .before in let if1 = b2 .if1 in
+    let d = b2 .before .decode in
+    let a = b2 .before .before .before .before .args in
+    let t = a .t .now in
     record {
-      number = c .before .check-by .ensures ∙ table-check (a .t .now) (d .result) (d .ensures) (c .before .before .before .before .before .before .before .before .before .before .before .before .before .if1 .left) (s .result) (s .ensures) (a .im .now);
-      head = λ z. head-is (a .t .now) (d .result) (d .ensures) (c .before .before .before .before .before .before .before .before .before .before .before .before .before .if1 .left) (c .at-most .result) (c .at-most .ensures .0);
+      number = c .before .check-by .ensures ∙ table-check t (d .result) (d .ensures) (if1 .left) (s .result) (s .ensures)
+          (a .im .now);
+      head = λ z. head-is t (d .result) (d .ensures) (if1 .left) (c .at-most .result) (c .at-most .ensures .0);
     }
 
 pub judge-spec : {M : Type 1} → statement M

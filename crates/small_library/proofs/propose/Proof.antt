@@ -17,9 +17,14 @@ same-length : tie.Need-same-length
 same-length c = search needs
 
 returns : tie.Need-returns
-returns c = let a = c .before .before .before .before .before .before .before .before .before .before .args in
-    let e = propose-refused (a .t .now) (a .im .now) _ (c .before .before .before .before .before .before .judge .ensures .number) (c .before .before .before .before .if1 .taken) (bytesOf (proposed (machineFrom (a .t .now) (a .im .now)))) (length (a .buf .now)) in
-    (c .before .before .refuse .ensures .0 ∙ e .0, c .before .before .refuse .ensures .1 ∙ e .1)
+returns c =
+    let b = c .before .before in let refuse = b .refuse in
+    let b2 = b .before .before in let if1 = b2 .if1 in
+    let b3 = b2 .before .before in let judge = b3 .judge in
+    let a = b3 .before .before .before .before .args in
+    let e = propose-refused (a .t .now) (a .im .now) _ (judge .ensures .number) (if1 .taken)
+    (bytesOf (proposed (machineFrom (a .t .now) (a .im .now)))) (length (a .buf .now)) in
+    (refuse .ensures .0 ∙ e .0, refuse .ensures .1 ∙ e .1)
 
 propose-requires : tie.Need-propose-requires
 propose-requires c κs = let a = c .before .before .before .before .before .before .before .args in
@@ -30,10 +35,14 @@ same-length-2 : tie.Need-same-length-2
 same-length-2 c = search needs
 
 returns-2 : tie.Need-returns-2
-returns-2 c = let a = c .before .before .before .before .before .before .before .before .before .before .args in
-    let z = sym (c .before .before .before .before .before .before .judge .ensures .number) ∙ c .before .before .before .before .if1 .left in
-    let e = propose-accepted (a .t .now) (a .im .now) z _ (c .before .before .before .before .before .before .judge .ensures .head z) (length (a .buf .now)) in
-    (c .before .before .propose .ensures .0 ∙ e .0, c .before .before .propose .ensures .1 ∙ e .1)
+returns-2 c =
+    let b = c .before .before in let propose = b .propose in
+    let b2 = b .before .before in let if1 = b2 .if1 in
+    let b3 = b2 .before .before in let judge = b3 .judge in
+    let a = b3 .before .before .before .before .args in
+    let z = sym (judge .ensures .number) ∙ if1 .left in
+    let e = propose-accepted (a .t .now) (a .im .now) z _ (judge .ensures .head z) (length (a .buf .now)) in
+    (propose .ensures .0 ∙ e .0, propose .ensures .1 ∙ e .1)
 
 pub propose-spec : {M : Type 1} → statement M
 propose-spec =

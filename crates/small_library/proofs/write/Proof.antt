@@ -17,21 +17,33 @@ same-length : tie.Need-same-length
 same-length c = search needs
 
 returns : tie.Need-returns
-returns c = let a = c .before .before .before .before .before .before .before .before .before .before .before .args in
-    let e = write-refused (a .t .now) (a .im .now) _ (c .before .before .before .before .before .before .judge .ensures .number) (c .before .before .before .before .if1 .taken) (a .p .now) (smallOf (tableOf (a .t .now)) (a .im .now) (a .p .now)) (length (a .buf .now)) in
-    (c .before .before .refuse .ensures .0 ∙ e .0, c .before .before .refuse .ensures .1 ∙ e .1)
+returns c =
+    let b = c .before .before in let refuse = b .refuse in
+    let b2 = b .before .before in let if1 = b2 .if1 in
+    let b3 = b2 .before .before in let judge = b3 .judge in
+    let a = b3 .before .before .before .before .before .args in
+    let e = write-refused (a .t .now) (a .im .now) _ (judge .ensures .number) (if1 .taken) (a .p .now)
+    (smallOf (tableOf (a .t .now)) (a .im .now) (a .p .now)) (length (a .buf .now)) in
+    (refuse .ensures .0 ∙ e .0, refuse .ensures .1 ∙ e .1)
 
 write-requires : tie.Need-write-requires
-write-requires c κs = let a = c .before .before .before .before .before .before .before .before .args in formed (a .t .now) (a .im .now) (sym (c .before .before .before .judge .ensures .number) ∙ c .before .if1 .left) .counts-fit
+write-requires c κs =
+    let b = c .before .before .before in let judge = b .judge in
+    let a = b .before .before .before .before .before .args in
+    formed (a .t .now) (a .im .now) (sym (judge .ensures .number) ∙ c .before .if1 .left) .counts-fit
 
 same-length-2 : tie.Need-same-length-2
 same-length-2 c = search needs
 
 returns-2 : tie.Need-returns-2
-returns-2 c = let a = c .before .before .before .before .before .before .before .before .before .before .before .args in
-    let z = sym (c .before .before .before .before .before .before .judge .ensures .number) ∙ c .before .before .before .before .if1 .left in
-    let e = write-accepted (a .t .now) (a .im .now) z _ (c .before .before .before .before .before .before .judge .ensures .head z) (a .p .now) (length (a .buf .now)) in
-    (c .before .before .write .ensures .0 ∙ e .0, c .before .before .write .ensures .1 ∙ e .1)
+returns-2 c =
+    let b = c .before .before in let write = b .write in
+    let b2 = b .before .before in let if1 = b2 .if1 in
+    let b3 = b2 .before .before in let judge = b3 .judge in
+    let a = b3 .before .before .before .before .before .args in
+    let z = sym (judge .ensures .number) ∙ if1 .left in
+    let e = write-accepted (a .t .now) (a .im .now) z _ (judge .ensures .head z) (a .p .now) (length (a .buf .now)) in
+    (write .ensures .0 ∙ e .0, write .ensures .1 ∙ e .1)
 
 pub write-spec : {M : Type 1} → statement M
 write-spec =

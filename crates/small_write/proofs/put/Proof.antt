@@ -1,6 +1,6 @@
 use mathlib.Core.Path.{refl, _∙_}
 use lib.ListN.{length}
-use Rattle.small_write.proofs.AnswerLaws.{answer-short, answer-done, two-parts}
+use Rattle.small_write.proofs.AnswerLaws.{answer-short, answer-done, copied, two-parts}
 use borrow.Author.Needs.{needs}
 use Rattle.small_write.proofs.put.Statement.{statement}
 use Rattle.small_write.proofs.put.Tie as tie
@@ -42,8 +42,14 @@ same-length-2 c = search needs
 
 returns-2 : tie.Need-returns-2
 returns-2 c = let a = c .before .before .before .before .before .before .before .before .before .before .before .args in
-    let e = answer-done (a .bytes .now) (length (a .buf .now)) (c .before .before .before .before .before .before .before .before .if1 .left) in
-    (e .0, two-parts (a .bytes .now) (a .buf .now) (c .before .before .before .before .before .before .copy .last .1 .0) (c .before .before .clear .last .0) (length (a .bytes .now)) (length (a .buf .now)) refl refl (c .before .before .before .before .before .before .before .before .if1 .left) (c .before .before .before .before .before .before .copy .ensures) _ _ (c .before .before .clear .ensures) refl refl ∙ e .1)
+    let e = answer-done (a .bytes .now) (length (a .buf .now)) (c .before .before .before .before .before .before .before .before .if1 .left) in (
+      e .0,
+      two-parts (a .bytes .now) (a .buf .now) (c .before .before .before .before .before .before .copy .last .1 .0)
+          (c .before .before .clear .last .0) (length (a .bytes .now)) (length (a .buf .now)) refl refl
+          (c .before .before .before .before .before .before .before .before .if1 .left)
+          (copied (a .bytes .now) (a .buf .now) _ (c .before .before .before .before .before .before .before .before .if1 .left)
+          (c .before .before .before .before .before .before .copy .ensures)) _ _ (c .before .before .clear .ensures) refl refl ∙ e .1,
+    )
 
 pub put-spec : {M : Type 1} → statement M
 put-spec =

@@ -3,14 +3,16 @@ use mathlib.Core.List.{[], _++_}
 use Prim.Native.Nat.{_+_, _-_, _≤_}
 use native.Mathlib.Omega.{arith}
 use lib.ListN.{length, getD, take, length-set}
-use Rattle.machine_build.proofs.Over.{over, over-copy}
-use Rattle.small_write.proofs.RowLaws.{over-none, head-written}
+use Rattle.base_lists.proofs.Over.{over-copy, over-none}
+use Rattle.base_lists.specs.Lists.{over}
+use Rattle.small_write.proofs.RowLaws.{head-written}
 use borrow.Author.Needs.{needs}
 use Rattle.small_write.proofs.put_head.Statement.{statement}
 use Rattle.small_write.proofs.put_head.Tie as tie
 
 abbrev Inv-loop : tie.InvT-loop
-Inv-loop front count head₀ z j₀ head j = (j ≤ length front) × (length head₀ ≡ length front + 2) × (length head ≡ length front + 2) × (head ≡ over ([] ++ take j front) head₀)
+Inv-loop front count head₀ z j₀ head j = (j ≤ length front) × (length head₀ ≡ length front + 2) × (length head ≡ length front + 2)
+    × (head ≡ over ([] ++ take j front) head₀)
 
 abbrev μ-loop : tie.MeasureT-loop
 μ-loop front count head₀ z j₀ head j = length front - j
@@ -31,9 +33,15 @@ loop-less : tie.Need-loop-less Inv-loop μ-loop
 loop-less c = omega (arith, c .before .loop-test .taken)
 
 loop-again : tie.Need-loop-again Inv-loop μ-loop
-loop-again c = let at = c .before .before .loop in
-    let a = c .before .before .before .args in
-    (omega (arith, c .before .loop-test .taken), at .inv .1, simp length-set (at .inv .2), over-copy [] (a .head .now) (at .head) (at .j) (getD (a .front .now) (at .j) 0) (omega (arith, c .before .loop-test .taken, at .inv .1)) (a .front .now) (at .j) (at .inv .3) (omega arith) (c .before .loop-test .taken) refl)
+loop-again c =
+    let a = c .before .before .before .args in let front = a .front .now in let loop-test = c .before .loop-test .taken in
+    let inv = c .before .before .loop .inv in let j = c .before .before .loop .j in (
+      omega (arith, loop-test),
+      inv .1,
+      simp length-set (inv .2),
+      over-copy [] (a .head .now) (c .before .before .loop .head) j (getD front j 0) (omega (arith, loop-test, inv .1)) front j (inv .3)
+          (omega arith) loop-test refl,
+    )
 
 cast-head : tie.Need-cast-head Inv-loop μ-loop
 cast-head c = search needs

@@ -18,9 +18,15 @@ same-length : tie.Need-same-length
 same-length c = search needs
 
 returns : tie.Need-returns
-returns c = let a = c .before .before .before .before .before .before .before .before .before .before .args in
-    let e = fit-no (a .rows .now) (a .n) (a .head) (a .k) (a .p .now) (smallBy (a .front .now) (storedMachine (a .rows .now) (a .n) (a .head) (a .k)) (a .p .now)) (length (a .buf .now)) (sym (c .before .before .before .before .before .check .ensures) ∙ not-true _ (c .before .before .before .before .if1 .taken)) in
-    (c .before .before .refuse .ensures .0 ∙ e .0, c .before .before .refuse .ensures .1 ∙ e .1)
+returns c =
+    let b = c .before .before in let refuse = b .refuse in
+    let b2 = b .before .before in let if1 = b2 .if1 in
+    let check = b2 .before .check in
+    let a = b2 .before .before .before .before .before .before .args in
+    let rows = a .rows .now in let n = a .n in let head = a .head in let k = a .k in let p = a .p .now in
+    let e = fit-no rows n head k p (smallBy (a .front .now) (storedMachine rows n head k) p) (length (a .buf .now)) (sym (check .ensures)
+    ∙ not-true _ (if1 .taken)) in
+    (refuse .ensures .0 ∙ e .0, refuse .ensures .1 ∙ e .1)
 
 write-small-requires : tie.Need-write-small-requires
 write-small-requires c κs = sym (c .before .before .check .ensures) ∙ not-false _ (c .before .if1 .left)
@@ -29,8 +35,14 @@ same-length-2 : tie.Need-same-length-2
 same-length-2 c = search needs
 
 returns-2 : tie.Need-returns-2
-returns-2 c = let a = c .before .before .before .before .before .before .before .before .before .before .args in
-    fit-yes (a .rows .now) (a .n) (a .head) (a .k) (a .p .now) (smallBy (a .front .now) (storedMachine (a .rows .now) (a .n) (a .head) (a .k)) (a .p .now)) (length (a .buf .now)) (sym (c .before .before .before .before .before .check .ensures) ∙ not-false _ (c .before .before .before .before .if1 .left)) _ _ (c .before .before .write-small .ensures .0, c .before .before .write-small .ensures .1)
+returns-2 c =
+    let b = c .before .before in let write-small = b .write-small in
+    let b2 = b .before .before in let if1 = b2 .if1 in
+    let check = b2 .before .check in
+    let a = b2 .before .before .before .before .before .before .args in
+    let rows = a .rows .now in let n = a .n in let head = a .head in let k = a .k in let p = a .p .now in
+    fit-yes rows n head k p (smallBy (a .front .now) (storedMachine rows n head k) p) (length (a .buf .now)) (sym (check .ensures)
+    ∙ not-false _ (if1 .left)) _ _ (write-small .ensures .0, write-small .ensures .1)
 
 pub write-spec : {M : Type 1} → statement M
 write-spec =

@@ -18,13 +18,34 @@ add-from : tie.Need-add-from
 add-from c = search needs
 
 add-size : tie.Need-add-size
-add-size c = let a = c .before .before .before .before .before .args in omega (arith, is-stored (a .rows .now) (a .n) (a .head) (a .k) (a .p .now) (c .before .before .before .before .before .pre) .narrow)
+add-size c =
+    let a = c .before .before .before .before .before .args in let pre = c .before .before .before .before .before .pre in
+    omega (arith, is-stored (a .rows .now) (a .n) (a .head) (a .k) (a .p .now) pre .narrow)
 
 mul-size : tie.Need-mul-size
-mul-size c = let a = c .before .before .before .before .before .args in omega (arith, size-small (c .highest-class .result) (a .k) (c .highest-class .ensures .1) (omega (arith, is-stored (a .rows .now) (a .n) (a .head) (a .k) (a .p .now) (c .before .before .before .before .before .pre) .narrow)))
+mul-size c =
+    let a = c .before .before .before .before .before .args in let k = a .k in
+    let pre = c .before .before .before .before .before .pre in
+    omega (
+      arith,
+      size-small (c .highest-class .result) k (c .highest-class .ensures .1) (omega (
+        arith,
+        is-stored (a .rows .now) (a .n) (a .head) k (a .p .now) pre .narrow,
+      )),
+    )
 
 add-size-2 : tie.Need-add-size-2
-add-size-2 c = let a = c .before .before .before .before .before .args in omega (arith, c .before .before .before .before .before .good .0 .1, size-small (c .highest-class .result) (a .k) (c .highest-class .ensures .1) (omega (arith, is-stored (a .rows .now) (a .n) (a .head) (a .k) (a .p .now) (c .before .before .before .before .before .pre) .narrow)))
+add-size-2 c =
+    let a = c .before .before .before .before .before .args in let k = a .k in
+    let good = c .before .before .before .before .before .good in let pre = c .before .before .before .before .before .pre in
+    omega (
+      arith,
+      good .0 .1,
+      size-small (c .highest-class .result) k (c .highest-class .ensures .1) (omega (
+        arith,
+        is-stored (a .rows .now) (a .n) (a .head) k (a .p .now) pre .narrow,
+      )),
+    )
 
 refuse-requires : tie.Need-refuse-requires
 refuse-requires c κs = search needs
@@ -33,9 +54,14 @@ same-length : tie.Need-same-length
 same-length c = search needs
 
 returns : tie.Need-returns
-returns c = let a = c .before .before .before .before .before .before .before .before .before .before .args in
-    let e = small-short (a .front .now) (storedMachine (a .rows .now) (a .n) (a .head) (a .k)) (a .p .now) (c .before .before .before .before .before .highest-class .result + 1) (length (a .buf .now)) (one-more _ _ (c .before .before .before .before .before .highest-class .ensures .0)) (c .before .before .before .before .if1 .taken) in
-    (c .before .before .refuse .ensures .0 ∙ e .0, c .before .before .refuse .ensures .1 ∙ e .1)
+returns c =
+    let b = c .before .before in let refuse = b .refuse in
+    let b2 = b .before .before in let if1 = b2 .if1 in
+    let highest-class = b2 .before .highest-class in
+    let a = b2 .before .before .before .before .before .before .args in
+    let e = small-short (a .front .now) (storedMachine (a .rows .now) (a .n) (a .head) (a .k)) (a .p .now) (highest-class .result + 1)
+    (length (a .buf .now)) (one-more _ _ (highest-class .ensures .0)) (if1 .taken) in
+    (refuse .ensures .0 ∙ e .0, refuse .ensures .1 ∙ e .1)
 
 sub-put-head : tie.Need-sub-put-head
 sub-put-head c = search needs
@@ -59,15 +85,23 @@ part-put-rows-end : tie.Need-part-put-rows-end
 part-put-rows-end c = search needs
 
 put-rows-requires : tie.Need-put-rows-requires
-put-rows-requires c κs = let a = c .before .before .before .before .before .before .before .before .before .before .before .args in
-    let s = is-stored (a .rows .now) (a .n) (a .head) (a .k) (a .p .now) (c .before .before .before .before .before .before .before .before .before .before .before .pre) in
-    let f = fitting (a .rows .now) (a .n) (a .head) (a .k) (a .p .now) (c .before .before .before .before .before .before .before .before .before .before .before .pre) in
-    let w = (c .before .before .before .before .before .before .highest-class .result + 1) * (1 + a .k) in (
+put-rows-requires c κs =
+    let a = c .before .before .before .before .before .before .before .before .before .before .before .args in
+    let front = a .front .now in let head = a .head in let k = a .k in let n = a .n in let p = a .p .now in
+    let rows = a .rows .now in let put-head = c .before .before .before .put-head .ensures in
+    let put-head-last = c .before .before .before .put-head .last in
+    let if1 = c .before .before .before .before .before .if1 .left in
+    let highest-class = c .before .before .before .before .before .before .highest-class .ensures in
+    let highest-class-result = c .before .before .before .before .before .before .highest-class .result in
+    let pre = c .before .before .before .before .before .before .before .before .before .before .before .pre in
+    let s = is-stored rows n head k p pre in
+    let f = fitting rows n head k p pre in
+    let w = (highest-class-result + 1) * (1 + k) in (
       s,
       f .sized,
-      omega (arith, c .before .before .before .before .before .before .highest-class .ensures .1),
-      rows-part (a .buf .now) (c .before .before .before .put-head .last .1 .1 .0) (length (a .front .now) + 2) w (c .before .before .before .before .before .if1 .left) (ap length (c .before .before .before .put-head .ensures) ∙ length-append (a .front .now) _) _ refl,
-      λ d h. first-below (a .rows .now) (a .n) (a .head) (a .k) (a .p .now) (c .before .before .before .before .before .before .before .before .before .before .before .pre) d (omega (arith, h, c .before .before .before .before .before .before .highest-class .ensures .0)),
+      omega (arith, highest-class .1),
+      rows-part (a .buf .now) (put-head-last .1 .1 .0) (length front + 2) w if1 (ap length put-head ∙ length-append front _) _ refl,
+      λ d h. first-below rows n head k p pre d (omega (arith, h, highest-class .0)),
     )
 
 part-clear-start : tie.Need-part-clear-start
@@ -83,14 +117,22 @@ same-length-2 : tie.Need-same-length-2
 same-length-2 c = search needs
 
 returns-2 : tie.Need-returns-2
-returns-2 c = let a = c .before .before .before .before .before .before .before .before .before .before .before .before .before .before .before .before .before .before .args in
-    let count = c .before .before .before .before .before .before .before .before .before .before .before .before .before .highest-class .result + 1 in
-    let from = length (a .front .now) + 2 in
-    let size = from + count * (1 + a .k) in
-    let e = one-more _ _ (c .before .before .before .before .before .before .before .before .before .before .before .before .before .highest-class .ensures .0) in
-    small-done (a .front .now) (storedMachine (a .rows .now) (a .n) (a .head) (a .k)) (a .p .now) _ count (length (a .buf .now)) size e refl (c .before .before .before .before .before .before .before .before .before .before .before .before .if1 .left)
-    (three-parts (a .front .now) (storedMachine (a .rows .now) (a .n) (a .head) (a .k)) (a .p .now) (a .buf .now) (c .before .before .before .before .before .before .before .before .before .before .put-head .last .1 .1 .0) (c .before .before .before .before .before .before .put-rows .last .1 .1 .0) (c .before .before .clear .last .0) count from size (length (a .buf .now)) e refl refl refl (c .before .before .before .before .before .before .before .before .before .before .before .before .if1 .left)
-    (c .before .before .before .before .before .before .before .before .before .before .put-head .ensures) (c .before .before .before .before .before .before .put-rows .ensures) _ _ _ (c .before .before .clear .ensures) refl refl refl)
+returns-2 c =
+    let b = c .before .before in let clear = b .clear in
+    let b2 = b .before .before .before .before in let put-rows = b2 .put-rows in
+    let b3 = b2 .before .before .before .before in let put-head = b3 .put-head in
+    let b4 = b3 .before .before in let if1 = b4 .if1 in
+    let highest-class = b4 .before .highest-class in
+    let a = b4 .before .before .before .before .before .before .args in
+    let front = a .front .now in let k = a .k in let rows = a .rows .now in let n = a .n in let head = a .head in
+    let p = a .p .now in let buf = a .buf .now in
+    let count = highest-class .result + 1 in
+    let from = length front + 2 in
+    let size = from + count * (1 + k) in
+    let e = one-more _ _ (highest-class .ensures .0) in
+    small-done front (storedMachine rows n head k) p _ count (length buf) size e refl (if1 .left)
+    (three-parts front (storedMachine rows n head k) p buf (put-head .last .1 .1 .0) (put-rows .last .1 .1 .0) (clear .last .0) count from
+    size (length buf) e refl refl refl (if1 .left) (put-head .ensures) (put-rows .ensures) _ _ _ (clear .ensures) refl refl refl)
 
 pub write-small-spec : {M : Type 1} → statement M
 write-small-spec =

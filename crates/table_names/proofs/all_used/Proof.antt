@@ -4,10 +4,9 @@ use mathlib.Core.Path.{_≡_}
 use mathlib.Core.Bool.{true}
 use lib.ListN.{getD}
 use lib.Dec.{eqb}
-use Rattle.theory_resolution.specs.Lists.{tabulate}
-use Rattle.base_text.specs.Text.{all}
-use Rattle.table_places.specs.Tests.{any}
-use Rattle.table_places.proofs.TestLaws.{all-start, all-next, all-fails, all-ends}
+use Rattle.base_lists.proofs.Tests.{all-start, all-next, all-fails, all-ends}
+use Rattle.base_lists.specs.Tests.{all, any}
+use Rattle.base_lists.specs.Lists.{tabulate}
 use Rattle.table_names.proofs.RoomLaws.{no-room, used-as}
 use borrow.Author.Needs.{needs}
 use Rattle.table_names.proofs.all_used.Statement.{statement}
@@ -38,10 +37,17 @@ loop-again : tie.Need-loop-again Inv-loop μ-loop
 loop-again c = (omega arith, all-next _ _ _ (c .before .before .before .loop .inv .1) (c .before .has-category .ensures) (c .if2 .taken))
 
 returns-2 : tie.Need-returns-2 Inv-loop μ-loop
-returns-2 c = let a = c .before .before .before .before .before .args in used-as (a .category .now) (a .m) (a .n) (omega (arith, c .before .before .before .before .if1 .left)) (all-fails _ _ _ _ (c .before .before .loop-test .taken) (c .before .has-category .ensures) (c .if2 .left))
+returns-2 c =
+    let a = c .before .before .before .before .before .args in let if1 = c .before .before .before .before .if1 .left in
+    used-as (a .category .now) (a .m) (a .n) (omega (
+      arith,
+      if1,
+    )) (all-fails _ _ _ _ (c .before .before .loop-test .taken) (c .before .has-category .ensures) (c .if2 .left))
 
 returns-3 : tie.Need-returns-3 Inv-loop μ-loop
-returns-3 c = let a = c .before .before .before .args in used-as (a .category .now) (a .m) (a .n) (omega (arith, c .before .before .if1 .left)) (all-ends _ _ _ _ (c .before .loop .inv .1) (c .before .loop .inv .0) (c .loop-test .left))
+returns-3 c =
+    let a = c .before .before .before .args in let inv = c .before .loop .inv in
+    used-as (a .category .now) (a .m) (a .n) (omega (arith, c .before .before .if1 .left)) (all-ends _ _ _ _ (inv .1) (inv .0) (c .loop-test .left))
 
 pub all-used-spec : {M : Type 1} → statement M
 all-used-spec =

@@ -5,9 +5,9 @@ use mathlib.Core.Bool.{false}
 use lib.ListN.{getD}
 use lib.Dec.{eqb}
 use borrow.Author.Tests.{eq-eqb, ne-eqb}
-use Rattle.theory_resolution.specs.Lists.{tabulate}
-use Rattle.table_places.specs.Tests.{any}
-use Rattle.table_places.proofs.TestLaws.{any-start, any-next, any-found, any-ends}
+use Rattle.base_lists.proofs.Tests.{any-start, any-next, any-found, any-ends}
+use Rattle.base_lists.specs.Tests.{any}
+use Rattle.base_lists.specs.Lists.{tabulate}
 use borrow.Author.Needs.{needs}
 use Rattle.table_names.proofs.has_category.Statement.{statement}
 use Rattle.table_names.proofs.has_category.Tie as tie
@@ -28,7 +28,10 @@ wide-requires : tie.Need-wide-requires Inv-loop μ-loop
 wide-requires c κs = search needs
 
 returns : tie.Need-returns Inv-loop μ-loop
-returns c = any-found _ _ _ _ (c .before .before .before .before .loop .inv .1) (c .before .before .before .loop-test .taken) (eq-eqb _ _ (sym (c .before .wide .ensures .0) ∙ c .if1 .taken))
+returns c =
+    let loop-test = c .before .before .before .loop-test in
+    let loop = c .before .before .before .before .loop in
+    any-found _ _ _ _ (loop .inv .1) (loop-test .taken) (eq-eqb _ _ (sym (c .before .wide .ensures .0) ∙ c .if1 .taken))
 
 add-i : tie.Need-add-i Inv-loop μ-loop
 add-i c = search needs
@@ -37,7 +40,9 @@ loop-less : tie.Need-loop-less Inv-loop μ-loop
 loop-less c = omega arith
 
 loop-again : tie.Need-loop-again Inv-loop μ-loop
-loop-again c = (omega arith, any-next _ _ _ (c .before .before .before .before .loop .inv .1) (ne-eqb _ _ (λ e. c .if1 .left (c .before .wide .ensures .0 ∙ e))))
+loop-again c =
+    let inv = c .before .before .before .before .loop .inv in
+    (omega arith, any-next _ _ _ (inv .1) (ne-eqb _ _ (λ e. c .if1 .left (c .before .wide .ensures .0 ∙ e))))
 
 returns-2 : tie.Need-returns-2 Inv-loop μ-loop
 returns-2 c = any-ends _ _ _ _ (c .before .loop .inv .1) (c .before .loop .inv .0) (c .loop-test .left)

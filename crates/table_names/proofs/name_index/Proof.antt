@@ -2,10 +2,10 @@ use native.Mathlib.Omega.{arith}
 use Prim.Native.Nat.{_≤_, _-_}
 use mathlib.Core.Path.{_≡_, ap, _∙_}
 use mathlib.Core.Bool.{false}
-use Rattle.theory_resolution.specs.Lists.{tabulate, memberBy}
+use Rattle.base_lists.proofs.Tabulated.{index-start, index-hit, index-next, index-none}
+use Rattle.base_lists.specs.Lists.{tabulate, memberBy}
 use Rattle.theory_resolution.specs.Names.{sameName}
 use Rattle.node_search.specs.Arrays.{textIn}
-use Rattle.table_sections.proofs.Tabulated.{index-start, index-hit, index-next, index-none}
 use borrow.Author.Needs.{needs}
 use Rattle.table_names.proofs.name_index.Statement.{statement}
 use Rattle.table_names.proofs.name_index.Tie as tie
@@ -26,7 +26,13 @@ same-requires : tie.Need-same-requires Inv-loop μ-loop
 same-requires c κs = search needs
 
 returns : tie.Need-returns Inv-loop μ-loop
-returns c = (index-hit _ _ _ _ _ (c .before .before .before .before .loop .inv .1) (c .before .before .before .loop-test .taken) (c .before .same .ensures ∙ ap (sameName (c .before .before .before .before .before .before .before .args .s .now)) (c .before .before .name-text .ensures .0)) (c .if1 .taken), omega arith)
+returns c =
+    let loop-test = c .before .before .before .loop-test .taken in let inv = c .before .before .before .before .loop .inv in
+    let s = c .before .before .before .before .before .before .before .args .s .now in (
+      index-hit _ _ _ _ _ (inv .1) loop-test (c .before .same .ensures ∙ ap (sameName s) (c .before .before .name-text .ensures .0))
+          (c .if1 .taken),
+      omega arith,
+    )
 
 add-i : tie.Need-add-i Inv-loop μ-loop
 add-i c = search needs
@@ -35,7 +41,11 @@ loop-less : tie.Need-loop-less Inv-loop μ-loop
 loop-less c = omega arith
 
 loop-again : tie.Need-loop-again Inv-loop μ-loop
-loop-again c = (omega arith, index-next _ _ _ _ (c .before .before .before .before .before .before .before .args .n) (c .before .before .before .before .loop .inv .1) (c .before .same .ensures ∙ ap (sameName (c .before .before .before .before .before .before .before .args .s .now)) (c .before .before .name-text .ensures .0)) (c .if1 .left))
+loop-again c =
+    let inv = c .before .before .before .before .loop .inv in
+    let n = c .before .before .before .before .before .before .before .args .n in
+    let s = c .before .before .before .before .before .before .before .args .s .now in
+    (omega arith, index-next _ _ _ _ n (inv .1) (c .before .same .ensures ∙ ap (sameName s) (c .before .before .name-text .ensures .0)) (c .if1 .left))
 
 returns-2 : tie.Need-returns-2 Inv-loop μ-loop
 returns-2 c = (index-none _ _ _ _ _ (c .before .loop .inv .1) (c .before .loop .inv .0) (c .loop-test .left), omega arith)

@@ -2,11 +2,11 @@ use native.Mathlib.Omega.{arith}
 use Prim.Native.Nat.{_≤_, _-_}
 use mathlib.Core.Path.{_≡_}
 use mathlib.Core.Bool.{true}
-use Rattle.theory_resolution.specs.Lists.{tabulate}
+use Rattle.base_lists.proofs.Tests.{two-start, two-ends}
+use Rattle.base_lists.specs.Tests.{noTwo}
+use Rattle.base_lists.specs.Lists.{tabulate}
 use Rattle.theory_resolution.specs.Names.{sameName}
 use Rattle.node_search.specs.Arrays.{textIn}
-use Rattle.table_places.specs.Tests.{noTwo}
-use Rattle.table_places.proofs.TestLaws.{two-start, two-ends}
 use Rattle.table_names.proofs.NameLaws.{name-twice, name-once}
 use borrow.Author.Needs.{needs}
 use Rattle.table_names.proofs.names_distinct.Statement.{statement}
@@ -28,7 +28,9 @@ name-index-requires : tie.Need-name-index-requires Inv-loop μ-loop
 name-index-requires c κs = search needs
 
 returns : tie.Need-returns Inv-loop μ-loop
-returns c = name-twice _ _ _ (c .before .before .name-text .ensures .0) (c .before .name-index .ensures .0) (c .before .before .before .loop-test .taken) (c .if1 .taken)
+returns c =
+    let loop-test = c .before .before .before .loop-test in
+    name-twice _ _ _ (c .before .before .name-text .ensures .0) (c .before .name-index .ensures .0) (loop-test .taken) (c .if1 .taken)
 
 add-i : tie.Need-add-i Inv-loop μ-loop
 add-i c = search needs
@@ -37,7 +39,10 @@ loop-less : tie.Need-loop-less Inv-loop μ-loop
 loop-less c = omega arith
 
 loop-again : tie.Need-loop-again Inv-loop μ-loop
-loop-again c = (omega arith, name-once _ _ (c .before .before .before .before .before .before .args .n) (c .before .before .name-text .ensures .0) (c .before .name-index .ensures .0) (c .before .before .before .before .loop .inv .1) (c .if1 .left))
+loop-again c =
+    let inv = c .before .before .before .before .loop .inv in
+    let n = c .before .before .before .before .before .before .args .n in
+    (omega arith, name-once _ _ n (c .before .before .name-text .ensures .0) (c .before .name-index .ensures .0) (inv .1) (c .if1 .left))
 
 returns-2 : tie.Need-returns-2 Inv-loop μ-loop
 returns-2 c = two-ends _ _ _ _ (c .before .loop .inv .1) (c .before .loop .inv .0) (c .loop-test .left)

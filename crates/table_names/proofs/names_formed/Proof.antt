@@ -2,11 +2,11 @@ use native.Mathlib.Omega.{arith}
 use Prim.Native.Nat.{_≤_, _-_}
 use mathlib.Core.Path.{_≡_, ap, _∙_}
 use mathlib.Core.Bool.{true}
-use Rattle.theory_resolution.specs.Lists.{tabulate}
-use Rattle.base_text.specs.Text.{all}
+use Rattle.base_lists.proofs.Tests.{all-start, all-next, all-fails, all-ends}
+use Rattle.base_lists.specs.Tests.{all}
+use Rattle.base_lists.specs.Lists.{tabulate}
 use Rattle.urn_names.specs.Urn.{storedName}
 use Rattle.node_search.specs.Arrays.{textIn}
-use Rattle.table_places.proofs.TestLaws.{all-start, all-next, all-fails, all-ends}
 use borrow.Author.Needs.{needs}
 use Rattle.table_names.proofs.names_formed.Statement.{statement}
 use Rattle.table_names.proofs.names_formed.Tie as tie
@@ -33,10 +33,14 @@ loop-less : tie.Need-loop-less Inv-loop μ-loop
 loop-less c = omega arith
 
 loop-again : tie.Need-loop-again Inv-loop μ-loop
-loop-again c = (omega arith, all-next _ _ _ (c .before .before .before .before .loop .inv .1) (c .before .stored-name .ensures ∙ ap storedName (c .before .before .name-text .ensures .0)) (c .if1 .taken))
+loop-again c =
+    let inv = c .before .before .before .before .loop .inv in
+    (omega arith, all-next _ _ _ (inv .1) (c .before .stored-name .ensures ∙ ap storedName (c .before .before .name-text .ensures .0)) (c .if1 .taken))
 
 returns : tie.Need-returns Inv-loop μ-loop
-returns c = all-fails _ _ _ _ (c .before .before .before .loop-test .taken) (c .before .stored-name .ensures ∙ ap storedName (c .before .before .name-text .ensures .0)) (c .if1 .left)
+returns c =
+    let loop-test = c .before .before .before .loop-test in
+    all-fails _ _ _ _ (loop-test .taken) (c .before .stored-name .ensures ∙ ap storedName (c .before .before .name-text .ensures .0)) (c .if1 .left)
 
 returns-2 : tie.Need-returns-2 Inv-loop μ-loop
 returns-2 c = all-ends _ _ _ _ (c .before .loop .inv .1) (c .before .loop .inv .0) (c .loop-test .left)

@@ -30,10 +30,19 @@ read-rest-requires : tie.Need-read-rest-requires
 read-rest-requires c κs = search needs
 
 returns-2 : tie.Need-returns-2
-returns-2 c = λ a l r. first-at-fault _ (c .before .before .before .before .before .before .before .if1 .left) _ _ (c .before .before .before .before .read-categories .ensures .0 (c .before .before .before .before .before .before .before .if1 .left) a l) (c .at-fault2 .ensures) (c .before .before .got .given .1)
+returns-2 c =
+    let b = c .before .before .before .before in let read-categories = b .read-categories in
+    let if1 = b .before .before .before .if1 in
+    λ a l r. first-at-fault _ (if1 .left) _ _ (read-categories .ensures .0 (if1 .left) a l) (c .at-fault2 .ensures) (c .before .before .got .given .1)
 
 returns-3 : tie.Need-returns-3
-returns-3 c = λ a l r. both-read _ (c .before .before .before .before .before .before .before .before .before .before .if1 .left) (c .before .before .before .before .before .before .before .read-categories .last .1 .0) (c .before .before .before .before .before .before .before .read-categories .last .1 .1 .0) (c .before .before .before .before .before .before .before .read-categories .ensures .0 (c .before .before .before .before .before .before .before .before .before .before .if1 .left) a l) _ _ (c .before .before .before .before .before .got2 .given .1) (c .read-rest .ensures .0 r) (c .read-rest .ensures .1) (at-most-got _ _ (c .before .before .before .before .before .before .before .read-categories .ensures .1) (c .before .before .before .before .before .got2 .given .1))
+returns-3 c =
+    let b = c .before .before .before .before .before in let got2 = b .got2 in
+    let b2 = b .before .before in let read-categories = b2 .read-categories in
+    let if1 = b2 .before .before .before .if1 in
+    λ a l r. both-read _ (if1 .left) (read-categories .last .1 .0) (read-categories .last .1 .1 .0)
+    (read-categories .ensures .0 (if1 .left) a l) _ _ (got2 .given .1) (c .read-rest .ensures .0 r) (c .read-rest .ensures .1)
+    (at-most-got _ _ (read-categories .ensures .1) (got2 .given .1))
 
 pub read-spec : {M : Type 1} → statement M
 read-spec =

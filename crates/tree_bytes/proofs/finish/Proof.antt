@@ -16,7 +16,12 @@ same-length : tie.Need-same-length
 same-length c = search needs
 
 returns : tie.Need-returns
-returns c = finish-fits (c .before .before .before .before .before .before .before .args .buf .now) (c .before .before .before .before .before .before .before .args .n) (c .before .before .clear .last .0) (c .before .before .before .before .before .if1 .taken) (c .before .before .before .before .if2 .taken) (c .before .before .clear .ensures)
+returns c =
+    let b = c .before .before in let clear = b .clear in
+    let b2 = b .before .before in let if2 = b2 .if2 in
+    let if1 = b2 .before .if1 in
+    let a = b2 .before .before .before .args in
+    finish-fits (a .buf .now) (a .n) (clear .last .0) (if1 .taken) (if2 .taken) (clear .ensures)
 
 refuse-requires : tie.Need-refuse-requires
 refuse-requires c κs = search needs
@@ -25,7 +30,12 @@ same-length-2 : tie.Need-same-length-2
 same-length-2 c = search needs
 
 returns-2 : tie.Need-returns-2
-returns-2 c = finish-over (c .before .before .before .before .before .before .before .args .buf .now) (c .before .before .before .before .before .before .before .args .n) (c .before .before .before .before .before .if1 .taken) (c .before .before .before .before .if2 .left) (c .before .before .refuse .ensures .0) (c .before .before .refuse .ensures .1)
+returns-2 c =
+    let b = c .before .before in let refuse = b .refuse in
+    let b2 = b .before .before in let if2 = b2 .if2 in
+    let if1 = b2 .before .if1 in
+    let a = b2 .before .before .before .args in
+    finish-over (a .buf .now) (a .n) (if1 .taken) (if2 .left) (refuse .ensures .0) (refuse .ensures .1)
 
 refuse-requires-2 : tie.Need-refuse-requires-2
 refuse-requires-2 c κs = search needs
@@ -34,7 +44,11 @@ same-length-3 : tie.Need-same-length-3
 same-length-3 c = search needs
 
 returns-3 : tie.Need-returns-3
-returns-3 c = finish-not (c .before .before .before .before .before .before .args .buf .now) (c .before .before .before .before .before .before .args .n) (c .before .before .before .before .if1 .left) (c .before .before .refuse2 .ensures .0) (c .before .before .refuse2 .ensures .1)
+returns-3 c =
+    let b = c .before .before in let refuse2 = b .refuse2 in
+    let if1 = b .before .before .if1 in
+    let a = b .before .before .before .before .args in
+    finish-not (a .buf .now) (a .n) (if1 .left) (refuse2 .ensures .0) (refuse2 .ensures .1)
 
 pub finish-spec : {M : Type 1} → statement M
 finish-spec =

@@ -1,4 +1,5 @@
 use lib.ListN.{replicate}
+use Rattle.base_numbers.specs.Numbers.{mostNodes, mostTableUrns}
 use Rattle.table_names.specs.Categories.{Fits}
 use mathlib.Core.Path.{refl}
 use Rattle.table_sections.proofs.Padding.{clear}
@@ -18,14 +19,27 @@ add-all-requires : tie.Need-add-all-requires
 add-all-requires c κs = search needs
 
 returns : tie.Need-returns
-returns c = let a = c .before .before .before .before .before .before .before .before .before .before .before .before .before .before .before .before .before .before .before .before .before .before .args in
-    let g = c .before .before .before .before .before .before .before .before .before .before .before .before .before .before .before .before .before .before .before .before .before .before .pre in
-    let l = c .before .before .before .before .before .before .before .before .before .before .before .before .before .before .before .read .result in
-    let R = c .before .before .before .before .before .before .before .before .before .before .before .before .before .before .before .read .ensures (clear 8) (clear 8) (refl, refl, g .2) in
-    let h = held (a .t .now) _ _ _ _ _ l R (g .0) in
-    let f : Fits (a .t .now) (l .categories) (l .urns) (replicate 256 0) = (short (a .t .now) _ _ _ _ _ l R (g .0), h .few-categories, h .few-urns, refl) in
-    let X = indexed-in _ _ _ _ _ _ _ (f .1) (c .before .before .before .before .before .before .before .before .before .index-urns .ensures .1 f (all-listed (a .t .now) _ _ _ _ _ l R (g .0) (listed-in _ _ _ _ _ _ _ (f .1) (c .before .before .before .before .before .before .before .before .before .index-urns .ensures .0) (f .2)))) in
-    (numbers-stored (a .t .now) _ _ _ _ (c .before .before .before .before .before .before .before .before .before .before .before .before .before .before .before .read .last .1 .1 .1 .1 .1 .0) l R (g .0) X (c .add-all .ensures (h .few-urns) (g .1, clear 64, clear 64, clear 64, clear 64)), h .few-urns)
+returns c =
+    let b = c .before .before .before .before .before .before .before .before in
+    let index-urns = b .before .index-urns in
+    let b2 = b .before .before .before .before .before .before .before in let read = b2 .read in
+    let b3 = b2 .before .before .before .before .before .before .before in let a = b3 .args in let g = b3 .pre in
+    let t = a .t .now in
+    let l = read .result in
+    let R = read .ensures (clear 8) (clear 8) (refl, refl, g .2) in
+    let h = held t _ _ _ _ _ l R (g .0) in
+    let f : Fits t (l .categories) (l .urns) (replicate mostTableUrns 0) = (short t _ _ _ _ _ l R (g .0), h .few-categories, h .few-urns, refl) in
+    let X = indexed-in _ _ _ _ _ _ _ (f .1)
+    (index-urns .ensures .1 f (all-listed t _ _ _ _ _ l R (g .0) (listed-in _ _ _ _ _ _ _ (f .1) (index-urns .ensures .0) (f .2)))) in (
+      numbers-stored t _ _ _ _ (read .last .1 .1 .1 .1 .1 .0) l R (g .0) X (c .add-all .ensures (h .few-urns) (
+        g .1,
+        clear mostNodes,
+        clear mostNodes,
+        clear mostNodes,
+        clear mostNodes,
+      )),
+      h .few-urns,
+    )
 
 pub stored-numbers-spec : {M : Type 1} → statement M
 stored-numbers-spec =

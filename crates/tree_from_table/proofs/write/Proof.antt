@@ -14,10 +14,19 @@ same-length : tie.Need-same-length
 same-length c = search needs
 
 returns : tie.Need-returns
-returns c = not-to (length (c .before .before .before .before .before .before .before .before .args .buf .now)) (c .before .before .before .before .if1 .taken) (c .before .before .refuse .ensures .0) (c .before .before .refuse .ensures .1) (c .before .before .before .before .before .before .before .before .args .t .now) (c .before .before .before .before .before .decode .ensures .refusal)
+returns c =
+    let b = c .before .before in let refuse = b .refuse in
+    let b2 = b .before .before in let if1 = b2 .if1 in
+    let decode = b2 .before .decode in
+    let a = b2 .before .before .before .before .args in
+    not-to (length (a .buf .now)) (if1 .taken) (refuse .ensures .0) (refuse .ensures .1) (a .t .now) (decode .ensures .refusal)
 
 form-requires : tie.Need-form-requires
-form-requires c κs = stored-as (c .before .before .before .before .before .before .before .before .before .before .before .before .args .t .now) (c .before .before .before .before .before .before .before .before .before .decode .result) (c .before .before .before .before .before .before .before .before .before .decode .ensures) (c .before .before .before .before .before .before .before .before .if1 .left)
+form-requires c κs =
+    let b = c .before .before .before .before .before .before .before .before in let if1 = b .if1 in
+    let decode = b .before .decode in
+    let a = b .before .before .before .before .args in
+    stored-as (a .t .now) (decode .result) (decode .ensures) (if1 .left)
 
 same-length-2 : tie.Need-same-length-2
 same-length-2 c = search needs

@@ -20,10 +20,15 @@ read-rest-requires : tie.Need-read-rest-requires
 read-rest-requires c κs = search needs
 
 returns : tie.Need-returns
-returns c = both-stop _ _ _ _ _ _ (c .before .before .before .before .read-section .ensures .0) _ _ _ _ (c .at-fault .ensures) (c .before .before .got .given .1)
+returns c =
+    let read-section = c .before .before .before .before .read-section in
+    both-stop _ _ _ _ _ _ (read-section .ensures .0) _ _ _ _ (c .at-fault .ensures) (c .before .before .got .given .1)
 
 returns-2 : tie.Need-returns-2
-returns-2 c = both-read _ _ _ _ _ _ (c .before .before .before .before .before .before .read-section .ensures .0) _ _ (c .before .before .before .before .got2 .given .1) (at-most-got _ _ (c .before .before .before .before .before .before .read-section .ensures .1) (c .before .before .before .before .got2 .given .1)) (c .read-rest .ensures)
+returns-2 c =
+    let b = c .before .before .before .before in let got2 = b .got2 in
+    let read-section = b .before .before .read-section in
+    both-read _ _ _ _ _ _ (read-section .ensures .0) _ _ (got2 .given .1) (at-most-got _ _ (read-section .ensures .1) (got2 .given .1)) (c .read-rest .ensures)
 
 pub read-both-spec : {M : Type 1} → statement M
 read-both-spec =

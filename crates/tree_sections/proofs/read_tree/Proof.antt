@@ -26,10 +26,21 @@ read-both-requires : tie.Need-read-both-requires
 read-both-requires c κs = search needs
 
 returns-2 : tie.Need-returns-2
-returns-2 c = tree-stop _ _ _ (c .before .before .before .before .before .before .before .if1 .left) (c .before .before .before .before .read-categories .ensures .0 (c .before .before .before .before .before .before .before .if1 .left) (c .before .before .before .before .before .before .before .before .before .pre .0) (c .before .before .before .before .before .before .before .before .before .pre .1) .0) _ _ _ _ _ _ _ (c .at-fault2 .ensures) (c .before .before .got .given .1)
+returns-2 c =
+    let b = c .before .before .before .before in let read-categories = b .read-categories in
+    let b2 = b .before .before .before in let if1 = b2 .if1 in
+    let pre = b2 .before .before .pre in
+    tree-stop _ _ _ (if1 .left) (read-categories .ensures .0 (if1 .left) (pre .0) (pre .1) .0) _ _ _ _ _ _ _ (c .at-fault2 .ensures)
+    (c .before .before .got .given .1)
 
 returns-3 : tie.Need-returns-3
-returns-3 c = tree-read _ _ _ (c .before .before .before .before .before .before .before .before .before .before .before .before .before .if1 .left) (c .before .before .before .before .before .before .before .before .before .before .read-categories .ensures .0 (c .before .before .before .before .before .before .before .before .before .before .before .before .before .if1 .left) (c .before .before .before .before .before .before .before .before .before .before .before .before .before .before .before .pre .0) (c .before .before .before .before .before .before .before .before .before .before .before .before .before .before .before .pre .1) .0) _ _ (c .before .before .before .before .before .before .before .before .got2 .given .1) (at-most-got _ _ (c .before .before .before .before .before .before .before .before .before .before .read-categories .ensures .1) (c .before .before .before .before .before .before .before .before .got2 .given .1)) (c .read-both .ensures)
+returns-3 c =
+    let b = c .before .before .before .before .before .before .before .before in let got2 = b .got2 in
+    let b2 = b .before .before in let read-categories = b2 .read-categories in
+    let b3 = b2 .before .before .before in let if1 = b3 .if1 in
+    let pre = b3 .before .before .pre in
+    tree-read _ _ _ (if1 .left) (read-categories .ensures .0 (if1 .left) (pre .0) (pre .1) .0) _ _ (got2 .given .1)
+    (at-most-got _ _ (read-categories .ensures .1) (got2 .given .1)) (c .read-both .ensures)
 
 pub read-tree-spec : {M : Type 1} → statement M
 read-tree-spec =

@@ -15,7 +15,9 @@ same-length : tie.Need-same-length
 same-length c = search needs
 
 returns : tie.Need-returns
-returns c = not-from (length (c .before .before .before .before .before .before .before .before .args .buf .now)) (c .before .before .before .before .if1 .taken) (c .before .before .refuse .ensures .0) (c .before .before .refuse .ensures .1) (c .before .before .before .before .before .before .before .before .args .x .now) (c .before .before .before .before .before .decode .ensures .refusal)
+returns c = not-from (length (c .before .before .before .before .before .before .before .before .args .buf .now))
+    (c .before .before .before .before .if1 .taken) (c .before .before .refuse .ensures .0) (c .before .before .refuse .ensures .1)
+    (c .before .before .before .before .before .before .before .before .args .x .now) (c .before .before .before .before .before .decode .ensures .refusal)
 
 form-requires : tie.Need-form-requires
 form-requires c κs = let M = c .before .before .before .before .before .before .before .before .before .before .before .before .before .decode .ensures in

@@ -33,12 +33,18 @@ loop-less : tie.Need-loop-less Inv-loop μ-loop
 loop-less c = omega (arith, c .before .before .before .before .before .at-most .ensures .0)
 
 loop-again : tie.Need-loop-again Inv-loop μ-loop
-loop-again c = let a = c .before .before .before .before .before .before .before .before .args in
-    common-more (a .p .now) (a .w .now) (c .before .before .before .before .loop .i) (c .before .before .before .before .loop .inv) (omega (arith, c .before .before .before .before .before .at-most .ensures .0)) (omega (arith, c .before .before .before .before .before .at-most .ensures .0)) (c .if1 .taken)
+loop-again c =
+    let b = c .before .before .before .before in let loop = b .loop in
+    let at-most = b .before .at-most in
+    let a = b .before .before .before .before .args in
+    common-more (a .p .now) (a .w .now) (loop .i) (loop .inv) (omega (arith, at-most .ensures .0)) (omega (arith, at-most .ensures .0)) (c .if1 .taken)
 
 returns : tie.Need-returns Inv-loop μ-loop
-returns c = let a = c .before .before .before .before .before .before .before .before .args in
-    common-less (a .p .now) (a .w .now) (c .before .before .before .before .loop .i) (c .before .before .before .before .loop .inv) (omega (arith, c .before .before .before .before .before .at-most .ensures .0)) (omega (arith, c .before .before .before .before .before .at-most .ensures .0)) (c .if1 .left)
+returns c =
+    let b = c .before .before .before .before in let loop = b .loop in
+    let at-most = b .before .at-most in
+    let a = b .before .before .before .before .args in
+    common-less (a .p .now) (a .w .now) (loop .i) (loop .inv) (omega (arith, at-most .ensures .0)) (omega (arith, at-most .ensures .0)) (c .if1 .left)
 
 returns-2 : tie.Need-returns-2 Inv-loop μ-loop
 returns-2 c = let a = c .before .before .before .before .before .args in

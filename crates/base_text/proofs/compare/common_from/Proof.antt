@@ -42,8 +42,17 @@ loop-less : tie.Need-loop-less Inv-loop μ-loop
 loop-less c = omega (arith, c .before .before .before .before .before .before .at-most .ensures .0)
 
 loop-again : tie.Need-loop-again Inv-loop μ-loop
-loop-again c = let a = c .before .before .before .before .before .before .before .before .before .args in
-    commons-more (a .p .now) (a .w .now) 8 (c .before .before .before .before .before .loop .i) (λ k. omega (arith, c .before .before .before .before .before .before .before .before .shared-slice-known .given k)) (λ k. omega (arith, c .before .before .before .before .before .before .before .shared-slice-known2 .given k)) (c .before .before .before .before .before .loop .inv) (omega (arith, c .before .before .before .before .before .before .at-most .ensures .0)) (omega (arith, c .before .before .before .before .before .before .at-most .ensures .0)) (sym (c .before .before .word-at .ensures) ∙ c .if2 .taken ∙ c .before .word-at2 .ensures)
+loop-again c =
+    let b = c .before .before .before .before .before in let loop = b .loop in
+    let at-most = b .before .at-most in
+    let shared-slice-known2 = b .before .before .shared-slice-known2 in
+    let shared-slice-known = b .before .before .before .shared-slice-known in
+    let a = b .before .before .before .before .args in
+    commons-more (a .p .now) (a .w .now) 8 (loop .i) (λ k. omega (arith, shared-slice-known .given k)) (λ k. omega (
+      arith,
+      shared-slice-known2 .given k,
+    )) (loop .inv) (omega (arith, at-most .ensures .0)) (omega (arith, at-most .ensures .0)) (sym (c .before .before .word-at .ensures)
+    ∙ c .if2 .taken ∙ c .before .word-at2 .ensures)
 
 common-bytes-requires-2 : tie.Need-common-bytes-requires-2 Inv-loop μ-loop
 common-bytes-requires-2 c κs = search needs
@@ -52,7 +61,10 @@ returns-2 : tie.Need-returns-2 Inv-loop μ-loop
 returns-2 c = c .common-bytes2 .ensures ∙ sym (c .before .before .before .before .before .before .loop .inv)
 
 returns-3 : tie.Need-returns-3 Inv-loop μ-loop
-returns-3 c = let a = c .before .before .before .before .before .args in common-end (a .p .now) (a .w .now) (c .before .loop .i) (c .before .loop .inv) (omega (arith, c .before .before .at-most .ensures .0))
+returns-3 c =
+    let loop = c .before .loop in
+    let a = c .before .before .before .before .before .args in
+    common-end (a .p .now) (a .w .now) (loop .i) (loop .inv) (omega (arith, c .before .before .at-most .ensures .0))
 
 pub common-from-spec : {M : Type 1} → statement M
 common-from-spec =

@@ -19,7 +19,11 @@ shared-slice-read-result-2 : tie.Need-shared-slice-read-result-2
 shared-slice-read-result-2 c = search needs
 
 returns-3 : tie.Need-returns-3
-returns-3 c = let a = c .before .before .before .before .before .before .before .args in ends-last (a .a .now) (a .b .now) (c .before .before .before .before .if1 .left) (c .before .before .before .if2 .left) (c .before .before .if3 .taken)
+returns-3 c =
+    let b = c .before .before .before in let if2 = b .if2 in
+    let if1 = b .before .if1 in
+    let a = b .before .before .before .before .args in
+    ends-last (a .a .now) (a .b .now) (if1 .left) (if2 .left) (c .before .before .if3 .taken)
 
 word-at-requires : tie.Need-word-at-requires
 word-at-requires c κs = search needs
@@ -28,7 +32,11 @@ word-at-requires-2 : tie.Need-word-at-requires-2
 word-at-requires-2 c κs = search needs
 
 returns-4 : tie.Need-returns-4
-returns-4 c = let a = c .before .before .before .before .before .before .before .args in ends-words (a .a .now) (a .b .now) (c .before .before .before .before .if1 .left) (c .before .before .before .if2 .left) (c .before .before .if3 .left) (c .before .word-at .ensures) (c .word-at2 .ensures)
+returns-4 c =
+    let b = c .before .before .before in let if2 = b .if2 in
+    let if1 = b .before .if1 in
+    let a = b .before .before .before .before .args in
+    ends-words (a .a .now) (a .b .now) (if1 .left) (if2 .left) (c .before .before .if3 .left) (c .before .word-at .ensures) (c .word-at2 .ensures)
 
 pub ends-differ-spec : {M : Type 1} → statement M
 ends-differ-spec =

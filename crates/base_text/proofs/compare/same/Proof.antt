@@ -33,10 +33,24 @@ loop-less : tie.Need-loop-less Inv-loop μ-loop
 loop-less c = omega arith
 
 loop-again : tie.Need-loop-again Inv-loop μ-loop
-loop-again c = (omega arith, words-more (c .before .before .before .before .before .before .before .before .args .a .now) (c .before .before .before .before .before .before .before .before .args .b .now) 8 (c .before .before .before .before .loop .i) (λ k. omega (arith, c .before .before .before .before .before .before .before .shared-slice-known .given k)) (λ k. omega (arith, c .before .before .before .before .before .before .shared-slice-known2 .given k)) (c .before .before .before .before .loop .inv .1) (c .before .before .before .loop-test .taken) (omega arith) (sym (c .before .before .word-at .ensures) ∙ c .if2 .taken ∙ c .before .word-at2 .ensures))
+loop-again c =
+    let b = c .before .before .before in let loop-test = b .loop-test in
+    let loop = b .before .loop in
+    let b2 = b .before .before .before in let shared-slice-known2 = b2 .shared-slice-known2 in
+    let shared-slice-known = b2 .before .shared-slice-known in
+    let a = b2 .before .before .args in (
+      omega arith,
+      words-more (a .a .now) (a .b .now) 8 (loop .i) (λ k. omega (arith, shared-slice-known .given k)) (λ k. omega (
+        arith,
+        shared-slice-known2 .given k,
+      )) (loop .inv .1) (loop-test .taken) (omega arith) (sym (c .before .before .word-at .ensures) ∙ c .if2 .taken ∙ c .before .word-at2 .ensures),
+    )
 
 returns : tie.Need-returns Inv-loop μ-loop
-returns c = words-less (c .before .before .before .before .before .before .before .before .args .a .now) (c .before .before .before .before .before .before .before .before .args .b .now) (c .before .before .before .before .loop .i) 8 (c .before .before .word-at .ensures) (c .before .word-at2 .ensures) (c .if2 .left)
+returns c =
+    let b = c .before .before .before .before in let loop = b .loop in
+    let a = b .before .before .before .before .args in
+    words-less (a .a .now) (a .b .now) (loop .i) 8 (c .before .before .word-at .ensures) (c .before .word-at2 .ensures) (c .if2 .left)
 
 same-from-requires : tie.Need-same-from-requires Inv-loop μ-loop
 same-from-requires c κs = (omega arith, omega arith)

@@ -30,13 +30,24 @@ loop-less : tie.Need-loop-less Inv-loop μ-loop
 loop-less c = omega arith
 
 loop-again : tie.Need-loop-again Inv-loop μ-loop
-loop-again c = (omega arith, same-more (c .before .before .before .before .before .args .a .now) (c .before .before .before .before .before .args .b .now) (c .before .before .before .before .loop .i) (c .before .before .before .before .loop .inv .1) (c .before .before .before .loop-test .taken) (omega arith) (c .if1 .taken))
+loop-again c =
+    let b = c .before .before .before in let loop-test = b .loop-test in
+    let loop = b .before .loop in
+    let a = b .before .before .args in
+    (omega arith, same-more (a .a .now) (a .b .now) (loop .i) (loop .inv .1) (loop-test .taken) (omega arith) (c .if1 .taken))
 
 returns : tie.Need-returns Inv-loop μ-loop
-returns c = same-less (c .before .before .before .before .before .args .a .now) (c .before .before .before .before .before .args .b .now) (c .before .before .before .before .loop .i) (c .before .before .before .before .loop .inv .1) (c .before .before .before .loop-test .taken) (omega arith) (c .if1 .left)
+returns c =
+    let b = c .before .before .before in let loop-test = b .loop-test in
+    let loop = b .before .loop in
+    let a = b .before .before .args in
+    same-less (a .a .now) (a .b .now) (loop .i) (loop .inv .1) (loop-test .taken) (omega arith) (c .if1 .left)
 
 returns-2 : tie.Need-returns-2 Inv-loop μ-loop
-returns-2 c = same-end (c .before .before .args .a .now) (c .before .before .args .b .now) (c .before .loop .i) (c .before .loop .inv .1) (c .loop-test .left) (omega arith)
+returns-2 c =
+    let loop = c .before .loop in
+    let a = c .before .before .args in
+    same-end (a .a .now) (a .b .now) (loop .i) (loop .inv .1) (c .loop-test .left) (omega arith)
 
 pub same-from-spec : {M : Type 1} → statement M
 same-from-spec =

@@ -91,7 +91,15 @@ add-result-7 : tie.Need-add-result-7
 add-result-7 c = search needs
 
 returns : tie.Need-returns
-returns c = word-bytes (c .before .before .before .before .before .before .before .before .before .args .s .now) (c .before .before .before .before .before .before .before .before .before .args .i) (c .before .before .before .before .before .before .before .byte-at .ensures .0) (c .before .before .before .before .before .before .byte-at2 .ensures .0) (c .before .before .before .before .before .byte-at3 .ensures .0) (c .before .before .before .before .byte-at4 .ensures .0) (c .before .before .before .byte-at5 .ensures .0) (c .before .before .byte-at6 .ensures .0) (c .before .byte-at7 .ensures .0) (c .byte-at8 .ensures .0)
+returns c =
+    let b = c .before .before .before in let byte-at5 = b .byte-at5 in
+    let byte-at4 = b .before .byte-at4 in
+    let b2 = b .before .before in let byte-at3 = b2 .byte-at3 in
+    let byte-at2 = b2 .before .byte-at2 in
+    let byte-at = b2 .before .before .byte-at in
+    let a = b2 .before .before .before .before .args in
+    word-bytes (a .s .now) (a .i) (byte-at .ensures .0) (byte-at2 .ensures .0) (byte-at3 .ensures .0) (byte-at4 .ensures .0)
+    (byte-at5 .ensures .0) (c .before .before .byte-at6 .ensures .0) (c .before .byte-at7 .ensures .0) (c .byte-at8 .ensures .0)
 
 pub word-at-spec : {M : Type 1} → statement M
 word-at-spec =

@@ -1,8 +1,8 @@
 use native.Mathlib.Omega.{arith}
 use Prim.Native.Nat.{_≤_, _-_, _+_}
 use lib.ListN.{length, drop}
-use Rattle.base_text.specs.Text.{upTo}
-use Rattle.base_text.proofs.Turns.{upTo-hit, upTo-miss, upTo-end}
+use Rattle.base_lists.proofs.Cuts.{upTo-hit, upTo-miss, upTo-end}
+use Rattle.base_lists.specs.Cuts.{upTo}
 use borrow.Author.Tests.{eq-eqb, ne-eqb}
 use mathlib.Core.Path.{_≡_}
 use borrow.Author.Needs.{needs}
@@ -23,8 +23,10 @@ shared-slice-read-if1 c = search needs
 
 returns : tie.Need-returns Inv-loop μ-loop
 returns c =
-    let i = c .before .before .before .loop .i in
-    omega (arith, c .before .before .before .loop .inv .1, upTo-hit (c .before .before .before .before .args .c) (c .before .before .before .before .args .s .now) i (search needs) (eq-eqb _ _ (c .if1 .taken)))
+    let loop = c .before .before .before .loop in
+    let a = c .before .before .before .before .args in
+    let i = loop .i in
+    omega (arith, loop .inv .1, upTo-hit (a .c) (a .s .now) i (search needs) (eq-eqb _ _ (c .if1 .taken)))
 
 add-i : tie.Need-add-i Inv-loop μ-loop
 add-i c = search needs
@@ -34,11 +36,16 @@ loop-less c = search needs
 
 loop-again : tie.Need-loop-again Inv-loop μ-loop
 loop-again c =
-    let i = c .before .before .before .loop .i in
-    omega (arith, c .before .before .before .loop .inv .1, upTo-miss (c .before .before .before .before .args .c) (c .before .before .before .before .args .s .now) i (search needs) (ne-eqb _ _ (c .if1 .left)))
+    let loop = c .before .before .before .loop in
+    let a = c .before .before .before .before .args in
+    let i = loop .i in
+    omega (arith, loop .inv .1, upTo-miss (a .c) (a .s .now) i (search needs) (ne-eqb _ _ (c .if1 .left)))
 
 returns-2 : tie.Need-returns-2 Inv-loop μ-loop
-returns-2 c = omega (arith, c .before .loop .inv .1, upTo-end (c .before .before .args .c) (c .before .before .args .s .now) (c .before .loop .i) (search needs) (search needs))
+returns-2 c =
+    let loop = c .before .loop in
+    let a = c .before .before .args in
+    omega (arith, loop .inv .1, upTo-end (a .c) (a .s .now) (loop .i) (search needs) (search needs))
 
 pub find-spec : {M : Type 1} → statement M
 find-spec =

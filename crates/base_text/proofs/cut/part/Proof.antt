@@ -1,7 +1,7 @@
 use native.Mathlib.Nat.{add-sub-cancel-left}
 use lib.ListN.{take, drop}
 use Prim.Native.Nat.{ℕ}
-use Rattle.base_text.proofs.Turns.{part-none, part-all}
+use Rattle.base_lists.proofs.Cuts.{part-none, part-all}
 use mathlib.Core.Path.{refl, ap}
 use borrow.Author.Needs.{needs}
 use Rattle.base_text.proofs.cut.part.Statement.{statement}
@@ -32,7 +32,9 @@ part-result-end-2 : tie.Need-part-result-end-2
 part-result-end-2 c = search needs
 
 returns-2 : tie.Need-returns-2
-returns-2 c = part-all (c .before .before .before .args .t .now) (c .before .before .before .args .at) (c .before .before .before .args .len) (c .before .if2 .taken)
+returns-2 c =
+    let a = c .before .before .before .args in
+    part-all (a .t .now) (a .at) (a .len) (c .before .if2 .taken)
 
 add-end : tie.Need-add-end
 add-end c = search needs

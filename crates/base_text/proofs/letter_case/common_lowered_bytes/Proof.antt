@@ -37,16 +37,34 @@ loop-less : tie.Need-loop-less Inv-loop μ-loop
 loop-less c = omega arith
 
 loop-again : tie.Need-loop-again Inv-loop μ-loop
-loop-again c = let a = c .before .before .before .before .before .before .before .before .before .args in
-    common-more (a .p .now) (lowered (a .w .now)) (c .before .before .before .before .before .loop .i) (c .before .before .before .before .before .loop .inv) (omega (arith, c .before .before .before .before .before .before .at-most .ensures .0)) (omega (arith, c .before .before .before .before .before .before .at-most .ensures .0, lowered-length (a .w .now))) (c .if1 .taken ∙ c .before .lower-of .ensures ∙ sym (lowered-at (a .w .now) (c .before .before .before .before .before .loop .i) (omega (arith, c .before .before .before .before .before .before .at-most .ensures .0))))
+loop-again c =
+    let b = c .before .before .before .before .before in let loop = b .loop in
+    let at-most = b .before .at-most in
+    let a = b .before .before .before .before .args in
+    let w = a .w .now in
+    common-more (a .p .now) (lowered w) (loop .i) (loop .inv) (omega (arith, at-most .ensures .0)) (omega (
+      arith,
+      at-most .ensures .0,
+      lowered-length w,
+    )) (c .if1 .taken ∙ c .before .lower-of .ensures ∙ sym (lowered-at w (loop .i) (omega (arith, at-most .ensures .0))))
 
 returns : tie.Need-returns Inv-loop μ-loop
-returns c = let a = c .before .before .before .before .before .before .before .before .before .args in
-    common-less (a .p .now) (lowered (a .w .now)) (c .before .before .before .before .before .loop .i) (c .before .before .before .before .before .loop .inv) (omega (arith, c .before .before .before .before .before .before .at-most .ensures .0)) (omega (arith, c .before .before .before .before .before .before .at-most .ensures .0, lowered-length (a .w .now))) (λ e. c .if1 .left (e ∙ lowered-at (a .w .now) (c .before .before .before .before .before .loop .i) (omega (arith, c .before .before .before .before .before .before .at-most .ensures .0)) ∙ sym (c .before .lower-of .ensures)))
+returns c =
+    let b = c .before .before .before .before .before in let loop = b .loop in
+    let at-most = b .before .at-most in
+    let a = b .before .before .before .before .args in
+    let w = a .w .now in
+    common-less (a .p .now) (lowered w) (loop .i) (loop .inv) (omega (arith, at-most .ensures .0)) (omega (
+      arith,
+      at-most .ensures .0,
+      lowered-length w,
+    )) (λ e. c .if1 .left (e ∙ lowered-at w (loop .i) (omega (arith, at-most .ensures .0)) ∙ sym (c .before .lower-of .ensures)))
 
 returns-2 : tie.Need-returns-2 Inv-loop μ-loop
-returns-2 c = let a = c .before .before .before .before .before .args in
-    common-end (a .p .now) (lowered (a .w .now)) (c .before .loop .i) (c .before .loop .inv) (omega (arith, c .before .before .at-most .ensures .0, lowered-length (a .w .now)))
+returns-2 c =
+    let loop = c .before .loop in
+    let a = c .before .before .before .before .before .args in
+    common-end (a .p .now) (lowered (a .w .now)) (loop .i) (loop .inv) (omega (arith, c .before .before .at-most .ensures .0, lowered-length (a .w .now)))
 
 pub common-lowered-bytes-spec : {M : Type 1} → statement M
 common-lowered-bytes-spec =

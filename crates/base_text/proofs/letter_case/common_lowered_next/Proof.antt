@@ -16,8 +16,9 @@ common-from-requires c κs = search needs
 returns : tie.Need-returns
 returns c =
     let a = c .before .before .before .before .before .args in
-    next-equal (a .p .now) (cond (a .small) (a .w .now) (lowered (a .w .now))) (a .k) (a .l) (c .before .before .if1 .taken)
-    (c .common-from .ensures ∙ ap (λ (u : List ℕ). a .k + common (drop (a .k) (a .p .now)) (drop (a .k) u)) (sym (taken-as-is (a .w .now) (c .before .if2 .taken))))
+    let p = a .p .now in let w = a .w .now in let k = a .k in
+    next-equal p (cond (a .small) w (lowered w)) k (a .l) (c .before .before .if1 .taken) (c .common-from .ensures
+    ∙ ap (λ (u : List ℕ). k + common (drop k p) (drop k u)) (sym (taken-as-is w (c .before .if2 .taken))))
 
 common-lowered-from-requires : tie.Need-common-lowered-from-requires
 common-lowered-from-requires c κs = search needs
@@ -25,8 +26,9 @@ common-lowered-from-requires c κs = search needs
 returns-2 : tie.Need-returns-2
 returns-2 c =
     let a = c .before .before .before .before .before .args in
-    next-equal (a .p .now) (cond (a .small) (a .w .now) (lowered (a .w .now))) (a .k) (a .l) (c .before .before .if1 .taken)
-    (c .common-lowered-from .ensures ∙ ap (λ (u : List ℕ). a .k + common (drop (a .k) (a .p .now)) (drop (a .k) u)) (sym (taken-lowered (a .w .now) (c .before .if2 .left))))
+    let p = a .p .now in let w = a .w .now in let k = a .k in
+    next-equal p (cond (a .small) w (lowered w)) k (a .l) (c .before .before .if1 .taken) (c .common-lowered-from .ensures
+    ∙ ap (λ (u : List ℕ). k + common (drop k p) (drop k u)) (sym (taken-lowered w (c .before .if2 .left))))
 
 at-most-requires : tie.Need-at-most-requires
 at-most-requires c κs = search needs

@@ -19,7 +19,11 @@ lower-of-requires : tie.Need-lower-of-requires
 lower-of-requires c κs = search needs
 
 returns-3 : tie.Need-returns-3
-returns-3 c = let a = c .before .before .before .before .before .before .before .args in differ-there (a .p .now) (a .w .now) (a .n) (c .before .before .before .before .if1 .left) (c .before .before .before .if2 .left) (c .lower-of .ensures)
+returns-3 c =
+    let b = c .before .before .before in let if2 = b .if2 in
+    let if1 = b .before .if1 in
+    let a = b .before .before .before .before .args in
+    differ-there (a .p .now) (a .w .now) (a .n) (if1 .left) (if2 .left) (c .lower-of .ensures)
 
 pub differ-at-spec : {M : Type 1} → statement M
 differ-at-spec =

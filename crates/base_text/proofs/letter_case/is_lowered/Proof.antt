@@ -24,8 +24,12 @@ in-range-requires : tie.Need-in-range-requires Inv-loop μ-loop
 in-range-requires c κs = search needs
 
 returns : tie.Need-returns Inv-loop μ-loop
-returns c = let s = c .before .before .before .before .before .before .args .s .now in
-    has-capital s (c .before .before .before .before .loop .i) (omega (arith, c .before .before .before .loop-test .taken)) (c .before .in-range .ensures) (c .if1 .taken)
+returns c =
+    let b = c .before .before .before in let loop-test = b .loop-test in
+    let loop = b .before .loop in
+    let a = b .before .before .before .args in
+    let s = a .s .now in
+    has-capital s (loop .i) (omega (arith, loop-test .taken)) (c .before .in-range .ensures) (c .if1 .taken)
 
 add-i : tie.Need-add-i Inv-loop μ-loop
 add-i c = search needs
@@ -34,7 +38,10 @@ loop-less : tie.Need-loop-less Inv-loop μ-loop
 loop-less c = omega arith
 
 loop-again : tie.Need-loop-again Inv-loop μ-loop
-loop-again c = let l = c .before .before .before .before .loop in (omega arith, as-is-next (c .before .before .before .before .before .before .args .s .now) (l .i) (l .inv .1) (c .before .in-range .ensures) (c .if1 .left))
+loop-again c =
+    let b = c .before .before .before .before in let l = b .loop in
+    let a = b .before .before .args in
+    (omega arith, as-is-next (a .s .now) (l .i) (l .inv .1) (c .before .in-range .ensures) (c .if1 .left))
 
 returns-2 : tie.Need-returns-2 Inv-loop μ-loop
 returns-2 c = no-capital (c .before .before .before .args .s .now) (λ k h. c .before .loop .inv .1 k (omega arith))

@@ -14,7 +14,9 @@ cast-result : tie.Need-cast-result
 cast-result c = search needs
 
 returns : tie.Need-returns
-returns c = small-byte (c .before .before .before .args .s .now) (c .before .before .before .args .i) (c .before .before .before .pre) (omega (arith, c .before .before .shared-slice-known .given (c .before .before .before .args .i))) (c .lower-of .ensures)
+returns c =
+    let a = c .before .before .before .args in let pre = c .before .before .before .pre in
+    small-byte (a .s .now) (a .i) pre (omega (arith, c .before .before .shared-slice-known .given (a .i))) (c .lower-of .ensures)
 
 pub lower-at-spec : {M : Type 1} → statement M
 lower-at-spec =

@@ -92,7 +92,15 @@ add-result-7 : tie.Need-add-result-7
 add-result-7 c = search needs
 
 returns : tie.Need-returns
-returns c = word-bytes (lowered (c .before .before .before .before .before .before .before .before .before .args .s .now)) (c .before .before .before .before .before .before .before .before .before .args .i) (c .before .before .before .before .before .before .before .lower-at .ensures .0) (c .before .before .before .before .before .before .lower-at2 .ensures .0) (c .before .before .before .before .before .lower-at3 .ensures .0) (c .before .before .before .before .lower-at4 .ensures .0) (c .before .before .before .lower-at5 .ensures .0) (c .before .before .lower-at6 .ensures .0) (c .before .lower-at7 .ensures .0) (c .lower-at8 .ensures .0)
+returns c =
+    let b = c .before .before .before in let lower-at5 = b .lower-at5 in
+    let lower-at4 = b .before .lower-at4 in
+    let b2 = b .before .before in let lower-at3 = b2 .lower-at3 in
+    let lower-at2 = b2 .before .lower-at2 in
+    let lower-at = b2 .before .before .lower-at in
+    let a = b2 .before .before .before .before .args in
+    word-bytes (lowered (a .s .now)) (a .i) (lower-at .ensures .0) (lower-at2 .ensures .0) (lower-at3 .ensures .0) (lower-at4 .ensures .0)
+    (lower-at5 .ensures .0) (c .before .before .lower-at6 .ensures .0) (c .before .lower-at7 .ensures .0) (c .lower-at8 .ensures .0)
 
 pub lower-word-at-spec : {M : Type 1} → statement M
 lower-word-at-spec =

@@ -27,7 +27,10 @@ shared-slice-read-if2 : tie.Need-shared-slice-read-if2 Inv-loop μ-loop
 shared-slice-read-if2 c = omega (arith, c .before .before .loop .inv .0, c .before .loop-test .taken)
 
 shared-slice-read-lower-of : tie.Need-shared-slice-read-lower-of Inv-loop μ-loop
-shared-slice-read-lower-of c = omega (arith, c .before .before .before .loop .inv .0, c .before .before .loop-test .taken, c .before .before .before .before .if1 .left)
+shared-slice-read-lower-of c =
+    let loop = c .before .before .before .loop in
+    let if1 = c .before .before .before .before .if1 in
+    omega (arith, loop .inv .0, c .before .before .loop-test .taken, if1 .left)
 
 lower-of-requires : tie.Need-lower-of-requires Inv-loop μ-loop
 lower-of-requires c κs = search needs
@@ -36,14 +39,23 @@ loop-less : tie.Need-loop-less Inv-loop μ-loop
 loop-less c = omega (arith, c .before .before .before .before .loop-test .taken)
 
 loop-again : tie.Need-loop-again Inv-loop μ-loop
-loop-again c = let a = c .before .before .before .before .before .before .before .before .before .args in
-    let l = c .before .before .before .before .before .loop in
-    (omega (arith, l .inv .0), small-before (a .s .now) (a .p .now) (c .before .before .before .before .before .before .if1 .left) (l .i) (c .before .before .before .before .loop-test .taken) (l .inv .0) (l .inv .1) (c .before .lower-of .ensures) (c .if2 .taken))
+loop-again c =
+    let b = c .before .before .before .before in let loop-test = b .loop-test in
+    let l = b .before .loop in
+    let b2 = b .before .before in let if1 = b2 .if1 in
+    let a = b2 .before .before .before .args in (
+      omega (arith, l .inv .0),
+      small-before (a .s .now) (a .p .now) (if1 .left) (l .i) (loop-test .taken) (l .inv .0) (l .inv .1)
+          (c .before .lower-of .ensures) (c .if2 .taken),
+    )
 
 returns-2 : tie.Need-returns-2 Inv-loop μ-loop
-returns-2 c = let a = c .before .before .before .before .before .before .before .before .before .args in
-    let l = c .before .before .before .before .before .loop in
-    small-other (a .s .now) (a .p .now) (c .before .before .before .before .before .before .if1 .left) _ (omega (arith, l .inv .0, c .before .before .before .before .loop-test .taken)) (c .before .lower-of .ensures) (c .if2 .left)
+returns-2 c =
+    let b = c .before .before .before .before in let loop-test = b .loop-test in
+    let l = b .before .loop in
+    let b2 = b .before .before in let if1 = b2 .if1 in
+    let a = b2 .before .before .before .args in
+    small-other (a .s .now) (a .p .now) (if1 .left) _ (omega (arith, l .inv .0, loop-test .taken)) (c .before .lower-of .ensures) (c .if2 .left)
 
 returns-3 : tie.Need-returns-3 Inv-loop μ-loop
 returns-3 c = let a = c .before .before .before .before .before .args in

@@ -3,7 +3,8 @@ use Prim.Native.Nat.{_-_, _≤_}
 use mathlib.Core.Path.{_≡_, refl, _∙_}
 use mathlib.Core.List.{[], _++_}
 use lib.ListN.{length, take, getD, length-set}
-use Rattle.machine_build.proofs.Over.{over, over-copy}
+use Rattle.base_lists.proofs.Over.{over-copy}
+use Rattle.base_lists.specs.Lists.{over}
 use Rattle.machine_build.proofs.TurnLaws.{row-start, row-done}
 use native.Mathlib.Nat.{zero-add}
 use borrow.Author.Needs.{needs}
@@ -32,17 +33,29 @@ loop-less : tie.Need-loop-less Inv-loop μ-loop
 loop-less c = omega (arith, c .before .before .loop .inv .1, c .before .loop-test .taken)
 
 loop-again : tie.Need-loop-again Inv-loop μ-loop
-loop-again c = let a = c .before .before .before .args in let o = c .before .before .loop in (
-  omega (arith, o .inv .1, c .before .loop-test .taken),
-  length-set (o .row) (o .k) (getD (a .numbers .now) (o .k) 0) ∙ o .inv .1,
-  over-copy [] (a .row .now) (o .row) (o .k) (getD (a .numbers .now) (o .k) 0) (omega (arith, o .inv .1, c .before .loop-test .taken)) (a .numbers .now) (o .k) (o .inv .2) (zero-add (o .k)) (omega (arith, o .inv .1, c .before .loop-test .taken, c .before .before .before .pre .0, c .before .before .before .pre .1)) refl,
-)
+loop-again c =
+    let a = c .before .before .before .args in let numbers = a .numbers .now in
+    let loop-test = c .before .loop-test .taken in let inv = c .before .before .loop .inv in
+    let k = c .before .before .loop .k in let row = c .before .before .loop .row in
+    let pre = c .before .before .before .pre in (
+      omega (arith, inv .1, loop-test),
+      length-set row k (getD numbers k 0) ∙ inv .1,
+      over-copy [] (a .row .now) row k (getD numbers k 0) (omega (arith, inv .1, loop-test)) numbers k (inv .2) (zero-add k) (omega (
+        arith,
+        inv .1,
+        loop-test,
+        pre .0,
+        pre .1,
+      )) refl,
+    )
 
 same-length : tie.Need-same-length Inv-loop μ-loop
 same-length c = c .before .loop .inv .1
 
 returns : tie.Need-returns Inv-loop μ-loop
-returns c = let a = c .before .before .args in let o = c .before .loop in row-done (a .numbers .now) (a .row .now) (o .k) (o .inv .0) (omega (arith, o .inv .1, c .loop-test .left)) (omega (arith, c .before .before .pre .0, c .before .before .pre .1)) (o .inv .2)
+returns c =
+    let a = c .before .before .args in let inv = c .before .loop .inv in let pre = c .before .before .pre in
+    row-done (a .numbers .now) (a .row .now) (c .before .loop .k) (inv .0) (omega (arith, inv .1, c .loop-test .left)) (omega (arith, pre .0, pre .1)) (inv .2)
 
 pub write-row-spec : {M : Type 1} → statement M
 write-row-spec =

@@ -39,10 +39,24 @@ write-row-requires : tie.Need-write-row-requires
 write-row-requires c κs = search needs
 
 same-length : tie.Need-same-length
-same-length c = placed-in (c .before .before .before .before .before .before .before .before .before .before .args .categories) (c .before .before .before .before .before .before .before .before .before .before .args .count) (c .before .before .before .before .before .before .before .before .before .before .args .st) (c .before .before .before .before .before .before .before .before .before .before .args .numbers .now) (c .before .before .before .before .before .before .before .before .before .before .args .a) (c .before .before .before .before .before .before .before .before .before .before .args .part .now) (c .before .before .before .before .before .before .write-pair .last .0) (c .before .before .write-row .last .0) refl refl (c .before .before .before .before .before .before .before .before .if1 .taken) (omega (arith, c .before .before .before .before .before .before .before .before .before .before .pre .2, c .before .before .before .before .before .before .before .before .before .before .pre .3)) (c .before .before .before .before .before .before .write-pair .ensures) (c .before .before .write-row .ensures) .same-length
+same-length c =
+    let a = c .before .before .before .before .before .before .before .before .before .before .args in
+    let write-pair = c .before .before .before .before .before .before .write-pair .ensures in
+    let write-pair-last = c .before .before .before .before .before .before .write-pair .last in
+    let if1 = c .before .before .before .before .before .before .before .before .if1 .taken in
+    let pre = c .before .before .before .before .before .before .before .before .before .before .pre in
+    placed-in (a .categories) (a .count) (a .st) (a .numbers .now) (a .a) (a .part .now) (write-pair-last .0)
+    (c .before .before .write-row .last .0) refl refl if1 (omega (arith, pre .2, pre .3)) write-pair (c .before .before .write-row .ensures) .same-length
 
 returns : tie.Need-returns
-returns c = placed-in (c .before .before .before .before .before .before .before .before .before .before .args .categories) (c .before .before .before .before .before .before .before .before .before .before .args .count) (c .before .before .before .before .before .before .before .before .before .before .args .st) (c .before .before .before .before .before .before .before .before .before .before .args .numbers .now) (c .before .before .before .before .before .before .before .before .before .before .args .a) (c .before .before .before .before .before .before .before .before .before .before .args .part .now) (c .before .before .before .before .before .before .write-pair .last .0) (c .before .before .write-row .last .0) refl refl (c .before .before .before .before .before .before .before .before .if1 .taken) (omega (arith, c .before .before .before .before .before .before .before .before .before .before .pre .2, c .before .before .before .before .before .before .before .before .before .before .pre .3)) (c .before .before .before .before .before .before .write-pair .ensures) (c .before .before .write-row .ensures)
+returns c =
+    let a = c .before .before .before .before .before .before .before .before .before .before .args in
+    let write-pair = c .before .before .before .before .before .before .write-pair .ensures in
+    let write-pair-last = c .before .before .before .before .before .before .write-pair .last in
+    let if1 = c .before .before .before .before .before .before .before .before .if1 .taken in
+    let pre = c .before .before .before .before .before .before .before .before .before .before .pre in
+    placed-in (a .categories) (a .count) (a .st) (a .numbers .now) (a .a) (a .part .now) (write-pair-last .0)
+    (c .before .before .write-row .last .0) refl refl if1 (omega (arith, pre .2, pre .3)) write-pair (c .before .before .write-row .ensures)
 
 returns-2 : tie.Need-returns-2
 returns-2 c = let a = c .before .before .args in placed-out (a .categories) (a .count) (a .st) (a .numbers .now) (a .a) (a .part .now) (c .if1 .left)

@@ -18,9 +18,12 @@ byte-requires : tie.Need-byte-requires
 byte-requires c κs = search needs
 
 returns : tie.Need-returns
-returns c = let a = c .before .before .before .before .before .args in
-    signal-is (a .im .now) (c .before .before .before .at-most .result) (a .j) (c .before .place .ensures .0 ∙ ap (placeOf (c .before .before .before .at-most .result) (a .im .now)) (c .before .before .wide .ensures .0)) (c .byte .ensures)
-    ∙ ap (λ z. signalIn z (a .im .now) (a .j)) (c .before .before .before .at-most .ensures .0)
+returns c =
+    let b = c .before .before .before in let at-most = b .at-most in
+    let a = b .before .before .args in
+    let im = a .im .now in let j = a .j in
+    signal-is im (at-most .result) j (c .before .place .ensures .0
+    ∙ ap (placeOf (at-most .result) im) (c .before .before .wide .ensures .0)) (c .byte .ensures) ∙ ap (λ z. signalIn z im j) (at-most .ensures .0)
 
 pub signal-spec : {M : Type 1} → statement M
 signal-spec =

@@ -16,7 +16,9 @@ packed-at-requires : tie.Need-packed-at-requires
 packed-at-requires c κs = search needs
 
 returns : tie.Need-returns
-returns c = let a = c .before .before .before .before .args in state-is (a .im .now) (a .categories) (a .j) (c .before .before .place .ensures .0) (c .before .byte .ensures) (c .packed-at .ensures)
+returns c =
+    let a = c .before .before .before .before .args in
+    state-is (a .im .now) (a .categories) (a .j) (c .before .before .place .ensures .0) (c .before .byte .ensures) (c .packed-at .ensures)
 
 pub state-spec : {M : Type 1} → statement M
 state-spec =

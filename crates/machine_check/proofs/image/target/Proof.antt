@@ -32,10 +32,14 @@ byte-requires : tie.Need-byte-requires
 byte-requires c κs = search needs
 
 returns : tie.Need-returns
-returns c = let a = c .before .before .before .before .before .before .args in
-    target-is (a .im .now) (c .before .before .before .before .at-most .result) (a .j) (c .before .place .ensures .0 ∙ ap (placeOf (c .before .before .before .before .at-most .result) (a .im .now)) (c .before .before .before .wide .ensures .0)) (a .k)
-    (c .byte .ensures ∙ ap (λ z. getD (a .im .now) (c .before .place .result + 1 + c .before .before .before .before .at-most .result + z) 0) (c .before .before .wide2 .ensures .0))
-    ∙ ap (λ z. targetIn z (a .im .now) (a .j) (a .k)) (c .before .before .before .before .at-most .ensures .0)
+returns c =
+    let place = c .before .place in
+    let b = c .before .before .before in let wide = b .wide in
+    let at-most = b .before .at-most in
+    let a = b .before .before .before .args in
+    let im = a .im .now in let j = a .j in let k = a .k in
+    target-is im (at-most .result) j (place .ensures .0 ∙ ap (placeOf (at-most .result) im) (wide .ensures .0)) k (c .byte .ensures
+    ∙ ap (λ z. getD im (place .result + 1 + at-most .result + z) 0) (c .before .before .wide2 .ensures .0)) ∙ ap (λ z. targetIn z im j k) (at-most .ensures .0)
 
 pub target-spec : {M : Type 1} → statement M
 target-spec =

@@ -17,7 +17,10 @@ same-requires : tie.Need-same-requires
 same-requires c κs = search needs
 
 returns : tie.Need-returns
-returns c = let a = c .before .before .before .before .before .args in c .same .ensures ∙ ap (λ z. samePacked z (a .st)) (c .before .before .before .before .before .pre .3 .held (a .j) (c .before .before .before .if1 .taken))
+returns c =
+    let b = c .before .before .before in let if1 = b .if1 in
+    let a = b .before .before .args in let pre = b .before .before .pre in
+    c .same .ensures ∙ ap (λ z. samePacked z (a .st)) (pre .3 .held (a .j) (if1 .taken))
 
 state-requires : tie.Need-state-requires
 state-requires c κs = search needs

@@ -2,17 +2,19 @@ use native.Mathlib.Omega.{arith}
 use Prim.Native.Nat.{_≤_, _-_}
 use mathlib.Core.Path.{_≡_, refl}
 use mathlib.Core.Bool.{true}
-use Rattle.theory_resolution.specs.Lists.{allBelow}
+use Rattle.base_lists.proofs.Below.{all-more, all-done}
+use Rattle.base_lists.specs.Lists.{allBelow}
 use Rattle.machine_symbols.specs.Steps.{nextState}
 use borrow.Author.Tests.{not-true, not-false}
 use Rattle.machine_check.specs.Checks.{targetRightBy, rowRightBy}
-use Rattle.machine_check.proofs.ImageLaws.{all-more, all-done, right-no, right-yes}
+use Rattle.machine_check.proofs.ImageLaws.{right-no, right-yes}
 use borrow.Author.Needs.{needs}
 use Rattle.machine_check.proofs.rows.row_right.Statement.{statement}
 use Rattle.machine_check.proofs.rows.row_right.Tie as tie
 
 abbrev Inv-loop : tie.InvT-loop
-Inv-loop rows parents inner signals categories symbols count im signal statuses n j i from k₀ k = (k ≤ count) × (allBelow k (targetRightBy (nextState rows parents inner signals symbols) categories im j) ≡ true)
+Inv-loop rows parents inner signals categories symbols count im signal statuses n j i from k₀ k = (k ≤ count)
+    × (allBelow k (targetRightBy (nextState rows parents inner signals symbols) categories im j) ≡ true)
 
 abbrev μ-loop : tie.MeasureT-loop
 μ-loop rows parents inner signals categories symbols count im signal statuses n j i from k₀ k = count - k
@@ -43,10 +45,21 @@ next-requires : tie.Need-next-requires Inv-loop μ-loop
 next-requires c κs = search needs
 
 is-right-requires : tie.Need-is-right-requires Inv-loop μ-loop
-is-right-requires c κs = (c .before .before .before .before .before .before .before .pre .0, c .before .before .before .before .before .before .before .pre .2, omega (arith, c .before .at .ensures .1), c .before .before .before .before .before .before .before .pre .4)
+is-right-requires c κs =
+    let pre = c .before .before .before .before .before .before .before .pre in
+    (pre .0, pre .2, omega (arith, c .before .at .ensures .1), pre .4)
 
 returns : tie.Need-returns Inv-loop μ-loop
-returns c = let a = c .before .before .before .before .before .before .before .before .before .args in right-no (nextState (a .rows .now) (a .parents .now) (a .inner .now) (a .signals) (a .symbols .now)) (a .im .now) (a .categories) (a .j) (c .before .before .before .before .before .before .before .place .ensures .0) (c .before .before .before .before .before .before .state .ensures) (c .before .before .before .before .before .loop .k) (c .before .before .before .at .ensures .0) (c .before .before .next .ensures) (c .before .is-right .ensures) (a .count) (c .before .before .before .before .loop-test .taken) (not-true _ (c .if1 .taken))
+returns c =
+    let b = c .before .before .before in let at = b .at in
+    let loop-test = b .before .loop-test in
+    let b2 = b .before .before in let loop = b2 .loop in
+    let state = b2 .before .state in
+    let place = b2 .before .before .place in
+    let a = b2 .before .before .before .before .args in
+    right-no (nextState (a .rows .now) (a .parents .now) (a .inner .now) (a .signals) (a .symbols .now)) (a .im .now) (a .categories)
+    (a .j) (place .ensures .0) (state .ensures) (loop .k) (at .ensures .0) (c .before .before .next .ensures)
+    (c .before .is-right .ensures) (a .count) (loop-test .taken) (not-true _ (c .if1 .taken))
 
 add-k : tie.Need-add-k Inv-loop μ-loop
 add-k c = search needs
@@ -55,12 +68,27 @@ loop-less : tie.Need-loop-less Inv-loop μ-loop
 loop-less c = omega arith
 
 loop-again : tie.Need-loop-again Inv-loop μ-loop
-loop-again c = let a = c .before .before .before .before .before .before .before .before .before .args in
-    (omega arith, all-more (targetRightBy (nextState (a .rows .now) (a .parents .now) (a .inner .now) (a .signals) (a .symbols .now)) (a .categories) (a .im .now) (a .j)) (c .before .before .before .before .before .loop .k) (c .before .before .before .before .before .loop .inv .1) (right-yes (nextState (a .rows .now) (a .parents .now) (a .inner .now) (a .signals) (a .symbols .now)) (a .im .now) (a .categories) (a .j) (c .before .before .before .before .before .before .before .place .ensures .0) (c .before .before .before .before .before .before .state .ensures) (c .before .before .before .before .before .loop .k) (c .before .before .before .at .ensures .0) (c .before .before .next .ensures) (c .before .is-right .ensures) (not-false _ (c .if1 .left))))
+loop-again c =
+    let a = c .before .before .before .before .before .before .before .before .before .args in
+    let categories = a .categories in let im = a .im .now in let inner = a .inner .now in let j = a .j in
+    let parents = a .parents .now in let rows = a .rows .now in let signals = a .signals in let symbols = a .symbols .now in
+    let at = c .before .before .before .at .ensures in let inv = c .before .before .before .before .before .loop .inv in
+    let k = c .before .before .before .before .before .loop .k in
+    let state = c .before .before .before .before .before .before .state .ensures in
+    let place = c .before .before .before .before .before .before .before .place .ensures in (
+      omega arith,
+      all-more (targetRightBy (nextState rows parents inner signals symbols) categories im j) k (inv .1)
+          (right-yes (nextState rows parents inner signals symbols) im categories j (place .0) state k (at .0)
+          (c .before .before .next .ensures) (c .before .is-right .ensures) (not-false _ (c .if1 .left))),
+    )
 
 returns-2 : tie.Need-returns-2 Inv-loop μ-loop
 unfolding rowRightBy
-returns-2 c = let a = c .before .before .before .before .before .args in all-done (targetRightBy (nextState (a .rows .now) (a .parents .now) (a .inner .now) (a .signals) (a .symbols .now)) (a .categories) (a .im .now) (a .j)) (a .count) (c .before .loop .k) (c .before .loop .inv .0) (c .loop-test .left) (c .before .loop .inv .1)
+returns-2 c =
+    let loop = c .before .loop in
+    let a = c .before .before .before .before .before .args in
+    all-done (targetRightBy (nextState (a .rows .now) (a .parents .now) (a .inner .now) (a .signals) (a .symbols .now)) (a .categories)
+    (a .im .now) (a .j)) (a .count) (loop .k) (loop .inv .0) (c .loop-test .left) (loop .inv .1)
 
 pub row-right-spec : {M : Type 1} → statement M
 row-right-spec =

@@ -31,7 +31,12 @@ step-packed-requires : tie.Need-step-packed-requires
 step-packed-requires c κs = search needs
 
 returns-2 : tie.Need-returns-2
-returns-2 c = let a = c .before .before .before .before .before .before .args in next-is (a .rows .now) (a .parents .now) (a .inner .now) (a .signals) (a .symbols .now) (a .st) (a .k) (c .before .before .before .before .before .if1 .left) (c .before .before .before .wide .ensures .0) (c .step-packed .ensures)
+returns-2 c =
+    let b = c .before .before .before in let wide = b .wide in
+    let if1 = b .before .before .if1 in
+    let a = b .before .before .before .args in
+    next-is (a .rows .now) (a .parents .now) (a .inner .now) (a .signals) (a .symbols .now) (a .st) (a .k) (if1 .left) (wide .ensures .0)
+    (c .step-packed .ensures)
 
 pub next-spec : {M : Type 1} → statement M
 next-spec =

@@ -21,11 +21,18 @@ element-write-inner : tie.Need-element-write-inner
 element-write-inner c = search needs
 
 returns-2 : tie.Need-returns-2
-returns-2 c = let a = c .before .before .before .args in
-    (length-set (a .inner .now) (c .wide .result - 1) true ∙ c .before .before .before .pre, λ k h. mark-node (a .inner .now) (a .p) (c .wide .result - 1) k (c .before .before .before .pre) (ap (λ (x : ℕ). x - 1) (c .wide .ensures .0)) (c .before .before .if1 .left) (c .before .if2 .taken))
+returns-2 c =
+    let wide = c .wide in
+    let a = c .before .before .before .args in let pre = c .before .before .before .pre in (
+      length-set (a .inner .now) (wide .result - 1) true ∙ pre,
+      λ k h. mark-node (a .inner .now) (a .p) (wide .result - 1) k pre (ap (λ (x : ℕ). x - 1) (wide .ensures .0))
+          (c .before .before .if1 .left) (c .before .if2 .taken),
+    )
 
 returns-3 : tie.Need-returns-3
-returns-3 c = (c .before .before .pre, λ k h. mark-other (c .before .before .args .inner .now) (c .before .before .args .p) k (λ q. omega (arith, c .if2 .left)))
+returns-3 c =
+    let a = c .before .before .args in
+    (c .before .before .pre, λ k h. mark-other (a .inner .now) (a .p) k (λ q. omega (arith, c .if2 .left)))
 
 pub mark-spec : {M : Type 1} → statement M
 mark-spec =

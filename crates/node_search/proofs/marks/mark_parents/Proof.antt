@@ -3,6 +3,7 @@ use Prim.Native.Nat.{ℕ, _+_, _-_, _≤_, _<_}
 use mathlib.Core.Path.{_≡_, ap, _∙_}
 use mathlib.Core.Bool.{false, not}
 use lib.ListN.{length, getD}
+use Rattle.base_numbers.specs.Numbers.{mostNodes}
 use Rattle.node_search.specs.Arrays.{childless}
 use Rattle.node_search.proofs.MarkLaws.{marks-start, marks-more}
 use borrow.Author.Needs.{needs}
@@ -10,7 +11,7 @@ use Rattle.node_search.proofs.marks.mark_parents.Statement.{statement}
 use Rattle.node_search.proofs.marks.mark_parents.Tie as tie
 
 abbrev Inv-loop : tie.InvT-loop
-Inv-loop parents n inner₀ i₀ inner i = (i ≤ n) × (length inner ≡ 64) × ((k : ℕ) → k < 64 → getD inner k false ≡ not (childless parents (k + 1) i))
+Inv-loop parents n inner₀ i₀ inner i = (i ≤ n) × (length inner ≡ mostNodes) × ((k : ℕ) → k < mostNodes → getD inner k false ≡ not (childless parents (k + 1) i))
 
 abbrev μ-loop : tie.MeasureT-loop
 μ-loop parents n inner₀ i₀ inner i = n - i
@@ -31,7 +32,10 @@ loop-less : tie.Need-loop-less Inv-loop μ-loop
 loop-less c = omega arith
 
 loop-again : tie.Need-loop-again Inv-loop μ-loop
-loop-again c = (omega arith, c .mark .ensures .0, λ k h. marks-more (c .before .before .before .before .before .args .parents .now) (c .before .before .before .before .loop .i) k (c .before .before .before .before .loop .inv .2 k h) (c .mark .ensures .1 k h))
+loop-again c =
+    let i = c .before .before .before .before .loop .i in let inv = c .before .before .before .before .loop .inv in
+    let parents = c .before .before .before .before .before .args .parents .now in
+    (omega arith, c .mark .ensures .0, λ k h. marks-more parents i k (inv .2 k h) (c .mark .ensures .1 k h))
 
 returns : tie.Need-returns Inv-loop μ-loop
 returns c = (

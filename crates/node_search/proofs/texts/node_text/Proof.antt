@@ -1,3 +1,4 @@
+use Rattle.base_numbers.specs.Numbers.{mostNodes}
 use Rattle.node_search.proofs.TextLaws.{text-there, text-past}
 use borrow.Author.Needs.{needs}
 use Rattle.node_search.proofs.texts.node_text.Statement.{statement}
@@ -16,8 +17,10 @@ text-in-requires : tie.Need-text-in-requires
 text-in-requires c κs = search needs
 
 returns : tie.Need-returns
-returns c = let a = c .before .before .before .before .before .args in
-    (text-there 64 (a .t .now) (a .at .now) (a .len .now) (a .i) (c .before .before .before .if1 .taken) (c .text-in .ensures .0), c .text-in .ensures .1)
+returns c = let a = c .before .before .before .before .before .args in (
+  text-there mostNodes (a .t .now) (a .at .now) (a .len .now) (a .i) (c .before .before .before .if1 .taken) (c .text-in .ensures .0),
+  c .text-in .ensures .1,
+)
 
 text-in-requires-2 : tie.Need-text-in-requires-2
 text-in-requires-2 c κs = search needs

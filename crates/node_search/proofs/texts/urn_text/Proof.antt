@@ -1,3 +1,4 @@
+use Rattle.base_numbers.specs.Numbers.{mostTableUrns}
 use Rattle.node_search.proofs.TextLaws.{text-there, text-past}
 use borrow.Author.Needs.{needs}
 use Rattle.node_search.proofs.texts.urn_text.Statement.{statement}
@@ -16,15 +17,18 @@ text-in-requires : tie.Need-text-in-requires
 text-in-requires c κs = search needs
 
 returns : tie.Need-returns
-returns c = let a = c .before .before .before .before .before .args in
-    (text-there 256 (a .t .now) (a .at .now) (a .len .now) (a .i) (c .before .before .before .if1 .taken) (c .text-in .ensures .0), c .text-in .ensures .1)
+returns c = let a = c .before .before .before .before .before .args in (
+  text-there mostTableUrns (a .t .now) (a .at .now) (a .len .now) (a .i) (c .before .before .before .if1 .taken)
+      (c .text-in .ensures .0),
+  c .text-in .ensures .1,
+)
 
 text-in-requires-2 : tie.Need-text-in-requires-2
 text-in-requires-2 c κs = search needs
 
 returns-2 : tie.Need-returns-2
 returns-2 c = let a = c .before .before .before .args in
-    (text-past 256 (a .t .now) (a .at .now) (a .len .now) (a .i) (c .before .if1 .left) (c .text-in2 .ensures .0), c .text-in2 .ensures .1)
+    (text-past mostTableUrns (a .t .now) (a .at .now) (a .len .now) (a .i) (c .before .if1 .left) (c .text-in2 .ensures .0), c .text-in2 .ensures .1)
 
 pub urn-text-spec : {M : Type 1} → statement M
 urn-text-spec =

@@ -28,11 +28,13 @@ same-lowered-requires : tie.Need-same-lowered-requires Inv-loop μ-loop
 same-lowered-requires c κs = search needs
 
 returns : tie.Need-returns Inv-loop μ-loop
-returns c = let a = c .before .before .before .before .before .before .before .args in
-    let l = c .before .before .before .before .loop in
-    name-found (a .t .now) (lowered (a .s .now)) (a .name-at .now) (a .name-len .now) (a .n) (l .i) (l .inv .1) (c .before .before .before .loop-test .taken)
-    (c .before .same-lowered .ensures ∙ ap (sameName (lowered (a .s .now))) (text-in _ _ _ _ _ (c .before .before .name-text .ensures .0) (omega (arith, c .before .before .before .before .before .before .before .pre))))
-    (c .if1 .taken)
+returns c =
+    let a = c .before .before .before .before .before .before .before .args in let s = a .s .now in
+    let loop-test = c .before .before .before .loop-test .taken in let i = c .before .before .before .before .loop .i in
+    let inv = c .before .before .before .before .loop .inv in
+    let pre = c .before .before .before .before .before .before .before .pre in
+    name-found (a .t .now) (lowered s) (a .name-at .now) (a .name-len .now) (a .n) i (inv .1) loop-test (c .before .same-lowered .ensures
+    ∙ ap (sameName (lowered s)) (text-in _ _ _ _ _ (c .before .before .name-text .ensures .0) (omega (arith, pre)))) (c .if1 .taken)
 
 add-i : tie.Need-add-i Inv-loop μ-loop
 add-i c = search needs
@@ -41,12 +43,15 @@ loop-less : tie.Need-loop-less Inv-loop μ-loop
 loop-less c = omega arith
 
 loop-again : tie.Need-loop-again Inv-loop μ-loop
-loop-again c = let a = c .before .before .before .before .before .before .before .args in
-    let l = c .before .before .before .before .loop in (
+loop-again c =
+    let a = c .before .before .before .before .before .before .before .args in let s = a .s .now in
+    let loop-test = c .before .before .before .loop-test .taken in let i = c .before .before .before .before .loop .i in
+    let inv = c .before .before .before .before .loop .inv in
+    let pre = c .before .before .before .before .before .before .before .pre in (
       omega arith,
-      name-more (a .t .now) (lowered (a .s .now)) (a .name-at .now) (a .name-len .now) (a .n) (l .i) (l .inv .1) (c .before .before .before .loop-test .taken)
-          (c .before .same-lowered .ensures ∙ ap (sameName (lowered (a .s .now))) (text-in _ _ _ _ _ (c .before .before .name-text .ensures .0) (omega (arith, c .before .before .before .before .before .before .before .pre))))
-          (c .if1 .left),
+      name-more (a .t .now) (lowered s) (a .name-at .now) (a .name-len .now) (a .n) i (inv .1) loop-test
+          (c .before .same-lowered .ensures
+          ∙ ap (sameName (lowered s)) (text-in _ _ _ _ _ (c .before .before .name-text .ensures .0) (omega (arith, pre)))) (c .if1 .left),
     )
 
 returns-2 : tie.Need-returns-2 Inv-loop μ-loop

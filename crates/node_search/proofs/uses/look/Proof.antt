@@ -10,27 +10,47 @@ use borrow.Author.Needs.{needs}
 use Rattle.node_search.proofs.uses.look.Statement.{statement}
 use Rattle.node_search.proofs.uses.look.Tie as tie
 
-counted-requires : tie.Need-counted-requires
-counted-requires c κs = (omega arith, omega arith)
+count-differing-requires : tie.Need-count-differing-requires
+count-differing-requires c κs = (omega arith, omega arith)
 
 returns : tie.Need-returns
-returns c = let a = c .before .before .before .before .before .args in
-    (look-counted (a .t .now) (a .at .now) (a .len .now) (a .inner .now) (lowered (a .w .now)) (a .i) (a .l) (a .s) (c .before .if1 .taken) (c .counted .ensures), omega (arith, c .before .if1 .taken, c .before .before .before .before .before .pre, ap (λ (s : Search). s .compared) (c .counted .ensures)))
+returns c =
+    let a = c .before .before .before .before .before .args in let if1 = c .before .if1 .taken in
+    let pre = c .before .before .before .before .before .pre in (
+      look-counted (a .t .now) (a .at .now) (a .len .now) (a .inner .now) (lowered (a .w .now)) (a .i) (a .l) (a .s) if1
+          (c .count-differing .ensures),
+      omega (arith, if1, pre, ap (λ (s : Search). s .compared) (c .count-differing .ensures)),
+    )
 
 node-text-requires : tie.Need-node-text-requires
 node-text-requires c κs = search needs
 
-departs-requires : tie.Need-departs-requires
-departs-requires c κs = search needs
+differs-after-requires : tie.Need-differs-after-requires
+differs-after-requires c κs = search needs
 
-counted-requires-2 : tie.Need-counted-requires-2
-counted-requires-2 c κs = let a = c .before .before .before .before .before .before .before .args in
-    (omega (arith, c .before .before .before .before .before .before .before .pre, departs-same (c .before .before .node-text .result .now) (lowered (a .w .now)) (a .s .same) (a .l) (c .before .departs .ensures) (c .if2 .taken)), omega (arith, c .before .before .before .before .before .before .before .pre))
+count-differing-requires-2 : tie.Need-count-differing-requires-2
+count-differing-requires-2 c κs =
+    let a = c .before .before .before .before .before .before .before .args in
+    let pre = c .before .before .before .before .before .before .before .pre in (
+      omega (
+        arith,
+        pre,
+        departs-same (c .before .before .node-text .result .now) (lowered (a .w .now)) (a .s .same) (a .l)
+            (c .before .differs-after .ensures) (c .if2 .taken),
+      ),
+      omega (arith, pre),
+    )
 
 returns-2 : tie.Need-returns-2
-returns-2 c = let a = c .before .before .before .before .before .before .before .before .args in
-    let d = look-departs (a .t .now) (a .at .now) (a .len .now) (a .inner .now) (lowered (a .w .now)) (a .i) (a .l) (a .s) (c .before .before .before .before .if1 .left) (text-in _ _ _ _ _ (c .before .before .before .node-text .ensures .0) (c .before .before .before .before .before .before .before .before .pre .0)) (c .before .before .departs .ensures) (c .before .if2 .taken) (c .before .before .before .node-text .ensures .1) (c .counted2 .ensures) in
-    (d .0, omega (arith, d .1, c .before .before .before .before .before .before .before .before .pre, ap (λ (s : Search). s .compared) (c .counted2 .ensures)))
+returns-2 c =
+    let a = c .before .before .before .before .before .before .before .before .args in
+    let node-text = c .before .before .before .node-text .ensures in
+    let if1 = c .before .before .before .before .if1 .left in
+    let pre = c .before .before .before .before .before .before .before .before .pre in
+    let d = look-departs (a .t .now) (a .at .now) (a .len .now) (a .inner .now) (lowered (a .w .now)) (a .i) (a .l) (a .s) if1
+    (text-in _ _ _ _ _ (node-text .0) (pre .0)) (c .before .before .differs-after .ensures) (c .before .if2 .taken) (node-text .1)
+    (c .count-differing2 .ensures) in
+    (d .0, omega (arith, d .1, pre, ap (λ (s : Search). s .compared) (c .count-differing2 .ensures)))
 
 common-lowered-next-requires : tie.Need-common-lowered-next-requires
 common-lowered-next-requires c κs = search needs
@@ -41,29 +61,38 @@ cast-k c = search needs
 add-k : tie.Need-add-k
 add-k c = search needs
 
-element-copy-out-met : tie.Need-element-copy-out-met
-element-copy-out-met c = search needs
+element-copy-out-meet : tie.Need-element-copy-out-meet
+element-copy-out-meet c = search needs
 
-met-requires : tie.Need-met-requires
-met-requires c κs = search needs
+meet-requires : tie.Need-meet-requires
+meet-requires c κs = search needs
 
 returns-3 : tie.Need-returns-3
-returns-3 c = let a = c .before .before .before .before .before .before .before .before .before .before .args in
-    (look-met (a .t .now) (a .at .now) (a .len .now) (a .inner .now) (lowered (a .w .now)) (a .i) (a .l) (a .s) (c .before .before .before .before .before .before .if1 .left) (text-in _ _ _ _ _ (c .before .before .before .before .before .node-text .ensures .0) (c .before .before .before .before .before .before .before .before .before .before .pre .0)) (c .before .before .common-lowered-next .ensures ∙ ap (λ u. commonNext (c .before .before .before .before .before .node-text .result .now) u (a .s .same) (a .l)) (taken-small (a .w .now) (a .small) (c .before .before .before .before .before .before .before .before .before .before .pre .3))) (c .met .ensures .0), omega (arith, c .met .ensures .1, c .before .before .before .before .before .before .before .before .before .before .pre))
+returns-3 c =
+    let a = c .before .before .before .before .before .before .before .before .before .before .args in let l = a .l in
+    let s = a .s in let w = a .w .now in let node-text = c .before .before .before .before .before .node-text .ensures in
+    let node-text-result = c .before .before .before .before .before .node-text .result .now in
+    let if1 = c .before .before .before .before .before .before .if1 .left in
+    let pre = c .before .before .before .before .before .before .before .before .before .before .pre in (
+      look-met (a .t .now) (a .at .now) (a .len .now) (a .inner .now) (lowered w) (a .i) l s if1 (text-in _ _ _ _ _ (node-text .0) (pre .0))
+          (c .before .before .common-lowered-next .ensures ∙ ap (λ u. commonNext node-text-result u (s .same) l)
+          (taken-small w (a .small) (pre .3))) (c .meet .ensures .0),
+      omega (arith, c .meet .ensures .1, pre),
+    )
 
 pub look-spec : {M : Type 1} → statement M
 look-spec =
     tie.close
     (tie.spec
-    counted-requires
+    count-differing-requires
     returns
     node-text-requires
-    departs-requires
-    counted-requires-2
+    differs-after-requires
+    count-differing-requires-2
     returns-2
     common-lowered-next-requires
     cast-k
     add-k
-    element-copy-out-met
-    met-requires
+    element-copy-out-meet
+    meet-requires
     returns-3)

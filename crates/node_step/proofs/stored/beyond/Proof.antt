@@ -24,7 +24,8 @@ extends-of-requires c κs = search needs
 
 -- src/stored.rt:142:1
 returns : tie.Need-returns
-returns c = let a = c .before .before .before .args in c .extends-of .ensures ∙ ap (λ q. extends (a .parents .now) q (a .d) true) (c .before .digit-at .ensures ∙ ap (λ r. digit r (a .c)) (c .before .before .row-at .ensures))
+returns c = let a = c .before .before .before .args in c .extends-of .ensures ∙ ap (λ q. extends (a .parents .now) q (a .d) true)
+    (c .before .digit-at .ensures ∙ ap (λ r. digit r (a .c)) (c .before .before .row-at .ensures))
 
 pub beyond-spec : {M : Type 1} → statement M
 beyond-spec = tie.close (tie.spec row-at-requires digit-at-requires extends-of-requires returns)

@@ -21,7 +21,9 @@ put-at-requires : tie.Need-put-at-requires
 put-at-requires c κs = search needs
 
 returns : tie.Need-returns
-returns c = let a = c .before .before .before .before .args in moved-found _ (a .st) (a .c) _ _ (a .h) (c .before .before .before .if1 .taken) (c .put-at .ensures ∙ ap (put (a .st .statuses) (a .c)) (c .before .byte-of .ensures ∙ ap byteOf (c .before .before .progress-from .ensures)))
+returns c = let a = c .before .before .before .before .args in
+    moved-found _ (a .st) (a .c) _ _ (a .h) (c .before .before .before .if1 .taken) (c .put-at .ensures
+    ∙ ap (put (a .st .statuses) (a .c)) (c .before .byte-of .ensures ∙ ap byteOf (c .before .before .progress-from .ensures)))
 
 returns-2 : tie.Need-returns-2
 returns-2 c = moved-lost _ _ _ _ _ _ (c .if1 .left)

@@ -29,7 +29,11 @@ loop-less : tie.Need-loop-less Inv-loop μ-loop
 loop-less c = search needs
 
 loop-again : tie.Need-loop-again Inv-loop μ-loop
-loop-again c = (omega arith, depth-more _ _ _ _ (c .before .before .before .loop .inv .1) (c .before .before .loop-test .taken) (c .before .if1 .left) (c .parent .ensures))
+loop-again c = (
+  omega arith,
+  depth-more _ _ _ _ (c .before .before .before .loop .inv .1) (c .before .before .loop-test .taken)
+      (c .before .if1 .left) (c .parent .ensures),
+)
 
 returns-2 : tie.Need-returns-2 Inv-loop μ-loop
 returns-2 c = (depth-end _ _ _ _ (c .before .loop .inv .1) (c .loop-test .left), omega arith)

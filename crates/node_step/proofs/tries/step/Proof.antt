@@ -18,7 +18,11 @@ tries-to-requires : tie.Need-tries-to-requires
 tries-to-requires c κs = search needs
 
 returns-2 : tie.Need-returns-2
-returns-2 c = (step-by-hit _ _ _ _ _ _ _ _ (c .before .before .before .if1 .left) (c .before .before .hit-for .ensures) (c .before .moved-by .ensures), (tries-by-hit _ _ _ _ _ _ _ (c .before .before .before .if1 .left) (c .before .before .hit-for .ensures) (c .tries-to .ensures .0), omega arith))
+returns-2 c = (
+  step-by-hit _ _ _ _ _ _ _ _ (c .before .before .before .if1 .left) (c .before .before .hit-for .ensures)
+      (c .before .moved-by .ensures),
+  (tries-by-hit _ _ _ _ _ _ _ (c .before .before .before .if1 .left) (c .before .before .hit-for .ensures) (c .tries-to .ensures .0), omega arith),
+)
 
 pub step-spec : {M : Type 1} → statement M
 step-spec =

@@ -14,10 +14,18 @@ depth-of-requires-2 : tie.Need-depth-of-requires-2
 depth-of-requires-2 c κs = search needs
 
 returns : tie.Need-returns
-returns c = (tries-count _ _ _ _ (c .before .before .before .if1 .taken) (c .before .before .depth-of .ensures .0) (c .before .depth-of2 .ensures .0) (c .if2 .taken), omega arith)
+returns c = (
+  tries-count _ _ _ _ (c .before .before .before .if1 .taken) (c .before .before .depth-of .ensures .0)
+      (c .before .depth-of2 .ensures .0) (c .if2 .taken),
+  omega arith,
+)
 
 returns-2 : tie.Need-returns-2
-returns-2 c = (tries-over _ _ _ _ (c .before .before .before .if1 .taken) (c .before .before .depth-of .ensures .0) (c .before .depth-of2 .ensures .0) (c .if2 .left), omega arith)
+returns-2 c = (
+  tries-over _ _ _ _ (c .before .before .before .if1 .taken) (c .before .before .depth-of .ensures .0)
+      (c .before .depth-of2 .ensures .0) (c .if2 .left),
+  omega arith,
+)
 
 returns-3 : tie.Need-returns-3
 returns-3 c = (tries-none _ _ _ _ (c .if1 .left), omega arith)

@@ -32,7 +32,12 @@ same-length-2 : tie.Need-same-length-2
 same-length-2 c = search needs
 
 returns-2 : tie.Need-returns-2
-returns-2 c = counts _ _ (omega (arith, c .without-line-end .ensures .0, c .before .before .before .before .file-for-value .ensures .0, c .before .before .before .before .file-for-value .ensures .1))
+returns-2 c = counts _ _ (omega (
+  arith,
+  c .without-line-end .ensures .0,
+  c .before .before .before .before .file-for-value .ensures .0,
+  c .before .before .before .before .file-for-value .ensures .1,
+))
 
 pub value-spec : {M : Type 1} → statement M
 value-spec =

@@ -1,5 +1,6 @@
 use mathlib.Core.Path.{refl}
 use Prim.Native.Nat.{_-_}
+use Rattle.base_numbers.specs.Numbers.{mostSignals}
 use Rattle.resolve_available.proofs.RowLaws.{Filled, fill-row, filled}
 use native.Mathlib.Omega.{arith}
 use borrow.Author.Needs.{needs}
@@ -10,7 +11,7 @@ abbrev Inv-loop : tie.InvT-loop
 Inv-loop rows set kept₀ s₀ kept s = Filled set rows kept s
 
 abbrev μ-loop : tie.MeasureT-loop
-μ-loop rows set kept₀ s₀ kept s = 32 - s
+μ-loop rows set kept₀ s₀ kept s = mostSignals - s
 
 loop-holds : tie.Need-loop-holds Inv-loop μ-loop
 loop-holds c = record { wide = refl; so-far = λ k h. absurd (omega arith) }
@@ -40,7 +41,8 @@ loop-less : tie.Need-loop-less Inv-loop μ-loop
 loop-less c = omega (arith, c .before .before .before .loop-test .taken)
 
 loop-again : tie.Need-loop-again Inv-loop μ-loop
-loop-again c = fill-row _ _ _ _ (c .before .before .before .before .loop .inv) (c .before .before .before .loop-test .taken) (c .before .before .counts-in .ensures) (c .row-if .ensures)
+loop-again c = fill-row _ _ _ _ (c .before .before .before .before .loop .inv) (c .before .before .before .loop-test .taken)
+    (c .before .before .counts-in .ensures) (c .row-if .ensures)
 
 returns : tie.Need-returns Inv-loop μ-loop
 returns c = filled _ _ _ (c .before .loop .s) (c .before .loop .inv) (c .loop-test .left)

@@ -2,31 +2,22 @@ use Rattle.resolve_early.proofs.RunLaws.{after-skipped, after-used}
 use borrow.Author.Needs.{needs}
 use Rattle.resolve_early.proofs.run.taken.Statement.{statement}
 use Rattle.resolve_early.proofs.run.taken.Tie as tie
-use Rattle.resolve_early.proofs.run.taken.Reads as reads
-use Rattle.resolve_early.proofs.run.taken.Lts as lts
-use Rattle.node_step.proofs.stored.step_packed.Reads as step-packed-reads
 
--- src/run.rt:68:25
 enum-told : tie.Need-enum-told
 enum-told c = search needs
 
--- src/run.rt:70:23
 enum-known-u : tie.Need-enum-known-u
 enum-known-u c = search needs
 
--- src/run.rt:75:28
 cast-category : tie.Need-cast-category
 cast-category c = search needs
 
--- src/run.rt:76:13
 step-packed-requires : tie.Need-step-packed-requires
 step-packed-requires c κs = search needs
 
--- src/run.rt:57:1
 returns : tie.Need-returns
 returns c = after-skipped _ _ _ _ _ _ (c .enum-told .given .1)
 
--- src/run.rt:57:1
 returns-2 : tie.Need-returns-2
 returns-2 c = after-used _ _ _ _ _ _ (c .before .before .u .given .1) (c .step-packed .ensures)
 

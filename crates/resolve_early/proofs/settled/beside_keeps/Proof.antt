@@ -27,7 +27,8 @@ keeps-requires c κs = search needs
 
 -- src/settled.rt:64:1
 returns-2 : tie.Need-returns-2
-returns-2 c = beside-yes _ _ _ _ _ _ _ _ (c .before .before .before .is-beside .ensures) (not-false _ (c .before .before .if1 .left)) (c .before .digit-of .ensures) (c .keeps .ensures)
+returns-2 c = beside-yes _ _ _ _ _ _ _ _ (c .before .before .before .is-beside .ensures) (not-false _ (c .before .before .if1 .left))
+    (c .before .digit-of .ensures) (c .keeps .ensures)
 
 pub beside-keeps-spec : {M : Type 1} → statement M
 beside-keeps-spec =

@@ -23,7 +23,8 @@ held-keeps-requires c κs = search needs
 
 -- src/settled.rt:144:9
 returns-2 : tie.Need-returns-2
-returns-2 c = category-rest _ _ _ _ _ _ (c .before .before .before .digit-of .ensures) (c .before .before .if1 .left) (rest-no _ _ _ _ _ _ _ (c .before .held-keeps .ensures) (not-true _ (c .if2 .taken)))
+returns-2 c = category-rest _ _ _ _ _ _ (c .before .before .before .digit-of .ensures) (c .before .before .if1 .left)
+    (rest-no _ _ _ _ _ _ _ (c .before .held-keeps .ensures) (not-true _ (c .if2 .taken)))
 
 -- src/settled.rt:146:5
 signals-keep-requires : tie.Need-signals-keep-requires
@@ -31,7 +32,8 @@ signals-keep-requires c κs = search needs
 
 -- src/settled.rt:128:1
 returns-3 : tie.Need-returns-3
-returns-3 c = category-rest _ _ _ _ _ _ (c .before .before .before .before .digit-of .ensures) (c .before .before .before .if1 .left) (rest-on _ _ _ _ _ _ _ (c .before .before .held-keeps .ensures) (not-false _ (c .before .if2 .left)) (c .signals-keep .ensures))
+returns-3 c = category-rest _ _ _ _ _ _ (c .before .before .before .before .digit-of .ensures) (c .before .before .before .if1 .left)
+    (rest-on _ _ _ _ _ _ _ (c .before .before .held-keeps .ensures) (not-false _ (c .before .if2 .left)) (c .signals-keep .ensures))
 
 pub category-keeps-spec : {M : Type 1} → statement M
 category-keeps-spec =

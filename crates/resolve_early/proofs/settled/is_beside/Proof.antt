@@ -36,7 +36,10 @@ shl-result c = search needs
 
 -- src/settled.rt:49:5
 sub-result : tie.Need-sub-result
-sub-result c = rw (shifted (c .before .digit-of .result) (c .before .before .args .c) (c .before .before .pre) (omega arith), c .before .digit-of .ensures) (take-fits (c .before .before .args .row) (c .before .before .args .c) (c .before .before .pre) (omega arith))
+sub-result c = rw (
+  shifted (c .before .digit-of .result) (c .before .before .args .c) (c .before .before .pre) (omega arith),
+  c .before .digit-of .ensures,
+) (take-fits (c .before .before .args .row) (c .before .before .args .c) (c .before .before .pre) (omega arith))
 
 -- src/settled.rt:49:25
 shl-result-2 : tie.Need-shl-result-2
@@ -44,11 +47,19 @@ shl-result-2 c = search needs
 
 -- src/settled.rt:49:5
 add-result : tie.Need-add-result
-add-result c = omega (arith, put-fits (c .before .before .args .row) (c .digit-of2 .result) (c .before .before .args .c) (c .before .before .pre) (omega arith) (omega arith), put-is (c .before .before .args .row) (c .before .digit-of .result) (c .digit-of2 .result) (c .before .before .args .c) (c .before .before .pre) (c .before .digit-of .ensures) (omega arith) (omega arith))
+add-result c = omega (
+  arith,
+  put-fits (c .before .before .args .row) (c .digit-of2 .result) (c .before .before .args .c)
+      (c .before .before .pre) (omega arith) (omega arith),
+  put-is (c .before .before .args .row) (c .before .digit-of .result) (c .digit-of2 .result) (c .before .before .args .c)
+      (c .before .before .pre) (c .before .digit-of .ensures) (omega arith) (omega arith),
+)
 
 -- src/settled.rt:40:1
 returns : tie.Need-returns
-returns c = beside-is _ _ _ (put-is (c .before .before .args .row) (c .before .digit-of .result) (c .digit-of2 .result) (c .before .before .args .c) (c .before .before .pre) (c .before .digit-of .ensures) (omega arith) (omega arith) ∙ ap (put (c .before .before .args .row) (c .before .before .args .c)) (c .digit-of2 .ensures))
+returns c = beside-is _ _ _ (put-is (c .before .before .args .row) (c .before .digit-of .result) (c .digit-of2 .result)
+    (c .before .before .args .c) (c .before .before .pre) (c .before .digit-of .ensures) (omega arith) (omega arith)
+    ∙ ap (put (c .before .before .args .row) (c .before .before .args .c)) (c .digit-of2 .ensures))
 
 pub is-beside-spec : {M : Type 1} → statement M
 is-beside-spec =

@@ -3,16 +3,16 @@ use mathlib.Core.Path.{_≡_}
 use mathlib.Core.Bool.{true}
 use native.Mathlib.Omega.{arith}
 use borrow.Author.Tests.{not-true, not-false}
-use Rattle.theory_resolution.specs.Lists.{allBelow}
+use Rattle.base_lists.proofs.Below.{all-false, all-true, all-next, all-none}
+use Rattle.base_lists.specs.Lists.{allBelow}
 use Rattle.resolve_early.specs.SettledBy.{categoryKeeps, settledBy}
-use Rattle.resolve_early.proofs.SettledLaws.{all-false, all-true, all-next, all-none}
 use borrow.Author.Needs.{needs}
 use Rattle.resolve_early.proofs.settled.settled.Statement.{statement}
 use Rattle.resolve_early.proofs.settled.settled.Tie as tie
 use Rattle.resolve_early.proofs.settled.settled.Reads as reads
 use Rattle.resolve_early.proofs.settled.settled.Lts as lts
 use Rattle.resolve_early.proofs.settled.category_keeps.Reads as category-keeps-reads
-use Rattle.base_text.proofs.compare.at_most.Reads as at-most-reads
+use Rattle.base_bytes.proofs.numbers.at_most.Reads as at-most-reads
 
 abbrev Inv-loop : tie.InvT-loop
 Inv-loop rows parents inner signals categories st k c₀ c = (c ≤ k) × (allBelow c (categoryKeeps rows parents inner signals st) ≡ true)
@@ -35,7 +35,8 @@ category-keeps-requires c κs = search needs
 -- src/settled.rt:164:13
 returns : tie.Need-returns Inv-loop μ-loop
 unfolding settledBy
-returns c = all-false _ _ _ (c .before .before .before .before .at-most .ensures .0) (c .before .before .loop-test .taken) (c .before .category-keeps .ensures) (not-true _ (c .if1 .taken))
+returns c = all-false _ _ _ (c .before .before .before .before .at-most .ensures .0) (c .before .before .loop-test .taken)
+    (c .before .category-keeps .ensures) (not-true _ (c .if1 .taken))
 
 -- src/settled.rt:166:9
 add-c : tie.Need-add-c Inv-loop μ-loop

@@ -3,9 +3,10 @@ use mathlib.Core.Path.{_≡_}
 use mathlib.Core.Bool.{true}
 use native.Mathlib.Omega.{arith}
 use borrow.Author.Tests.{not-true, not-false}
-use Rattle.theory_resolution.specs.Lists.{allBelow}
+use Rattle.base_lists.proofs.Below.{all-false, all-true, all-next, all-none}
+use Rattle.base_lists.specs.Lists.{allBelow}
 use Rattle.resolve_early.specs.SettledBy.{signalKeeps}
-use Rattle.resolve_early.proofs.SettledLaws.{all-false, all-true, all-next, all-none, signal-is}
+use Rattle.resolve_early.proofs.SettledLaws.{signal-is}
 use borrow.Author.Needs.{needs}
 use Rattle.resolve_early.proofs.settled.signals_keep.Statement.{statement}
 use Rattle.resolve_early.proofs.settled.signals_keep.Tie as tie
@@ -13,7 +14,7 @@ use Rattle.resolve_early.proofs.settled.signals_keep.Reads as reads
 use Rattle.resolve_early.proofs.settled.signals_keep.Lts as lts
 use Rattle.resolve_early.proofs.settled.beside_keeps.Reads as beside-keeps-reads
 use Rattle.resolve_early.proofs.settled.row_of.Reads as row-of-reads
-use Rattle.base_text.proofs.compare.at_most.Reads as at-most-reads
+use Rattle.base_bytes.proofs.numbers.at_most.Reads as at-most-reads
 
 abbrev Inv-loop : tie.InvT-loop
 Inv-loop rows parents inner signals st c row n s₀ s = (s ≤ n) × (allBelow s (signalKeeps rows parents inner signals st c) ≡ true)
@@ -47,7 +48,9 @@ beside-keeps-requires c κs = search needs
 
 -- src/settled.rt:101:13
 returns : tie.Need-returns Inv-loop μ-loop
-returns c = all-false _ _ _ (c .before .before .before .before .before .at-most .ensures .0) (c .before .before .before .loop-test .taken) (signal-is _ _ _ _ _ _ _ (c .before .before .before .before .before .before .row-of .ensures) (c .before .beside-keeps .ensures)) (not-true _ (c .if1 .taken))
+returns c = all-false _ _ _ (c .before .before .before .before .before .at-most .ensures .0) (c .before .before .before .loop-test .taken)
+    (signal-is _ _ _ _ _ _ _ (c .before .before .before .before .before .before .row-of .ensures) (c .before .beside-keeps .ensures))
+    (not-true _ (c .if1 .taken))
 
 -- src/settled.rt:103:9
 add-s : tie.Need-add-s Inv-loop μ-loop
@@ -59,7 +62,12 @@ loop-less c = omega arith
 
 -- src/settled.rt:99:5
 loop-again : tie.Need-loop-again Inv-loop μ-loop
-loop-again c = (omega arith, all-next _ _ (c .before .before .before .before .loop .inv .1) (signal-is _ _ _ _ _ _ _ (c .before .before .before .before .before .before .row-of .ensures) (c .before .beside-keeps .ensures)) (not-false _ (c .if1 .left)))
+loop-again c = (
+  omega arith,
+  all-next _ _ (c .before .before .before .before .loop .inv .1)
+      (signal-is _ _ _ _ _ _ _ (c .before .before .before .before .before .before .row-of .ensures) (c .before .beside-keeps .ensures))
+      (not-false _ (c .if1 .left)),
+)
 
 -- src/settled.rt:85:1
 returns-2 : tie.Need-returns-2 Inv-loop μ-loop

@@ -19,7 +19,9 @@ store-requires c κs = search needs
 
 returns : tie.Need-returns
 returns c =
-    let e = c .before .before .before .feed .ensures ∙ ap (λ (x : Carried). feedOf (now (c .before .before .before .before .before .before .before .before .args .t)) x (now (c .before .before .before .before .before .before .before .before .args .v))) (c .before .before .before .before .load .ensures) in
+    let e = c .before .before .before .feed .ensures
+    ∙ ap (λ (x : Carried). feedOf (now (c .before .before .before .before .before .before .before .before .args .t)) x
+    (now (c .before .before .before .before .before .before .before .before .args .v))) (c .before .before .before .before .load .ensures) in
     (ap (λ (x : Fed). x .answer) e, c .before .store .ensures ∙ ap (λ (x : Fed). carriedBytes (x .carried)) e)
 
 pub resolve-feed-spec : {M : Type 1} → statement M

@@ -19,7 +19,9 @@ counted-requires c κs = search needs
 returns : tie.Need-returns
 returns c =
     let s = c .before .before .before .before .before .before .before .before .before in
-    let e = fed-ends _ _ (s .pre .0) (s .pre .1) _ (s .pre .3) (s .pre .2) _ _ (c .before .before .before .before .before .before .state .ensures) (c .before .before .before .before .before .at-state .ensures) (c .before .before .before .before .direct .ensures) in
+    let e = fed-ends _ _ (s .pre .0) (s .pre .1) _ (s .pre .3) (s .pre .2) _ _
+    (c .before .before .before .before .before .before .state .ensures) (c .before .before .before .before .before .at-state .ensures)
+    (c .before .before .before .before .direct .ensures) in
     c .counted .ensures ∙ read-refused _ (s .pre .1) _ (s .args .carried) _ e (c .before .if1 .taken)
 
 add-after : tie.Need-add-after
@@ -31,7 +33,9 @@ after-requires c κs = search needs
 returns-2 : tie.Need-returns-2
 returns-2 c =
     let s = c .before .before .before .before .before .before .before .before .before .before .before in
-    let e = fed-ends _ _ (s .pre .0) (s .pre .1) _ (s .pre .3) (s .pre .2) _ _ (c .before .before .before .before .before .before .before .before .state .ensures) (c .before .before .before .before .before .before .before .at-state .ensures) (c .before .before .before .before .before .before .direct .ensures) in
+    let e = fed-ends _ _ (s .pre .0) (s .pre .1) _ (s .pre .3) (s .pre .2) _ _
+    (c .before .before .before .before .before .before .before .before .state .ensures)
+    (c .before .before .before .before .before .before .before .at-state .ensures) (c .before .before .before .before .before .before .direct .ensures) in
     read-taken _ (s .pre .1) _ (s .args .carried) _ e (c .before .before .before .if1 .left) _ (c .after .ensures)
 
 pub read-from-spec : {M : Type 1} → statement M

@@ -31,7 +31,13 @@ none-is-requires : tie.Need-none-is-requires Inv-loop μ-loop
 none-is-requires c κs = search needs
 
 returns : tie.Need-returns Inv-loop μ-loop
-returns c = apart-stop _ _ _ _ _ _ _ _ _ (c .before .before .before .before .before .before .at-most .ensures .0) (c .before .before .before .before .before .at-most2 .ensures .0) (c .before .before .before .loop-test .taken) (c .before .none-is .ensures) (text-in _ _ _ _ _ (c .before .before .name-text .ensures .0) (omega (arith, c .before .before .before .loop-test .taken, c .before .before .before .before .before .before .at-most .ensures .1))) (not-true _ (c .if1 .taken))
+returns c = apart-stop _ _ _ _ _ _ _ _ _ (c .before .before .before .before .before .before .at-most .ensures .0)
+    (c .before .before .before .before .before .at-most2 .ensures .0) (c .before .before .before .loop-test .taken)
+    (c .before .none-is .ensures) (text-in _ _ _ _ _ (c .before .before .name-text .ensures .0) (omega (
+      arith,
+      c .before .before .before .loop-test .taken,
+      c .before .before .before .before .before .before .at-most .ensures .1,
+    ))) (not-true _ (c .if1 .taken))
 
 add-i : tie.Need-add-i Inv-loop μ-loop
 add-i c = search needs
@@ -40,10 +46,16 @@ loop-less : tie.Need-loop-less Inv-loop μ-loop
 loop-less c = omega (arith, c .before .before .before .loop-test .taken)
 
 loop-again : tie.Need-loop-again Inv-loop μ-loop
-loop-again c = passed-more _ _ _ (c .before .before .before .before .loop .inv) (c .before .before .before .loop-test .taken) (none-is _ _ _ _ _ _ _ _ (c .before .none-is .ensures) (text-in _ _ _ _ _ (c .before .before .name-text .ensures .0) (omega (arith, c .before .before .before .loop-test .taken, c .before .before .before .before .before .before .at-most .ensures .1))) ∙ not-false _ (c .if1 .left))
+loop-again c = passed-more _ _ _ (c .before .before .before .before .loop .inv) (c .before .before .before .loop-test .taken)
+    (none-is _ _ _ _ _ _ _ _ (c .before .none-is .ensures) (text-in _ _ _ _ _ (c .before .before .name-text .ensures .0) (omega (
+      arith,
+      c .before .before .before .loop-test .taken,
+      c .before .before .before .before .before .before .at-most .ensures .1,
+    ))) ∙ not-false _ (c .if1 .left))
 
 returns-2 : tie.Need-returns-2 Inv-loop μ-loop
-returns-2 c = apart-is _ _ _ _ _ _ _ _ (c .before .before .before .at-most .ensures .0) (c .before .before .at-most2 .ensures .0) (passed-all _ _ _ (c .before .loop .inv) (c .loop-test .left))
+returns-2 c = apart-is _ _ _ _ _ _ _ _ (c .before .before .before .at-most .ensures .0) (c .before .before .at-most2 .ensures .0)
+    (passed-all _ _ _ (c .before .loop .inv) (c .loop-test .left))
 
 pub apart-spec : {M : Type 1} → statement M
 apart-spec =

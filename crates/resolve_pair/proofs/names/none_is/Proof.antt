@@ -23,7 +23,8 @@ same-requires : tie.Need-same-requires Inv-loop μ-loop
 same-requires c κs = search needs
 
 returns : tie.Need-returns Inv-loop μ-loop
-returns c = none-stop _ _ _ _ _ _ (c .before .before .before .loop-test .taken) (c .before .same .ensures) (text-in _ _ _ _ _ (c .before .before .name-text .ensures .0) (omega arith)) (c .if1 .taken)
+returns c = none-stop _ _ _ _ _ _ (c .before .before .before .loop-test .taken) (c .before .same .ensures)
+    (text-in _ _ _ _ _ (c .before .before .name-text .ensures .0) (omega arith)) (c .if1 .taken)
 
 add-j : tie.Need-add-j Inv-loop μ-loop
 add-j c = search needs
@@ -32,7 +33,8 @@ loop-less : tie.Need-loop-less Inv-loop μ-loop
 loop-less c = omega (arith, c .before .before .before .loop-test .taken)
 
 loop-again : tie.Need-loop-again Inv-loop μ-loop
-loop-again c = passed-more _ _ _ (c .before .before .before .before .loop .inv) (c .before .before .before .loop-test .taken) (other-differs _ _ _ _ _ (c .before .same .ensures) (text-in _ _ _ _ _ (c .before .before .name-text .ensures .0) (omega arith)) (c .if1 .left))
+loop-again c = passed-more _ _ _ (c .before .before .before .before .loop .inv) (c .before .before .before .loop-test .taken)
+    (other-differs _ _ _ _ _ (c .before .same .ensures) (text-in _ _ _ _ _ (c .before .before .name-text .ensures .0) (omega arith)) (c .if1 .left))
 
 returns-2 : tie.Need-returns-2 Inv-loop μ-loop
 returns-2 c = passed-all _ _ _ (c .before .loop .inv) (c .loop-test .left)

@@ -17,8 +17,11 @@ begin-at-requires : tie.Need-begin-at-requires
 begin-at-requires c κs = search needs
 
 run-requires : tie.Need-run-requires
-run-requires c κs =
-    (omega (arith, c .before .if1 .left), ap (λ (p : Point). p .used + p .skipped) (c .begin-at .ensures), ap (λ (p : Point). p .current .tries) (c .begin-at .ensures))
+run-requires c κs = (
+  omega (arith, c .before .if1 .left),
+  ap (λ (p : Point). p .used + p .skipped) (c .begin-at .ensures),
+  ap (λ (p : Point). p .current .tries) (c .begin-at .ensures),
+)
 
 signal-in-requires : tie.Need-signal-in-requires
 signal-in-requires c κs = search needs
@@ -30,7 +33,8 @@ returns-2 : tie.Need-returns-2
 returns-2 c =
     ended-steps _ _ _ (c .before .before .before .before .before .before .before .before .before .before .before .before .args .from) _
     (omega (arith, c .before .before .before .before .before .before .if1 .left)) (c .before .before .before .before .run .result)
-    (c .before .before .before .before .before .begin-at .ensures) (c .before .before .before .before .run .ensures .0) (c .before .signal-in .ensures) (c .answer .ensures)
+    (c .before .before .before .before .before .begin-at .ensures) (c .before .before .before .before .run .ensures .0)
+    (c .before .signal-in .ensures) (c .answer .ensures)
 
 pub resolved-spec : {M : Type 1} → statement M
 resolved-spec =

@@ -14,7 +14,8 @@ walked-to-requires : tie.Need-walked-to-requires
 walked-to-requires c κs = search needs
 
 returns : tie.Need-returns
-returns c = moved-walk _ _ _ _ _ _ (c .before .before .before .before .before .before .before .args .current) _ _ _ (c .before .before .before .if1 .taken) (c .before .before .number .ensures) (c .before .target .ensures) (c .walked-to .ensures)
+returns c = moved-walk _ _ _ _ _ (c .before .before .before .before .before .before .before .args .current) _ _ _
+    (c .before .before .before .if1 .taken) (c .before .before .number .ensures) (c .before .target .ensures) (c .walked-to .ensures)
 
 step-requires : tie.Need-step-requires
 step-requires c κs = search needs
@@ -29,7 +30,9 @@ at-state-requires : tie.Need-at-state-requires
 at-state-requires c κs = search needs
 
 returns-2 : tie.Need-returns-2
-returns-2 c = moved-direct _ _ _ _ _ _ (c .before .before .before .before .before .before .before .before .before .args .current) _ _ _ (c .before .before .before .before .before .if1 .left) (c .before .before .before .step .ensures .0) (c .before .before .before .step .ensures .1 .0) (c .at-state .ensures)
+returns-2 c = moved-direct _ _ _ _ _ (c .before .before .before .before .before .before .before .before .before .args .current) _ _ _
+    (c .before .before .before .before .before .if1 .left) (c .before .before .before .step .ensures .0)
+    (c .before .before .before .step .ensures .1 .0) (c .at-state .ensures)
 
 pub moved-by-spec : {M : Type 1} → statement M
 moved-by-spec =

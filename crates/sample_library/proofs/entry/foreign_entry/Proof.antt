@@ -26,19 +26,48 @@ slice-aggregate-open : tie.Need-slice-aggregate-open
 slice-aggregate-open c = search needs
 
 open-requires : tie.Need-open-requires
-open-requires c κs = omega (arith, front-few (c .before .before .before .before .before .foreign .result .len) (c .before .before .before .before .before .foreign .result .bytes) (c .before .before .before .before .before .foreign .ensures .1 .1), c .before .before .before .before .before .before .before .before .pre .1)
+open-requires c κs =
+    let foreign = c .before .before .before .before .before .foreign .ensures in
+    let foreign-result = c .before .before .before .before .before .foreign .result in
+    let pre = c .before .before .before .before .before .before .before .before .pre in
+    omega (arith, front-few (foreign-result .len) (foreign-result .bytes) (foreign .1 .1), pre .1)
 
 slice-write-buf : tie.Need-slice-write-buf
-slice-write-buf c = omega (arith, c .before .buf .given, c .before .before .«open» .ensures .0, opening-length (take (c .before .before .before .before .before .before .before .before .foreign .result .len - 0) (drop 0 (c .before .before .before .before .before .before .before .before .foreign .result .bytes))) (97 ∷ []), front-few (c .before .before .before .before .before .before .before .before .foreign .result .len) (c .before .before .before .before .before .before .before .before .foreign .result .bytes) (c .before .before .before .before .before .before .before .before .foreign .ensures .1 .1), c .before .before .before .before .before .before .before .before .before .before .before .pre .1)
+slice-write-buf c =
+    let foreign = c .before .before .before .before .before .before .before .before .foreign .ensures in
+    let foreign-result = c .before .before .before .before .before .before .before .before .foreign .result in
+    let pre = c .before .before .before .before .before .before .before .before .before .before .before .pre in
+    omega (
+      arith,
+      c .before .buf .given,
+      c .before .before .«open» .ensures .0,
+      opening-length (take (foreign-result .len - 0) (drop 0 (foreign-result .bytes))) (97 ∷ []),
+      front-few (foreign-result .len) (foreign-result .bytes) (foreign .1 .1),
+      pre .1,
+    )
 
 add-result : tie.Need-add-result
-add-result c = omega (arith, c .before .before .«open» .ensures .0, opening-length (take (c .before .before .before .before .before .before .before .before .foreign .result .len - 0) (drop 0 (c .before .before .before .before .before .before .before .before .foreign .result .bytes))) (97 ∷ []), front-few (c .before .before .before .before .before .before .before .before .foreign .result .len) (c .before .before .before .before .before .before .before .before .foreign .result .bytes) (c .before .before .before .before .before .before .before .before .foreign .ensures .1 .1), c .before .before .before .before .before .before .before .before .before .before .before .pre .1)
+add-result c =
+    let foreign = c .before .before .before .before .before .before .before .before .foreign .ensures in
+    let foreign-result = c .before .before .before .before .before .before .before .before .foreign .result in
+    let pre = c .before .before .before .before .before .before .before .before .before .before .before .pre in
+    omega (
+      arith,
+      c .before .before .«open» .ensures .0,
+      opening-length (take (foreign-result .len - 0) (drop 0 (foreign-result .bytes))) (97 ∷ []),
+      front-few (foreign-result .len) (foreign-result .bytes) (foreign .1 .1),
+      pre .1,
+    )
 
 same-length : tie.Need-same-length
 same-length c = length-set (c .before .before .«open» .last .0) (c .before .before .«open» .result) 62 ∙ c .before .buf .given
 
 returns : tie.Need-returns
-returns c = foreign-written (categoryNames (c .before .before .before .before .before .before .before .before .before .before .before .args .t .now)) (c .before .before .before .before .before .before .before .before .before .before .before .args .buf .now) (c .before .before .before .before .before .before .before .before .before .before .before .args .at) (c .before .before .before .before .before .before .before .before .foreign .result .len) (c .before .before .before .before .before .before .before .before .foreign .result .bytes) (foreign-held _ _ _ _ _ (c .before .before .before .before .before .before .before .before .foreign .ensures .0) ((c .before .before .before .before .before .before .before .before .before .before .before .pre .0 .holds) .names)) (c .before .before .«open» .ensures)
+returns c =
+    let b = c .before .before .before .before .before .before .before .before in let foreign = b .foreign in
+    let a = b .before .before .before .args in let pre = b .before .before .before .pre in
+    foreign-written (categoryNames (a .t .now)) (a .buf .now) (a .at) (foreign .result .len) (foreign .result .bytes)
+    (foreign-held _ _ _ _ _ (foreign .ensures .0) ((pre .0 .holds) .names)) (c .before .before .«open» .ensures)
 
 pub foreign-entry-spec : {M : Type 1} → statement M
 foreign-entry-spec =

@@ -33,7 +33,11 @@ loop-less : tie.Need-loop-less Inv-loop μ-loop
 loop-less c = omega (arith, c .before .loop-test .taken)
 
 loop-again : tie.Need-loop-again Inv-loop μ-loop
-loop-again c = (omega (arith, c .before .loop-test .taken), put-on (c .before .before .loop .buf) (c .before .before .before .args .at) (c .before .before .loop .i) (c .before .before .before .args .s .now) (c .before .loop-test .taken) (c .before .before .loop .inv .1), length-set (c .before .before .loop .buf) _ _ ∙ c .before .before .loop .inv .2)
+loop-again c =
+    let loop-test = c .before .loop-test .taken in let buf = c .before .before .loop .buf in
+    let inv = c .before .before .loop .inv in let at = c .before .before .before .args .at in
+    let s = c .before .before .before .args .s .now in
+    (omega (arith, loop-test), put-on buf at (c .before .before .loop .i) s loop-test (inv .1), length-set buf _ _ ∙ inv .2)
 
 add-result : tie.Need-add-result Inv-loop μ-loop
 add-result c = search needs
@@ -42,7 +46,10 @@ same-length : tie.Need-same-length Inv-loop μ-loop
 same-length c = c .before .loop .inv .2
 
 returns : tie.Need-returns Inv-loop μ-loop
-returns c = (refl, put-end (c .before .loop .buf) (c .before .before .args .at) (c .before .loop .i) (c .before .before .args .s .now) (c .loop-test .left) (c .before .loop .inv .1))
+returns c =
+    let loop = c .before .loop in
+    let a = c .before .before .args in
+    (refl, put-end (loop .buf) (a .at) (loop .i) (a .s .now) (c .loop-test .left) (loop .inv .1))
 
 pub put-spec : {M : Type 1} → statement M
 put-spec =

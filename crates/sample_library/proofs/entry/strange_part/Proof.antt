@@ -26,14 +26,31 @@ part-put-end : tie.Need-part-put-end
 part-put-end c = omega (arith, c .before .before .before .strange .ensures .1 .0)
 
 put-requires : tie.Need-put-requires
-put-requires c κs = omega (arith, length-set (c .before .before .before .before .before .before .before .before .args .buf .now) (c .before .before .before .before .before .before .before .before .args .at) 58, front-few (c .before .before .before .before .strange .result .len) (c .before .before .before .before .strange .result .bytes) (c .before .before .before .before .strange .ensures .1 .1), c .before .before .before .before .before .before .before .before .pre .1)
+put-requires c κs =
+    let strange = c .before .before .before .before .strange .ensures in
+    let strange-result = c .before .before .before .before .strange .result in
+    let at = c .before .before .before .before .before .before .before .before .args .at in
+    let buf = c .before .before .before .before .before .before .before .before .args .buf .now in
+    let pre = c .before .before .before .before .before .before .before .before .pre in
+    omega (arith, length-set buf at 58, front-few (strange-result .len) (strange-result .bytes) (strange .1 .1), pre .1)
 
 same-length : tie.Need-same-length
-same-length c = c .before .buf .given ∙ length-set (c .before .before .before .before .before .before .before .before .before .before .before .args .buf .now) (c .before .before .before .before .before .before .before .before .before .before .before .args .at) 58
+same-length c =
+    let b = c .before .before .before .before .before .before .before .before in
+    let a = b .before .before .before .args in
+    c .before .buf .given ∙ length-set (a .buf .now) (a .at) 58
 
 returns : tie.Need-returns
-returns c = let w = part-written _ (c .before .before .before .before .before .before .before .before .before .before .before .args .buf .now) (c .before .before .before .before .before .before .before .before .before .before .before .args .at) (c .before .before .before .before .before .before .before .strange .result .len) (c .before .before .before .before .before .before .before .strange .result .bytes) (strange-held _ _ _ _ _ _ _ (c .before .before .before .before .before .before .before .strange .ensures .0) ((c .before .before .before .before .before .before .before .before .before .before .before .pre .0 .holds) .nodes)) (c .before .before .put .ensures .0) (c .before .before .put .ensures .1) in
-    (w .0, omega (arith, c .before .before .put .ensures .0, front-few (c .before .before .before .before .before .before .before .strange .result .len) (c .before .before .before .before .before .before .before .strange .result .bytes) (c .before .before .before .before .before .before .before .strange .ensures .1 .1)), w .1)
+returns c =
+    let put = c .before .before .put .ensures in
+    let strange = c .before .before .before .before .before .before .before .strange .ensures in
+    let strange-result = c .before .before .before .before .before .before .before .strange .result in
+    let at = c .before .before .before .before .before .before .before .before .before .before .before .args .at in
+    let buf = c .before .before .before .before .before .before .before .before .before .before .before .args .buf .now in
+    let pre = c .before .before .before .before .before .before .before .before .before .before .before .pre in
+    let w = part-written _ buf at (strange-result .len) (strange-result .bytes)
+    (strange-held _ _ _ _ _ _ _ (strange .0) ((pre .0 .holds) .nodes)) (put .0) (put .1) in
+    (w .0, omega (arith, put .0, front-few (strange-result .len) (strange-result .bytes) (strange .1 .1)), w .1)
 
 pub strange-part-spec : {M : Type 1} → statement M
 strange-part-spec =

@@ -24,10 +24,15 @@ loop-less : tie.Need-loop-less Inv-loop μ-loop
 loop-less c = omega (arith, c .before .before .loop-test .taken)
 
 loop-again : tie.Need-loop-again Inv-loop μ-loop
-loop-again c = (omega (arith, c .before .before .loop-test .taken), name-on _ _ _ _ _ (c .before .before .before .loop .inv .1) (c .before .before .loop-test .taken) (c .before .name-taken .ensures) (c .if1 .taken))
+loop-again c =
+    let loop-test = c .before .before .loop-test .taken in let inv = c .before .before .before .loop .inv in
+    (omega (arith, loop-test), name-on _ _ _ _ _ (inv .1) loop-test (c .before .name-taken .ensures) (c .if1 .taken))
 
 returns : tie.Need-returns Inv-loop μ-loop
-returns c = (name-first _ _ _ _ _ (c .before .before .before .loop .inv .1) (c .before .before .loop-test .taken) (c .before .name-taken .ensures) (c .if1 .left), omega (arith, c .before .before .before .before .before .pre, c .before .before .loop-test .taken))
+returns c =
+    let loop-test = c .before .before .loop-test .taken in let inv = c .before .before .before .loop .inv in
+    let pre = c .before .before .before .before .before .pre in
+    (name-first _ _ _ _ _ (inv .1) loop-test (c .before .name-taken .ensures) (c .if1 .left), omega (arith, pre, loop-test))
 
 returns-2 : tie.Need-returns-2 Inv-loop μ-loop
 returns-2 c = (name-last _ _ _ _ _ (c .before .loop .inv .1) (c .loop-test .left), omega (arith, c .before .before .before .pre, c .before .loop .inv .0))

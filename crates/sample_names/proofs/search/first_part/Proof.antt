@@ -26,13 +26,20 @@ loop-less : tie.Need-loop-less Inv-loop μ-loop
 loop-less c = omega (arith, c .before .before .loop-test .taken)
 
 loop-again : tie.Need-loop-again Inv-loop μ-loop
-loop-again c = (omega (arith, c .before .before .loop-test .taken), part-on _ _ _ _ _ _ _ (c .before .before .before .loop .inv .1) (c .before .before .loop-test .taken) (c .before .part-taken .ensures) (c .if1 .taken))
+loop-again c =
+    let loop-test = c .before .before .loop-test .taken in let inv = c .before .before .before .loop .inv in
+    (omega (arith, loop-test), part-on _ _ _ _ _ _ _ (inv .1) loop-test (c .before .part-taken .ensures) (c .if1 .taken))
 
 returns : tie.Need-returns Inv-loop μ-loop
-returns c = (part-first _ _ _ _ _ _ _ (c .before .before .before .loop .inv .1) (c .before .before .loop-test .taken) (c .before .part-taken .ensures) (c .if1 .left), omega (arith, c .before .before .before .before .before .before .pre, c .before .before .loop-test .taken))
+returns c =
+    let loop-test = c .before .before .loop-test .taken in let inv = c .before .before .before .loop .inv in
+    let pre = c .before .before .before .before .before .before .pre in
+    (part-first _ _ _ _ _ _ _ (inv .1) loop-test (c .before .part-taken .ensures) (c .if1 .left), omega (arith, pre, loop-test))
 
 returns-2 : tie.Need-returns-2 Inv-loop μ-loop
-returns-2 c = (part-last _ _ _ _ _ _ _ (c .before .loop .inv .1) (c .loop-test .left), omega (arith, c .before .before .before .before .pre, c .before .loop .inv .0))
+returns-2 c =
+    let inv = c .before .loop .inv in let pre = c .before .before .before .before .pre in
+    (part-last _ _ _ _ _ _ _ (inv .1) (c .loop-test .left), omega (arith, pre, inv .0))
 
 pub first-part-spec : {M : Type 1} → statement M
 first-part-spec =

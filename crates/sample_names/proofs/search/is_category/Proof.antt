@@ -23,7 +23,11 @@ same-requires : tie.Need-same-requires Inv-loop μ-loop
 same-requires c κs = search needs
 
 returns : tie.Need-returns Inv-loop μ-loop
-returns c = category-here _ _ _ _ _ _ (c .before .before .before .before .loop .inv) (c .before .before .before .loop-test .taken) (text-in _ _ _ _ _ (c .before .before .name-text .ensures .0)) (c .before .same .ensures) (c .if1 .taken)
+returns c =
+    let loop-test = c .before .before .before .loop-test in
+    let loop = c .before .before .before .before .loop in
+    category-here _ _ _ _ _ _ (loop .inv) (loop-test .taken) (text-in _ _ _ _ _ (c .before .before .name-text .ensures .0))
+    (c .before .same .ensures) (c .if1 .taken)
 
 add-i : tie.Need-add-i Inv-loop μ-loop
 add-i c = search needs
@@ -32,7 +36,11 @@ loop-less : tie.Need-loop-less Inv-loop μ-loop
 loop-less c = omega (arith, c .before .before .before .loop-test .taken)
 
 loop-again : tie.Need-loop-again Inv-loop μ-loop
-loop-again c = category-on _ _ _ _ _ _ (c .before .before .before .before .loop .inv) (c .before .before .before .loop-test .taken) (text-in _ _ _ _ _ (c .before .before .name-text .ensures .0)) (c .before .same .ensures) (c .if1 .left)
+loop-again c =
+    let loop-test = c .before .before .before .loop-test in
+    let loop = c .before .before .before .before .loop in
+    category-on _ _ _ _ _ _ (loop .inv) (loop-test .taken) (text-in _ _ _ _ _ (c .before .before .name-text .ensures .0))
+    (c .before .same .ensures) (c .if1 .left)
 
 returns-2 : tie.Need-returns-2 Inv-loop μ-loop
 returns-2 c = category-none _ _ _ _ _ _ (c .before .loop .inv) (c .loop-test .left)

@@ -2,7 +2,7 @@ use lib.ListN.{length}
 use Prim.Native.Nat.{_+_}
 use mathlib.Core.Path.{ap, _∙_}
 use native.Mathlib.Omega.{arith}
-use Rattle.base_text.proofs.Fields.{part-end}
+use Rattle.base_lists.proofs.Cuts.{part-end}
 use Rattle.theory_resolution.specs.Names.{sameName}
 use Rattle.sample_names.proofs.SearchLaws.{made-short, made-other, made-byte, made-rest}
 use borrow.Author.Needs.{needs}
@@ -10,7 +10,9 @@ use Rattle.sample_names.proofs.search.made_of.Statement.{statement}
 use Rattle.sample_names.proofs.search.made_of.Tie as tie
 
 returns : tie.Need-returns
-returns c = made-short (c .before .before .before .before .args .p .now) (c .before .before .before .before .args .z .now) (c .before .before .before .before .args .w .now) (c .if1 .taken)
+returns c =
+    let a = c .before .before .before .before .args in
+    made-short (a .p .now) (a .z .now) (a .w .now) (c .if1 .taken)
 
 sub-same : tie.Need-sub-same
 sub-same c = search needs
@@ -43,13 +45,30 @@ same-requires-2 : tie.Need-same-requires-2
 same-requires-2 c κs = search needs
 
 returns-2 : tie.Need-returns-2
-returns-2 c = made-rest (c .before .before .before .before .before .before .before .before .before .before .before .args .p .now) (c .before .before .before .before .before .before .before .before .before .before .before .args .z .now) (c .before .before .before .before .before .before .before .before .before .before .before .args .w .now) (omega (arith, c .before .before .before .before .before .before .before .if1 .left)) (c .before .before .before .before .before .same .ensures) (c .before .before .before .before .if2 .taken) (c .before .before .if3 .taken) (c .same2 .ensures ∙ ap (sameName (c .before .before .before .before .before .before .before .before .before .before .before .args .z .now)) (part-end (c .before .before .before .before .before .before .before .before .before .before .before .args .w .now) (length (c .before .before .before .before .before .before .before .before .before .before .before .args .p .now) + 1)))
+returns-2 c =
+    let if2 = c .before .before .before .before .if2 .taken in
+    let same = c .before .before .before .before .before .same .ensures in
+    let if1 = c .before .before .before .before .before .before .before .if1 .left in
+    let p = c .before .before .before .before .before .before .before .before .before .before .before .args .p .now in
+    let w = c .before .before .before .before .before .before .before .before .before .before .before .args .w .now in
+    let z = c .before .before .before .before .before .before .before .before .before .before .before .args .z .now in
+    made-rest p z w (omega (arith, if1)) same if2 (c .before .before .if3 .taken) (c .same2 .ensures ∙ ap (sameName z) (part-end w (length p + 1)))
 
 returns-3 : tie.Need-returns-3
-returns-3 c = made-byte (c .before .before .before .before .before .before .before .before .before .args .p .now) (c .before .before .before .before .before .before .before .before .before .args .z .now) (c .before .before .before .before .before .before .before .before .before .args .w .now) (omega (arith, c .before .before .before .before .before .if1 .left)) (c .before .before .before .same .ensures) (c .before .before .if2 .taken) (c .if3 .left)
+returns-3 c =
+    let same = c .before .before .before .same .ensures in let if1 = c .before .before .before .before .before .if1 .left in
+    let p = c .before .before .before .before .before .before .before .before .before .args .p .now in
+    let w = c .before .before .before .before .before .before .before .before .before .args .w .now in
+    let z = c .before .before .before .before .before .before .before .before .before .args .z .now in
+    made-byte p z w (omega (arith, if1)) same (c .before .before .if2 .taken) (c .if3 .left)
 
 returns-4 : tie.Need-returns-4
-returns-4 c = made-other (c .before .before .before .before .before .before .before .args .p .now) (c .before .before .before .before .before .before .before .args .z .now) (c .before .before .before .before .before .before .before .args .w .now) (omega (arith, c .before .before .before .if1 .left)) (c .before .same .ensures) (c .if2 .left)
+returns-4 c =
+    let if1 = c .before .before .before .if1 .left in
+    let p = c .before .before .before .before .before .before .before .args .p .now in
+    let w = c .before .before .before .before .before .before .before .args .w .now in
+    let z = c .before .before .before .before .before .before .before .args .z .now in
+    made-other p z w (omega (arith, if1)) (c .before .same .ensures) (c .if2 .left)
 
 pub made-of-spec : {M : Type 1} → statement M
 made-of-spec =

@@ -20,7 +20,9 @@ is-category-requires : tie.Need-is-category-requires
 is-category-requires c κs = search needs
 
 returns : tie.Need-returns
-returns c = λ names h. name-same names _ (c .before .before .before .before .z-name .result .len) (c .before .before .before .before .z-name .result .bytes) (c .before .before .before .before .z-name .ensures .0) (c .is-category .ensures names h)
+returns c =
+    let z-name = c .before .before .before .before .z-name in
+    λ names h. name-same names _ (z-name .result .len) (z-name .result .bytes) (z-name .ensures .0) (c .is-category .ensures names h)
 
 pub name-taken-spec : {M : Type 1} → statement M
 name-taken-spec =

@@ -16,7 +16,10 @@ made-of-requires : tie.Need-made-of-requires
 made-of-requires c κs = search needs
 
 returns : tie.Need-returns
-returns c = λ u e f. node-same _ _ _ u e (c .before .before .if1 .taken) (ap (fields 58) (text-in _ _ _ _ _ (c .before .node-text .ensures .0) (c .before .before .before .before .before .before .before .pre)) ∙ f) (c .made-of .ensures)
+returns c =
+    let pre = c .before .before .before .before .before .before .before .pre in
+    λ u e f. node-same _ _ _ u e (c .before .before .if1 .taken) (ap (fields 58) (text-in _ _ _ _ _ (c .before .node-text .ensures .0) pre)
+    ∙ f) (c .made-of .ensures)
 
 returns-2 : tie.Need-returns-2
 returns-2 c = λ u e f. node-other _ _ u e (c .if1 .left)

@@ -20,7 +20,10 @@ is-node-requires : tie.Need-is-node-requires
 is-node-requires c κs = search needs
 
 returns : tie.Need-returns
-returns c = λ ns h. part-same ns _ _ (c .before .before .before .before .z-name .result .len) _ (c .before .before .before .before .z-name .result .bytes) (c .before .before .before .before .before .before .before .pre .1) (c .before .before .before .before .z-name .ensures .0) (c .is-node .ensures ns h)
+returns c =
+    let b = c .before .before .before .before in let z-name = b .z-name in
+    let pre = b .before .before .before .pre in
+    λ ns h. part-same ns _ _ (z-name .result .len) _ (z-name .result .bytes) (pre .1) (z-name .ensures .0) (c .is-node .ensures ns h)
 
 pub part-taken-spec : {M : Type 1} → statement M
 part-taken-spec =

@@ -2,9 +2,9 @@ use Prim.Native.Nat.{_≤_, _-_}
 use mathlib.Core.Path.{_≡_}
 use native.Mathlib.Omega.{arith}
 use borrow.Author.Tests.{eq-eqb, ne-eqb}
-use Rattle.theory_minimal.specs.Proposal.{seek}
+use Rattle.base_lists.proofs.Search.{seek-start, seek-more, seek-hit, seek-end}
+use Rattle.base_lists.specs.Search.{seek}
 use Rattle.theory_minimal.specs.Refine.{sameClass}
-use Rattle.small_rounds.proofs.Turns.{seek-start, seek-more, seek-hit, seek-end}
 use borrow.Author.Needs.{needs}
 use Rattle.small_classes.proofs.numbers.first_same.Statement.{statement}
 use Rattle.small_classes.proofs.numbers.first_same.Tie as tie
@@ -26,8 +26,11 @@ shared-slice-read-if1-2 : tie.Need-shared-slice-read-if1-2 Inv-loop μ-loop
 shared-slice-read-if1-2 c = search needs
 
 returns : tie.Need-returns Inv-loop μ-loop
-returns c = let a = c .before .before .before .before .before .args in
-    (seek-hit (sameClass (a .p .now) (a .i)) (a .i) (c .before .before .before .before .loop .j) (c .before .before .before .loop-test .taken) (eq-eqb _ _ (c .if1 .taken)) (c .before .before .before .before .loop .inv .1), omega arith)
+returns c =
+    let a = c .before .before .before .before .before .args in let i = a .i in
+    let loop-test = c .before .before .before .loop-test .taken in let inv = c .before .before .before .before .loop .inv in
+    let j = c .before .before .before .before .loop .j in
+    (seek-hit (sameClass (a .p .now) i) i j loop-test (eq-eqb _ _ (c .if1 .taken)) (inv .1), omega arith)
 
 add-j : tie.Need-add-j Inv-loop μ-loop
 add-j c = search needs
@@ -36,8 +39,11 @@ loop-less : tie.Need-loop-less Inv-loop μ-loop
 loop-less c = omega arith
 
 loop-again : tie.Need-loop-again Inv-loop μ-loop
-loop-again c = let a = c .before .before .before .before .before .args in
-    (omega arith, seek-more (sameClass (a .p .now) (a .i)) (a .i) (c .before .before .before .before .loop .j) (c .before .before .before .loop-test .taken) (ne-eqb _ _ (c .if1 .left)) (c .before .before .before .before .loop .inv .1))
+loop-again c =
+    let a = c .before .before .before .before .before .args in let i = a .i in
+    let loop-test = c .before .before .before .loop-test .taken in let inv = c .before .before .before .before .loop .inv in
+    let j = c .before .before .before .before .loop .j in
+    (omega arith, seek-more (sameClass (a .p .now) i) i j loop-test (ne-eqb _ _ (c .if1 .left)) (inv .1))
 
 returns-2 : tie.Need-returns-2 Inv-loop μ-loop
 returns-2 c = let a = c .before .before .args in

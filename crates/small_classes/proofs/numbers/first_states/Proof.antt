@@ -2,8 +2,8 @@ use Prim.Native.Nat.{_≤_, _-_}
 use mathlib.Core.Path.{_≡_, sym, _∙_}
 use lib.ListN.{length, length-set}
 use native.Mathlib.Omega.{arith}
+use Rattle.base_lists.proofs.Filled.{Filled, filled-none, filled-more, filled-all}
 use Rattle.theory_minimal.specs.Refine.{leader, sameClass}
-use Rattle.small_rounds.proofs.Turns.{Filled, filled-none, filled-more, filled-all}
 use borrow.Author.Needs.{needs}
 use Rattle.small_classes.proofs.numbers.first_states.Statement.{statement}
 use Rattle.small_classes.proofs.numbers.first_states.Tie as tie
@@ -34,14 +34,18 @@ loop-less : tie.Need-loop-less Inv-loop μ-loop
 loop-less c = omega arith
 
 loop-again : tie.Need-loop-again Inv-loop μ-loop
-loop-again c = (omega arith, length-set (c .before .before .loop .q) (c .before .before .loop .i) _ ∙ c .before .before .loop .inv .1, filled-more (leader (sameClass (c .before .before .before .before .before .args .p .now))) (c .before .before .loop .q) (c .before .before .loop .i) _ (omega arith) (c .first-same .ensures .0) (c .before .before .loop .inv .2))
+loop-again c =
+    let i = c .before .before .loop .i in let inv = c .before .before .loop .inv in let q = c .before .before .loop .q in
+    let p = c .before .before .before .before .before .args .p .now in
+    (omega arith, length-set q i _ ∙ inv .1, filled-more (leader (sameClass p)) q i _ (omega arith) (c .first-same .ensures .0) (inv .2))
 
 same-length : tie.Need-same-length Inv-loop μ-loop
 same-length c = c .before .loop .inv .1 ∙ sym (c .before .before .before .before .pre .2)
 
 returns : tie.Need-returns Inv-loop μ-loop
-returns c = let a = c .before .before .before .before .args in
-    filled-all (leader (sameClass (a .p .now))) (c .before .loop .q) (a .n) (c .before .loop .i) (c .before .loop .inv .1) (omega arith) (c .before .loop .inv .2)
+returns c =
+    let a = c .before .before .before .before .args in let inv = c .before .loop .inv in
+    filled-all (leader (sameClass (a .p .now))) (c .before .loop .q) (a .n) (c .before .loop .i) (inv .1) (omega arith) (inv .2)
 
 pub first-states-spec : {M : Type 1} → statement M
 first-states-spec =

@@ -2,8 +2,9 @@ use Prim.Native.Nat.{_≤_, _-_}
 use mathlib.Core.Path.{_≡_, sym, _∙_}
 use lib.ListN.{length, length-set}
 use native.Mathlib.Omega.{arith}
-use Rattle.theory_minimal.specs.Refine.{count, isFirst, blockNumber}
-use Rattle.small_rounds.proofs.Turns.{Filled, filled-none, filled-more, filled-all}
+use Rattle.base_lists.specs.Search.{count}
+use Rattle.base_lists.proofs.Filled.{Filled, filled-none, filled-more, filled-all}
+use Rattle.theory_minimal.specs.Refine.{isFirst, blockNumber}
 use Rattle.small_classes.proofs.NumberLaws.{first-below, number-value, number-next, number-small, number-none}
 use borrow.Author.Needs.{needs}
 use Rattle.small_classes.proofs.numbers.number.Statement.{statement}
@@ -26,15 +27,24 @@ wide-requires : tie.Need-wide-requires Inv-loop μ-loop
 wide-requires c κs = search needs
 
 number-for-requires : tie.Need-number-for-requires Inv-loop μ-loop
-number-for-requires c κs = let a = c .before .before .before .before .before .before .before .args in
-    (omega (arith, c .before .before .before .before .loop .inv .1, first-below (a .b .now) (a .n) (c .before .before .before .before .before .before .before .pre .3) (c .before .before .before .before .loop .i) (c .before .before .before .loop-test .taken) (c .before .wide .result) (c .before .wide .ensures .0)), number-small (a .b .now) (a .n) (c .before .before .before .before .loop .i) (c .before .before .before .before .loop .next) (c .before .before .before .loop-test .taken) (c .before .before .before .before .before .before .before .pre .0) (c .before .before .before .before .loop .inv .2))
+number-for-requires c κs =
+    let a = c .before .before .before .before .before .before .before .args in let b = a .b .now in let n = a .n in
+    let loop-test = c .before .before .before .loop-test .taken in let i = c .before .before .before .before .loop .i in
+    let inv = c .before .before .before .before .loop .inv in let next = c .before .before .before .before .loop .next in
+    let pre = c .before .before .before .before .before .before .before .pre in (
+      omega (arith, inv .1, first-below b n (pre .3) i loop-test (c .before .wide .result) (c .before .wide .ensures .0)),
+      number-small b n i next loop-test (pre .0) (inv .2),
+    )
 
 slice-write-c : tie.Need-slice-write-c Inv-loop μ-loop
 slice-write-c c = omega (arith, c .before .before .before .before .before .loop .inv .1, c .before .before .before .before .loop-test .taken)
 
 next-number-requires : tie.Need-next-number-requires Inv-loop μ-loop
-next-number-requires c κs = let a = c .before .before .before .before .before .before .before .before .args in
-    number-small (a .b .now) (a .n) (c .before .before .before .before .before .loop .i) (c .before .before .before .before .before .loop .next) (c .before .before .before .before .loop-test .taken) (c .before .before .before .before .before .before .before .before .pre .0) (c .before .before .before .before .before .loop .inv .2)
+next-number-requires c κs =
+    let b = c .before .before .before .before in let loop-test = b .loop-test in
+    let loop = b .before .loop in
+    let a = b .before .before .before .before .args in let pre = b .before .before .before .before .pre in
+    number-small (a .b .now) (a .n) (loop .i) (loop .next) (loop-test .taken) (pre .0) (loop .inv .2)
 
 add-i : tie.Need-add-i Inv-loop μ-loop
 add-i c = search needs
@@ -43,8 +53,22 @@ loop-less : tie.Need-loop-less Inv-loop μ-loop
 loop-less c = omega (arith, c .before .before .before .before .before .loop-test .taken)
 
 loop-again : tie.Need-loop-again Inv-loop μ-loop
-loop-again c = let a = c .before .before .before .before .before .before .before .before .before .args in
-    (omega (arith, c .before .before .before .before .before .loop-test .taken), length-set (c .before .before .before .before .before .before .loop .c) (c .before .before .before .before .before .before .loop .i) _ ∙ c .before .before .before .before .before .before .loop .inv .1, number-next (a .b .now) (a .n) (c .before .before .before .before .before .before .before .before .before .pre .3) (c .before .before .before .before .before .before .loop .i) (c .before .before .before .before .before .loop-test .taken) (c .before .before .before .wide .result) (c .before .before .before .wide .ensures .0) (c .before .before .before .before .before .before .loop .next) (c .next-number .result) (c .before .before .before .before .before .before .loop .inv .2) (c .next-number .ensures), filled-more (blockNumber (a .b .now)) (c .before .before .before .before .before .before .loop .c) (c .before .before .before .before .before .before .loop .i) _ (omega (arith, c .before .before .before .before .before .before .loop .inv .1, c .before .before .before .before .before .loop-test .taken)) (number-value (a .b .now) (a .n) (c .before .before .before .before .before .before .before .before .before .pre .3) (c .before .before .before .before .before .before .loop .i) (c .before .before .before .before .before .loop-test .taken) (c .before .before .before .wide .result) (c .before .before .before .wide .ensures .0) (c .before .before .before .before .before .before .loop .c) (c .before .before .before .before .before .before .loop .next) (c .before .number-for .result) (c .before .before .before .before .before .before .loop .inv .3) (c .before .before .before .before .before .before .loop .inv .2) (c .before .number-for .ensures)) (c .before .before .before .before .before .before .loop .inv .3))
+loop-again c =
+    let a = c .before .before .before .before .before .before .before .before .before .args in let b = a .b .now in
+    let n = a .n in let wide = c .before .before .before .wide .ensures in
+    let wide-result = c .before .before .before .wide .result in
+    let loop-test = c .before .before .before .before .before .loop-test .taken in
+    let the-c = c .before .before .before .before .before .before .loop .c in
+    let i = c .before .before .before .before .before .before .loop .i in
+    let inv = c .before .before .before .before .before .before .loop .inv in
+    let next = c .before .before .before .before .before .before .loop .next in
+    let pre = c .before .before .before .before .before .before .before .before .before .pre in (
+      omega (arith, loop-test),
+      length-set the-c i _ ∙ inv .1,
+      number-next b n (pre .3) i loop-test wide-result (wide .0) next (c .next-number .result) (inv .2) (c .next-number .ensures),
+      filled-more (blockNumber b) the-c i _ (omega (arith, inv .1, loop-test)) (number-value b n (pre .3) i loop-test wide-result (wide .0)
+          the-c next (c .before .number-for .result) (inv .3) (inv .2) (c .before .number-for .ensures)) (inv .3),
+    )
 
 same-length : tie.Need-same-length Inv-loop μ-loop
 same-length c = c .before .loop .inv .1 ∙ sym (c .before .before .before .before .pre .2)

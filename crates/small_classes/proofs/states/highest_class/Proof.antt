@@ -2,8 +2,9 @@ use Prim.Native.Nat.{_≤_, _<_, _-_}
 use mathlib.Core.Path.{_≡_, ap, _∙_}
 use lib.ListN.{length}
 use native.Mathlib.Omega.{arith}
-use Rattle.theory_minimal.specs.Proposal.{classOf, highest}
-use Rattle.theory_minimal.proofs.Seek.{highest-none, highest-more}
+use Rattle.base_lists.proofs.Search.{highest-none, highest-more}
+use Rattle.base_lists.specs.Search.{highest}
+use Rattle.theory_minimal.specs.Proposal.{classOf}
 use borrow.Author.Needs.{needs}
 use Rattle.small_classes.proofs.states.highest_class.Statement.{statement}
 use Rattle.small_classes.proofs.states.highest_class.Tie as tie
@@ -33,7 +34,14 @@ loop-less : tie.Need-loop-less Inv-loop μ-loop
 loop-less c = omega arith
 
 loop-again : tie.Need-loop-again Inv-loop μ-loop
-loop-again c = (omega arith, highest-more (classOf (c .before .before .before .before .before .before .args .p .now)) (c .before .before .before .before .loop .i) (c .before .before .before .before .loop .most) (c .before .wide .result) (c .larger .result) (c .before .before .before .before .loop .inv .1) (c .before .wide .ensures .0) (c .larger .ensures), omega (arith, c .larger .ensures, c .before .wide .ensures .1, c .before .before .before .before .loop .inv .2))
+loop-again c =
+    let wide = c .before .wide .ensures in let i = c .before .before .before .before .loop .i in
+    let inv = c .before .before .before .before .loop .inv in let most = c .before .before .before .before .loop .most in
+    let p = c .before .before .before .before .before .before .args .p .now in (
+      omega arith,
+      highest-more (classOf p) i most (c .before .wide .result) (c .larger .result) (inv .1) (wide .0) (c .larger .ensures),
+      omega (arith, c .larger .ensures, wide .1, inv .2),
+    )
 
 returns : tie.Need-returns Inv-loop μ-loop
 returns c = let a = c .before .before .before .args in

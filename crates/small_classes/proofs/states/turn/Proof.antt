@@ -27,29 +27,52 @@ add-a-2 c = let a = c .before .before .before .args in
     omega (arith, row-small (a .rows .now) (a .n) (a .head) (a .k) (c .before .before .before .pre .0) (a .j) (c .before .before .before .pre .2))
 
 loop-holds : tie.Need-loop-holds Inv-loop μ-loop
-loop-holds c = let a = c .before .before .before .args in
-    (omega arith, turned-none (storedMachine (a .rows .now) (a .n) (a .head) (a .k)) (a .list .now) (a .count) (a .j) (a .seen .now) (c .before .before .before .pre .1))
+loop-holds c =
+    let a = c .before .before .before .args in let pre = c .before .before .before .pre in
+    (omega arith, turned-none (storedMachine (a .rows .now) (a .n) (a .head) (a .k)) (a .list .now) (a .count) (a .j) (a .seen .now) (pre .1))
 
 add-visit : tie.Need-add-visit Inv-loop μ-loop
-add-visit c = let a = c .before .before .before .before .before .before .before .args in
-    omega (arith, c .before .before .loop-test .taken, row-small (a .rows .now) (a .n) (a .head) (a .k) (c .before .before .before .before .before .before .before .pre .0) (a .j) (c .before .before .before .before .before .before .before .pre .2))
+add-visit c =
+    let a = c .before .before .before .before .before .before .before .args in
+    let pre = c .before .before .before .before .before .before .before .pre in
+    omega (arith, c .before .before .loop-test .taken, row-small (a .rows .now) (a .n) (a .head) (a .k) (pre .0) (a .j) (pre .2))
 
 shared-slice-read-visit : tie.Need-shared-slice-read-visit Inv-loop μ-loop
-shared-slice-read-visit c = let a = c .before .before .before .before .before .before .before .before .args in
-    omega (arith, c .before .before .before .loop-test .taken, row-end (a .rows .now) (a .n) (a .head) (a .k) (c .before .before .before .before .before .before .before .before .pre .0) (a .j) (c .before .before .before .before .before .before .before .before .pre .2))
+shared-slice-read-visit c =
+    let a = c .before .before .before .before .before .before .before .before .args in
+    let loop-test = c .before .before .before .loop-test .taken in
+    let pre = c .before .before .before .before .before .before .before .before .pre in
+    omega (arith, loop-test, row-end (a .rows .now) (a .n) (a .head) (a .k) (pre .0) (a .j) (pre .2))
 
 visit-requires : tie.Need-visit-requires Inv-loop μ-loop
-visit-requires c κs = (c .before .before .before .before .loop .inv .1 .kept, c .before .before .before .before .before .before .before .before .pre .0 .formed .leads (c .before .before .before .before .before .before .before .before .args .j) (c .before .before .before .before .loop .s) (c .before .before .before .before .before .before .before .before .pre .2) (c .before .before .before .loop-test .taken), c .before .before .before .before .before .before .before .before .pre .0 .few)
+visit-requires c κs =
+    let b = c .before .before .before in let loop-test = b .loop-test in
+    let loop = b .before .loop in
+    let b2 = b .before .before .before .before .before in let a = b2 .args in let pre = b2 .pre in
+    (loop .inv .1 .kept, pre .0 .formed .leads (a .j) (loop .s) (pre .2) (loop-test .taken), pre .0 .few)
 
 add-s : tie.Need-add-s Inv-loop μ-loop
 add-s c = search needs
 
 loop-less : tie.Need-loop-less Inv-loop μ-loop
-loop-less c = omega (arith, c .before .before .before .before .before .before .before .before .loop-test .taken)
+loop-less c =
+    let loop-test = c .before .before .before .before .before .before .before .before .loop-test .taken in
+    omega (arith, loop-test)
 
 loop-again : tie.Need-loop-again Inv-loop μ-loop
-loop-again c = let a = c .before .before .before .before .before .before .before .before .before .before .before .before .before .args in
-    (omega (arith, c .before .before .before .before .before .before .before .before .loop-test .taken), turned-more (storedMachine (a .rows .now) (a .n) (a .head) (a .k)) (a .list .now) (a .count) (a .j) (c .before .before .before .before .before .before .before .before .before .loop .s) (c .before .before .before .before .before .before .before .before .before .loop .list) (c .before .before .before .before .before .before .before .before .before .loop .seen) (c .before .before .before .before .before .before .before .before .before .loop .found) _ _ _ _ (c .before .before .before .before .before .before .before .before .before .loop .inv .1) refl (c .before .before .before .before .visit .ensures))
+loop-again c =
+    let a = c .before .before .before .before .before .before .before .before .before .before .before .before .before .args in
+    let visit = c .before .before .before .before .visit .ensures in
+    let loop-test = c .before .before .before .before .before .before .before .before .loop-test .taken in
+    let found = c .before .before .before .before .before .before .before .before .before .loop .found in
+    let inv = c .before .before .before .before .before .before .before .before .before .loop .inv in
+    let list = c .before .before .before .before .before .before .before .before .before .loop .list in
+    let s = c .before .before .before .before .before .before .before .before .before .loop .s in
+    let seen = c .before .before .before .before .before .before .before .before .before .loop .seen in (
+      omega (arith, loop-test),
+      turned-more (storedMachine (a .rows .now) (a .n) (a .head) (a .k)) (a .list .now) (a .count) (a .j) s list
+          seen found _ _ _ _ (inv .1) refl visit,
+    )
 
 same-length : tie.Need-same-length Inv-loop μ-loop
 same-length c = c .before .loop .inv .1 .kept .wide ∙ sym (c .before .before .before .before .before .pre .1 .wide)
@@ -58,8 +81,10 @@ same-length-2 : tie.Need-same-length-2 Inv-loop μ-loop
 same-length-2 c = c .before .loop .inv .1 .kept .marks ∙ sym (c .before .before .before .before .before .pre .1 .marks)
 
 returns : tie.Need-returns Inv-loop μ-loop
-returns c = let a = c .before .before .before .before .before .args in
-    turned-all (storedMachine (a .rows .now) (a .n) (a .head) (a .k)) (a .list .now) (a .count) (a .j) (c .before .loop .s) (c .before .loop .list) (c .before .loop .seen) (c .before .loop .found) (c .before .loop .inv .0) (omega arith) (c .before .loop .inv .1)
+returns c =
+    let a = c .before .before .before .before .before .args in let inv = c .before .loop .inv in
+    turned-all (storedMachine (a .rows .now) (a .n) (a .head) (a .k)) (a .list .now) (a .count) (a .j) (c .before .loop .s)
+    (c .before .loop .list) (c .before .loop .seen) (c .before .loop .found) (inv .0) (omega arith) (inv .1)
 
 pub turn-spec : {M : Type 1} → statement M
 turn-spec =

@@ -11,15 +11,23 @@ slice-read-if1 : tie.Need-slice-read-if1
 slice-read-if1 c = search needs
 
 returns : tie.Need-returns
-returns c = let a = c .before .before .before .before .before .args in
-    visit-old (a .n) (a .list .now) (a .seen .now) (a .count) (c .before .before .before .before .before .pre .0) (a .x) (c .before .before .wide .result) (c .before .before .before .before .before .pre .1) (c .before .before .wide .ensures .0) (c .if1 .taken)
+returns c =
+    let b = c .before .before in let wide = b .wide in
+    let a = b .before .before .before .args in let pre = b .before .before .before .pre in
+    visit-old (a .n) (a .list .now) (a .seen .now) (a .count) (pre .0) (a .x) (wide .result) (pre .1) (wide .ensures .0) (c .if1 .taken)
 
 slice-write-seen : tie.Need-slice-write-seen
 slice-write-seen c = search needs
 
 slice-write-list : tie.Need-slice-write-list
-slice-write-list c = let a = c .before .before .before .before .before .args in
-    omega (arith, c .before .before .before .before .before .pre .0 .wide, visit-room (a .n) (a .list .now) (a .seen .now) (a .count) (c .before .before .before .before .before .pre .0) (a .x) (c .before .before .wide .result) (c .before .before .before .before .before .pre .1) (c .before .before .wide .ensures .0) (c .if1 .left))
+slice-write-list c =
+    let a = c .before .before .before .before .before .args in let pre = c .before .before .before .before .before .pre in
+    omega (
+      arith,
+      pre .0 .wide,
+      visit-room (a .n) (a .list .now) (a .seen .now) (a .count) (pre .0) (a .x)
+          (c .before .before .wide .result) (pre .1) (c .before .before .wide .ensures .0) (c .if1 .left),
+    )
 
 add-result : tie.Need-add-result
 add-result c = search needs
@@ -31,8 +39,10 @@ same-length-2 : tie.Need-same-length-2
 same-length-2 c = search needs
 
 returns-2 : tie.Need-returns-2
-returns-2 c = let a = c .before .before .before .before .before .args in
-    visit-new (a .n) (a .list .now) (a .seen .now) (a .count) (c .before .before .before .before .before .pre .0) (a .x) (c .before .before .wide .result) (c .before .before .before .before .before .pre .1) (c .before .before .wide .ensures .0) (c .if1 .left)
+returns-2 c =
+    let b = c .before .before in let wide = b .wide in
+    let a = b .before .before .before .args in let pre = b .before .before .before .pre in
+    visit-new (a .n) (a .list .now) (a .seen .now) (a .count) (pre .0) (a .x) (wide .result) (pre .1) (wide .ensures .0) (c .if1 .left)
 
 pub visit-spec : {M : Type 1} → statement M
 visit-spec =

@@ -28,12 +28,20 @@ check-requires : tie.Need-check-requires
 check-requires c κs = search needs
 
 returns : tie.Need-returns
-returns c = let a = c .before .before .before .before .before .before .before .args in
-    fit-yes (a .im .now) _ (c .before .before .before .state-count .result) (c .before .before .before .before .at .result) (a .head) (rows-is (a .im .now) (c .before .before .before .before .at .result) (c .before .before .before .before .at .ensures .0)) (c .before .before .before .state-count .ensures .0) (c .before .before .before .before .at .ensures .0) (a .p .now) _ (c .before .check .ensures) (c .if1 .taken)
+returns c =
+    let b = c .before .before .before in let state-count = b .state-count in
+    let at = b .before .at in
+    let a = b .before .before .before .before .args in
+    fit-yes (a .im .now) _ (state-count .result) (at .result) (a .head) (rows-is (a .im .now) (at .result) (at .ensures .0))
+    (state-count .ensures .0) (at .ensures .0) (a .p .now) _ (c .before .check .ensures) (c .if1 .taken)
 
 returns-2 : tie.Need-returns-2
-returns-2 c = let a = c .before .before .before .before .before .before .before .args in
-    fit-no (a .im .now) _ (c .before .before .before .state-count .result) (c .before .before .before .before .at .result) (a .head) (rows-is (a .im .now) (c .before .before .before .before .at .result) (c .before .before .before .before .at .ensures .0)) (c .before .before .before .state-count .ensures .0) (c .before .before .before .before .at .ensures .0) (a .p .now) _ (c .before .check .ensures) (c .if1 .left)
+returns-2 c =
+    let b = c .before .before .before in let state-count = b .state-count in
+    let at = b .before .at in
+    let a = b .before .before .before .before .args in
+    fit-no (a .im .now) _ (state-count .result) (at .result) (a .head) (rows-is (a .im .now) (at .result) (at .ensures .0))
+    (state-count .ensures .0) (at .ensures .0) (a .p .now) _ (c .before .check .ensures) (c .if1 .left)
 
 pub fit-spec : {M : Type 1} → statement M
 fit-spec =

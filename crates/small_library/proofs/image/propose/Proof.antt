@@ -44,9 +44,17 @@ same-length : tie.Need-same-length
 same-length c = search needs
 
 returns : tie.Need-returns
-returns c = let a = c .before .before .before .before .before .before .before .before .before .before .before .args in
-    let e = proposed-read (a .im .now) _ (c .before .before .before .before .before .before .before .state-count .result) (c .before .before .before .before .before .before .before .before .at .result) (a .head) (rows-is (a .im .now) (c .before .before .before .before .before .before .before .before .at .result) (c .before .before .before .before .before .before .before .before .at .ensures .0)) (c .before .before .before .before .before .before .before .state-count .ensures .0) (c .before .before .before .before .before .before .before .before .at .ensures .0) in
-    (c .before .before .before .propose-to .ensures .0 ∙ ap (λ x. answerIn (numberOf x) (bytesOf x) (length (a .buf .now))) e, c .before .before .before .propose-to .ensures .1 ∙ ap (λ x. bufferIn (numberOf x) (bytesOf x) (length (a .buf .now))) e)
+returns c =
+    let b = c .before .before .before in let propose-to = b .propose-to in
+    let b2 = b .before .before .before .before in let state-count = b2 .state-count in
+    let at = b2 .before .at in
+    let a = b2 .before .before .before .before .args in
+    let im = a .im .now in let buf = a .buf .now in
+    let e = proposed-read im _ (state-count .result) (at .result) (a .head) (rows-is im (at .result) (at .ensures .0))
+    (state-count .ensures .0) (at .ensures .0) in (
+      propose-to .ensures .0 ∙ ap (λ x. answerIn (numberOf x) (bytesOf x) (length buf)) e,
+      propose-to .ensures .1 ∙ ap (λ x. bufferIn (numberOf x) (bytesOf x) (length buf)) e,
+    )
 
 pub propose-spec : {M : Type 1} → statement M
 propose-spec =

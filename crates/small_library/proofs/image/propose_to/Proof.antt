@@ -21,10 +21,15 @@ same-length-2 : tie.Need-same-length-2
 same-length-2 c = search needs
 
 returns : tie.Need-returns
-returns c = let a = c .before .before .before .before .before .before .before .before .before .before .before .before .args in
+returns c =
+    let b = c .before .before in let refuse = b .refuse in
+    let b2 = b .before .before in let if1 = b2 .if1 in
+    let b3 = b2 .before .before .before in let propose = b3 .propose in
+    let b4 = b3 .before .before .before .before .before in let a = b4 .args in let pre = b4 .pre in
     let x = storedProposed (a .rows .now) (a .n) (a .head) (a .k) in
-    let e = none-answer x (length (a .buf .now)) (given-none x (c .before .before .before .before .before .before .before .propose .last .1 .0) (c .before .before .before .before .before .before .before .propose .result) (proposed-is _ _ _ _ (a .classes .now) _ _ (c .before .before .before .before .before .before .before .before .before .before .before .before .pre) (c .before .before .before .before .before .before .before .propose .ensures)) (not-true _ (c .before .before .before .before .if1 .taken))) in
-    (c .before .before .refuse .ensures .0 ∙ e .0, c .before .before .refuse .ensures .1 ∙ e .1)
+    let e = none-answer x (length (a .buf .now)) (given-none x (propose .last .1 .0) (propose .result)
+    (proposed-is _ _ _ _ (a .classes .now) _ _ pre (propose .ensures)) (not-true _ (if1 .taken))) in
+    (refuse .ensures .0 ∙ e .0, refuse .ensures .1 ∙ e .1)
 
 put-requires : tie.Need-put-requires
 put-requires c κs = search needs
@@ -36,9 +41,14 @@ same-length-4 : tie.Need-same-length-4
 same-length-4 c = search needs
 
 returns-2 : tie.Need-returns-2
-returns-2 c = let a = c .before .before .before .before .before .before .before .before .before .before .before .before .before .args in
+returns-2 c =
+    let b = c .before .before in let put = b .put in
+    let b2 = b .before .before .before in let if1 = b2 .if1 in
+    let b3 = b2 .before .before .before in let propose = b3 .propose in
+    let b4 = b3 .before .before .before .before .before in let a = b4 .args in let pre = b4 .pre in
     let x = storedProposed (a .rows .now) (a .n) (a .head) (a .k) in
-    some-answer x (length (a .buf .now)) (c .before .before .before .before .before .before .before .before .propose .last .1 .0) _ _ (given-some x (c .before .before .before .before .before .before .before .before .propose .last .1 .0) (c .before .before .before .before .before .before .before .before .propose .result) (proposed-is _ _ _ _ (a .classes .now) _ _ (c .before .before .before .before .before .before .before .before .before .before .before .before .before .pre) (c .before .before .before .before .before .before .before .before .propose .ensures)) (not-false _ (c .before .before .before .before .before .if1 .left))) (c .before .before .put .ensures .0) (c .before .before .put .ensures .1)
+    some-answer x (length (a .buf .now)) (propose .last .1 .0) _ _ (given-some x (propose .last .1 .0) (propose .result)
+    (proposed-is _ _ _ _ (a .classes .now) _ _ pre (propose .ensures)) (not-false _ (if1 .left))) (put .ensures .0) (put .ensures .1)
 
 pub propose-to-spec : {M : Type 1} → statement M
 propose-to-spec =

@@ -48,9 +48,15 @@ same-length : tie.Need-same-length
 same-length c = search needs
 
 returns : tie.Need-returns
-returns c = let a = c .before .before .before .before .before .before .before .before .before .before .before .args in
-    let e = write-read (a .im .now) _ (c .before .before .before .before .before .before .state-count .result) (c .before .before .before .before .before .before .before .at .result) (a .head) (rows-is (a .im .now) (c .before .before .before .before .before .before .before .at .result) (c .before .before .before .before .before .before .before .at .ensures .0)) (c .before .before .before .before .before .before .state-count .ensures .0) (c .before .before .before .before .before .before .before .at .ensures .0) _ (a .p .now) (length (a .buf .now)) (front-is (a .im .now) (c .before .before .before .before .before .before .before .at .result) (c .before .before .before .before .before .before .before .at .ensures .0)) in
-    (c .before .before .write .ensures .0 ∙ e .0, c .before .before .write .ensures .1 ∙ e .1)
+returns c =
+    let b = c .before .before in let write = b .write in
+    let b2 = b .before .before .before .before in let state-count = b2 .state-count in
+    let at = b2 .before .at in
+    let a = b2 .before .before .before .before .before .args in
+    let im = a .im .now in
+    let e = write-read im _ (state-count .result) (at .result) (a .head) (rows-is im (at .result) (at .ensures .0))
+    (state-count .ensures .0) (at .ensures .0) _ (a .p .now) (length (a .buf .now)) (front-is im (at .result) (at .ensures .0)) in
+    (write .ensures .0 ∙ e .0, write .ensures .1 ∙ e .1)
 
 pub write-spec : {M : Type 1} → statement M
 write-spec =

@@ -3,8 +3,9 @@ use mathlib.Core.Path.{_≡_, sym, _∙_}
 use lib.ListN.{length}
 use borrow.Author.Tests.{eq-eqb, ne-eqb}
 use native.Mathlib.Omega.{arith}
-use Rattle.theory_minimal.specs.Proposal.{seek, hasClass}
-use Rattle.small_rounds.proofs.Turns.{seek-start, seek-more, seek-hit, seek-end}
+use Rattle.base_lists.proofs.Search.{seek-start, seek-more, seek-hit, seek-end}
+use Rattle.base_lists.specs.Search.{seek}
+use Rattle.theory_minimal.specs.Proposal.{hasClass}
 use borrow.Author.Needs.{needs}
 use Rattle.small_write.proofs.rows.first_of.Statement.{statement}
 use Rattle.small_write.proofs.rows.first_of.Tie as tie
@@ -26,8 +27,12 @@ wide-requires : tie.Need-wide-requires Inv-loop μ-loop
 wide-requires c κs = search needs
 
 returns : tie.Need-returns Inv-loop μ-loop
-returns c = let a = c .before .before .before .before .before .before .args in
-    seek-hit (hasClass (a .p .now) (a .c)) (length (a .p .now)) (c .before .before .before .before .loop .j) (c .before .before .before .loop-test .taken) (eq-eqb _ _ (sym (c .before .wide .ensures .0) ∙ c .if1 .taken)) (c .before .before .before .before .loop .inv .1)
+returns c =
+    let b = c .before .before .before in let loop-test = b .loop-test in
+    let loop = b .before .loop in
+    let a = b .before .before .before .args in
+    seek-hit (hasClass (a .p .now) (a .c)) (length (a .p .now)) (loop .j) (loop-test .taken)
+    (eq-eqb _ _ (sym (c .before .wide .ensures .0) ∙ c .if1 .taken)) (loop .inv .1)
 
 add-j : tie.Need-add-j Inv-loop μ-loop
 add-j c = search needs
@@ -36,8 +41,11 @@ loop-less : tie.Need-loop-less Inv-loop μ-loop
 loop-less c = omega (arith, c .before .before .before .loop-test .taken)
 
 loop-again : tie.Need-loop-again Inv-loop μ-loop
-loop-again c = let a = c .before .before .before .before .before .before .args in
-    (omega (arith, c .before .before .before .loop-test .taken), seek-more (hasClass (a .p .now) (a .c)) (length (a .p .now)) (c .before .before .before .before .loop .j) (c .before .before .before .loop-test .taken) (ne-eqb _ _ (λ q. c .if1 .left (c .before .wide .ensures .0 ∙ q))) (c .before .before .before .before .loop .inv .1))
+loop-again c =
+    let a = c .before .before .before .before .before .before .args in let p = a .p .now in
+    let loop-test = c .before .before .before .loop-test .taken in let inv = c .before .before .before .before .loop .inv in
+    let j = c .before .before .before .before .loop .j in
+    (omega (arith, loop-test), seek-more (hasClass p (a .c)) (length p) j loop-test (ne-eqb _ _ (λ q. c .if1 .left (c .before .wide .ensures .0 ∙ q))) (inv .1))
 
 returns-2 : tie.Need-returns-2 Inv-loop μ-loop
 returns-2 c = let a = c .before .before .before .args in

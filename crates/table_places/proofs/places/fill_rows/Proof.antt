@@ -3,10 +3,11 @@ use Prim.Native.Nat.{ℕ, _≤_, _<_, _-_}
 use mathlib.Core.Path.{_≡_, refl, _∙_, ap, sym}
 use mathlib.Core.Bool.{true, false≢true}
 use lib.ListN.{length, getD, length-set}
-use Rattle.theory_resolution.specs.Lists.{tabulate}
-use Rattle.table_places.specs.Tests.{noTwo}
+use Rattle.base_numbers.specs.Numbers.{mostSignals}
+use Rattle.base_lists.proofs.Tests.{two-start, two-ends}
+use Rattle.base_lists.specs.Tests.{noTwo}
+use Rattle.base_lists.specs.Lists.{tabulate}
 use Rattle.table_places.specs.Slots.{keyAt, sameKey, nodeIn, rowIn, Fillable}
-use Rattle.table_places.proofs.TestLaws.{two-start, two-ends}
 use Rattle.table_places.proofs.RowLaws.{row-start, bytes-start, row-twice, row-once, bytes-next, row-put}
 use Rattle.node_step.proofs.PackedLaws.{place-in, put-in}
 use Rattle.table_places.specs.Filled.{rowsFrom}
@@ -17,15 +18,24 @@ use Rattle.table_places.proofs.places.fill_rows.Tie as tie
 
 abbrev Inv-loop : tie.InvT-loop
 Inv-loop m signal category node rows₀ i₀ rows i =
-    (i ≤ m) × (Fillable signal category node rows₀ m → (length rows ≡ 32) × (noTwo sameKey (tabulate (keyAt signal category) i) ≡ true)
-    × ((s c : ℕ) → nodeIn (keyAt signal category) node s c i < 256) × ((s : ℕ) → s < 32 → getD rows s 0 ≡ rowIn (keyAt signal category) node s i))
+    (i ≤ m) × (Fillable signal category node rows₀ m → (length rows ≡ mostSignals) × (noTwo sameKey (tabulate (keyAt signal category) i) ≡ true)
+    × ((s c : ℕ) → nodeIn (keyAt signal category) node s c i < 256) × ((s : ℕ) → s < mostSignals → getD rows s 0 ≡ rowIn (keyAt signal category) node s i))
     × (rowsFrom signal category node 0 m rows₀ ≡ rowsFrom signal category node i (m - i) rows)
 
 abbrev μ-loop : tie.MeasureT-loop
 μ-loop m signal category node rows₀ i₀ rows i = m - i
 
 loop-holds : tie.Need-loop-holds Inv-loop μ-loop
-loop-holds c = (omega arith, λ r. (r .2 .0, two-start _ _, (λ s k. bytes-start _ _ s k), λ s h. r .2 .1 s (omega arith) ∙ sym (row-start _ _ s)), rows-start _ _ _ _ _)
+loop-holds c = (
+  omega arith,
+  λ r. (
+    r .2 .0,
+    two-start _ _,
+    (λ s k. bytes-start _ _ s k),
+    λ s h. r .2 .1 s (omega arith) ∙ sym (row-start _ _ s),
+  ),
+  rows-start _ _ _ _ _,
+)
 
 element-copy-out-wide : tie.Need-element-copy-out-wide Inv-loop μ-loop
 element-copy-out-wide c = search needs
@@ -35,10 +45,18 @@ wide-requires c κs = search needs
 
 returns : tie.Need-returns Inv-loop μ-loop
 returns c =
-    let a = c .before .before .before .before .before .args in
-    let far : Fillable (a .signal .now) (a .category .now) (a .node .now) (a .rows .now) (a .m) → ⊥ =
-    λ r. omega (arith, c .if1 .taken, c .before .wide .ensures .0, r .0 .0 _ (c .before .before .before .loop-test .taken)) in
-    (λ r. absurd (far r), (λ r. absurd (far r), rows-far (a .signal .now) (a .category .now) (a .node .now) (a .m) (a .rows .now) (c .before .before .before .before .loop .i) (c .before .before .before .before .loop .rows) (c .before .before .before .before .loop .inv .2) (c .before .before .before .loop-test .taken) (c .before .wide .result) _ (c .before .wide .ensures .0) refl (c .if1 .taken)))
+    let a = c .before .before .before .before .before .args in let category = a .category .now in let m = a .m in
+    let node = a .node .now in let the-rows = a .rows .now in let signal = a .signal .now in
+    let wide = c .before .wide .ensures in let loop-test = c .before .before .before .loop-test .taken in
+    let i = c .before .before .before .before .loop .i in let inv = c .before .before .before .before .loop .inv in
+    let rows = c .before .before .before .before .loop .rows in
+    let far : Fillable signal category node the-rows m → ⊥ = λ r. omega (arith, c .if1 .taken, wide .0, r .0 .0 _ loop-test) in (
+      λ r. absurd (far r),
+      (
+        λ r. absurd (far r),
+        rows-far signal category node m the-rows i rows (inv .2) loop-test (c .before .wide .result) _ (wide .0) refl (c .if1 .taken),
+      ),
+    )
 
 element-copy-out-wide-2 : tie.Need-element-copy-out-wide-2 Inv-loop μ-loop
 element-copy-out-wide-2 c = search needs
@@ -76,47 +94,68 @@ loop-less c = omega arith
 loop-again : tie.Need-loop-again Inv-loop μ-loop
 loop-again c =
     let a = c .before .before .before .before .before .before .before .before .before .before .before .before .args in
-    let l = c .before .before .before .before .before .before .before .before .before .before .before .loop in
-    let x = c .before .before .before .before .before .before .before .before .wide in
-    let y = c .before .before .before .before .before .wide2 in
-    let i = c .before .before .before .before .before .before .before .before .before .before .loop-test .taken in (
+    let category = a .category .now in let node = a .node .now in let signal = a .signal .now in
+    let if2 = c .before .before .if2 .taken in let the-place-in = c .before .before .before .place-in .ensures in
+    let wide2 = c .before .before .before .before .before .wide2 .ensures in
+    let wide2-result = c .before .before .before .before .before .wide2 .result in
+    let if1 = c .before .before .before .before .before .before .before .if1 .left in
+    let wide = c .before .before .before .before .before .before .before .before .wide .ensures in
+    let wide-result = c .before .before .before .before .before .before .before .before .wide .result in
+    let i = c .before .before .before .before .before .before .before .before .before .before .loop-test .taken in
+    let the-i = c .before .before .before .before .before .before .before .before .before .before .before .loop .i in
+    let inv = c .before .before .before .before .before .before .before .before .before .before .before .loop .inv in
+    let rows = c .before .before .before .before .before .before .before .before .before .before .before .loop .rows in (
       omega arith,
-      λ r.
-          let v = l .inv .1 r in
-          let h : y .result < 8 = omega (arith, y .ensures .0, r .0 .1 _ i) in
-          let k : x .result < 32 = omega (arith, c .before .before .before .before .before .before .before .if1 .left) in
-          let e = x .ensures .0 in
-          let g = y .ensures .0 in (
-            length-set (l .rows) (x .result) (c .with-place .result) ∙ v .0,
-            row-once (a .signal .now) (a .category .now) (a .node .now) (l .rows) (l .i) (x .result) (y .result) e g h (v .2) (v .3) k (λ j w. r .1 j (omega arith) .0) (v .1) (sym (c .before .before .before .place-in .ensures ∙ place-in _ _ h) ∙ c .before .before .if2 .taken),
-            bytes-next (a .signal .now) (a .category .now) (a .node .now) (l .rows) (l .i) (x .result) (y .result) e g h (v .2) (v .3) k (omega (arith, r .1 _ i .1)),
-            row-put (a .signal .now) (a .category .now) (a .node .now) (l .rows) (l .i) (x .result) (y .result) e g h (v .2) (v .3) k (c .with-place .result) _ (c .with-place .ensures ∙ put-in _ _ _ h) refl (v .0),
+      λ r. let v = inv .1 r in let h : wide2-result < 8 = omega (arith, wide2 .0, r .0 .1 _ i) in let k : wide-result < mostSignals =
+          omega (arith, if1) in let e = wide .0 in let g = wide2 .0 in (
+            length-set rows wide-result (c .with-place .result) ∙ v .0,
+            row-once signal category node rows the-i wide-result wide2-result e g h (v .2) (v .3) k (λ j w. r .1 j (omega arith) .0) (v .1)
+                (sym (the-place-in ∙ place-in _ _ h) ∙ if2),
+            bytes-next signal category node rows the-i wide-result wide2-result e g h (v .2) (v .3) k (omega (arith, r .1 _ i .1)),
+            row-put signal category node rows the-i wide-result wide2-result e g h (v .2) (v .3) k (c .with-place .result) _
+                (c .with-place .ensures ∙ put-in _ _ _ h) refl (v .0),
           ),
-      rows-put (a .signal .now) (a .category .now) (a .node .now) (a .m) (a .rows .now) (l .i) (l .rows) (l .inv .2) i (x .result) (y .result) (x .ensures .0) (y .ensures .0) (omega (arith, c .before .before .before .before .before .before .before .if1 .left)) (sym (c .before .before .before .place-in .ensures) ∙ c .before .before .if2 .taken) (c .with-place .ensures),
+      rows-put signal category node (a .m) (a .rows .now) the-i rows (inv .2) i wide-result wide2-result (wide .0) (wide2 .0)
+          (omega (arith, if1)) (sym the-place-in ∙ if2) (c .with-place .ensures),
     )
 
 returns-2 : tie.Need-returns-2 Inv-loop μ-loop
 returns-2 c =
     let a = c .before .before .before .before .before .before .before .before .before .before .args in
-    let l = c .before .before .before .before .before .before .before .before .before .loop in
-    let x = c .before .before .before .before .before .before .wide in
-    let y = c .before .before .before .wide2 in
-    let i = c .before .before .before .before .before .before .before .before .loop-test .taken in (
-      λ r.
-          let v = l .inv .1 r in
-          let h : y .result < 8 = omega (arith, y .ensures .0, r .0 .1 _ i) in
-          let k : x .result < 32 = omega (arith, c .before .before .before .before .before .if1 .left) in
-          row-twice (a .signal .now) (a .category .now) (a .node .now) (l .rows) (l .i) (x .result) (y .result) (x .ensures .0) (y .ensures .0) h (v .2) (v .3) k (a .m) i (λ z. c .if2 .left (c .before .place-in .ensures ∙ place-in _ _ h ∙ z)),
-      (λ r e. absurd (false≢true e), rows-taken (a .signal .now) (a .category .now) (a .node .now) (a .m) (a .rows .now) (l .i) (l .rows) (l .inv .2) i (x .result) (y .result) (x .ensures .0) (y .ensures .0) (omega (arith, c .before .before .before .before .before .if1 .left)) (λ z. c .if2 .left (c .before .place-in .ensures ∙ z))),
+    let category = a .category .now in let m = a .m in let node = a .node .now in let signal = a .signal .now in
+    let the-place-in = c .before .place-in .ensures in let wide2 = c .before .before .before .wide2 .ensures in
+    let wide2-result = c .before .before .before .wide2 .result in
+    let if1 = c .before .before .before .before .before .if1 .left in
+    let wide = c .before .before .before .before .before .before .wide .ensures in
+    let wide-result = c .before .before .before .before .before .before .wide .result in
+    let i = c .before .before .before .before .before .before .before .before .loop-test .taken in
+    let the-i = c .before .before .before .before .before .before .before .before .before .loop .i in
+    let inv = c .before .before .before .before .before .before .before .before .before .loop .inv in
+    let rows = c .before .before .before .before .before .before .before .before .before .loop .rows in (
+      λ r. let v = inv .1 r in let h : wide2-result < 8 = omega (arith, wide2 .0, r .0 .1 _ i) in let k : wide-result < mostSignals = omega (
+        arith,
+        if1,
+      ) in row-twice signal category node rows the-i wide-result wide2-result (wide .0) (wide2 .0) h (v .2) (v .3) k m i
+          (λ z. c .if2 .left (the-place-in ∙ place-in _ _ h ∙ z)),
+      (
+        λ r e. absurd (false≢true e),
+        rows-taken signal category node m (a .rows .now) the-i rows (inv .2) i wide-result wide2-result (wide .0) (wide2 .0) (omega (
+          arith,
+          if1,
+        )) (λ z. c .if2 .left (the-place-in ∙ z)),
+      ),
     )
 
 returns-3 : tie.Need-returns-3 Inv-loop μ-loop
 returns-3 c =
-    let a = c .before .before .args in
-    let l = c .before .loop in
-    let e : l .i ≡ a .m = omega arith in (
-      λ r. two-ends _ _ _ _ (l .inv .1 r .1) (l .inv .0) (c .loop-test .left),
-      ((λ r _. let v = l .inv .1 r in (v .0, λ s h. v .3 s h ∙ ap (rowIn (keyAt (a .signal .now) (a .category .now)) (a .node .now) s) e)), rows-all (a .signal .now) (a .category .now) (a .node .now) (a .m) (a .rows .now) (l .i) (l .rows) (l .inv .2) (c .loop-test .left)),
+    let a = c .before .before .args in let category = a .category .now in let m = a .m in let node = a .node .now in
+    let signal = a .signal .now in let i = c .before .loop .i in let inv = c .before .loop .inv in
+    let e : i ≡ m = omega arith in (
+      λ r. two-ends _ _ _ _ (inv .1 r .1) (inv .0) (c .loop-test .left),
+      (
+        (λ r _. let v = inv .1 r in (v .0, λ s h. v .3 s h ∙ ap (rowIn (keyAt signal category) node s) e)),
+        rows-all signal category node m (a .rows .now) i (c .before .loop .rows) (inv .2) (c .loop-test .left),
+      ),
     )
 
 pub fill-rows-spec : {M : Type 1} → statement M

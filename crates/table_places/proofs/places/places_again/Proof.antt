@@ -2,10 +2,10 @@ use native.Mathlib.Omega.{arith}
 use Prim.Native.Nat.{_≤_, _-_}
 use mathlib.Core.Path.{_≡_, sym, _∙_}
 use mathlib.Core.Bool.{false}
-use Rattle.theory_resolution.specs.Lists.{tabulate}
-use Rattle.table_places.specs.Tests.{any}
+use Rattle.base_lists.proofs.Tests.{any-start, any-next, any-found, any-ends}
+use Rattle.base_lists.specs.Tests.{any}
+use Rattle.base_lists.specs.Lists.{tabulate}
 use Rattle.table_places.specs.Slots.{samePlacesAt}
-use Rattle.table_places.proofs.TestLaws.{any-start, any-next, any-found, any-ends}
 use borrow.Author.Needs.{needs}
 use Rattle.table_places.proofs.places.places_again.Statement.{statement}
 use Rattle.table_places.proofs.places.places_again.Tie as tie
@@ -23,7 +23,9 @@ same-places-requires : tie.Need-same-places-requires Inv-loop μ-loop
 same-places-requires c κs = search needs
 
 returns : tie.Need-returns Inv-loop μ-loop
-returns c = any-found _ _ _ _ (c .before .before .before .loop .inv .1) (c .before .before .loop-test .taken) (sym (c .before .same-places .ensures) ∙ c .if1 .taken)
+returns c =
+    let loop = c .before .before .before .loop in
+    any-found _ _ _ _ (loop .inv .1) (c .before .before .loop-test .taken) (sym (c .before .same-places .ensures) ∙ c .if1 .taken)
 
 add-a : tie.Need-add-a Inv-loop μ-loop
 add-a c = search needs

@@ -5,9 +5,9 @@ use mathlib.Core.Bool.{false}
 use lib.ListN.{getD}
 use lib.Dec.{eqb}
 use borrow.Author.Tests.{eq-eqb, ne-eqb}
-use Rattle.theory_resolution.specs.Lists.{tabulate}
-use Rattle.table_places.specs.Tests.{any}
-use Rattle.table_places.proofs.TestLaws.{any-start, any-next, any-found, any-ends}
+use Rattle.base_lists.proofs.Tests.{any-start, any-next, any-found, any-ends}
+use Rattle.base_lists.specs.Tests.{any}
+use Rattle.base_lists.specs.Lists.{tabulate}
 use borrow.Author.Needs.{needs}
 use Rattle.table_places.proofs.places.row_again.Statement.{statement}
 use Rattle.table_places.proofs.places.row_again.Tie as tie

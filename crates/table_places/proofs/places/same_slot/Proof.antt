@@ -27,7 +27,10 @@ same-requires : tie.Need-same-requires
 same-requires c κs = search needs
 
 returns-3 : tie.Need-returns-3
-returns-3 c = slot-both _ _ _ _ _ (c .before .before .before .before .if1 .left) (c .before .before .before .if2 .left) (c .same .ensures) (text-in _ _ _ _ _ (c .before .before .urn-text .ensures .0) (omega arith)) (text-in _ _ _ _ _ (c .before .urn-text2 .ensures .0) (omega arith))
+returns-3 c =
+    let if2 = c .before .before .before .if2 .left in let if1 = c .before .before .before .before .if1 .left in
+    slot-both _ _ _ _ _ if1 if2 (c .same .ensures) (text-in _ _ _ _ _ (c .before .before .urn-text .ensures .0) (omega arith))
+    (text-in _ _ _ _ _ (c .before .urn-text2 .ensures .0) (omega arith))
 
 pub same-slot-spec : {M : Type 1} → statement M
 same-slot-spec =

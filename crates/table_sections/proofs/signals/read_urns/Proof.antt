@@ -2,17 +2,20 @@ use native.Mathlib.Omega.{arith}
 use Prim.Native.Nat.{_≤_, _-_}
 use mathlib.Core.Path.{_≡_, refl, _∙_}
 use lib.ListN.{length-set}
-use Rattle.theory_resolution.specs.Lists.{tabulate}
+use Rattle.base_numbers.specs.Numbers.{mostUrnBytes}
+use Rattle.base_lists.proofs.Numbers.{one-byte, two-bytes}
+use Rattle.base_lists.specs.Lists.{tabulate}
 use Rattle.table_sections.specs.Stored.{text, times}
 use Rattle.table_sections.specs.Held.{tag, urnAt, Room}
 use Rattle.table_sections.proofs.Readings.{after, run-more, run-stop, run-done, text-was, text-was-fault, text-inside, stored-urn, urn-keep}
-use Rattle.table_sections.proofs.Padding.{one-byte, two-bytes}
 use borrow.Author.Needs.{needs}
 use Rattle.table_sections.proofs.signals.read_urns.Statement.{statement}
 use Rattle.table_sections.proofs.signals.read_urns.Tie as tie
 
 abbrev Inv-loop : tie.InvT-loop
-Inv-loop t from s start end at₀ len₀ signal₀ i₀ p₀ at len signal i p = (i ≤ end) × (Room at₀ len₀ signal₀ → Room at len signal) × (Room at₀ len₀ signal₀ → after (tabulate (urnAt t signal₀ at₀ len₀) start) (tag s) (times (text 255 t) (end - start) from) ≡ after (tabulate (urnAt t signal at len) i) (tag s) (times (text 255 t) (end - i) p))
+Inv-loop t from s start end at₀ len₀ signal₀ i₀ p₀ at len signal i p = (i ≤ end) × (Room at₀ len₀ signal₀ → Room at len signal)
+    × (Room at₀ len₀ signal₀ → after (tabulate (urnAt t signal₀ at₀ len₀) start) (tag s) (times (text mostUrnBytes t) (end - start) from)
+    ≡ after (tabulate (urnAt t signal at len) i) (tag s) (times (text mostUrnBytes t) (end - i) p))
 
 abbrev μ-loop : tie.MeasureT-loop
 μ-loop t from s start end at₀ len₀ signal₀ i₀ p₀ at len signal i p = end - i
@@ -27,7 +30,14 @@ enum-known-got : tie.Need-enum-known-got Inv-loop μ-loop
 enum-known-got c = search needs
 
 returns : tie.Need-returns Inv-loop μ-loop
-returns c = (λ a. run-stop _ _ _ _ _ _ _ (c .before .before .before .before .before .loop .inv .2 a) _ (c .before .before .before .before .loop-test .taken) (text-was-fault _ _ (c .before .before .before .read-text .ensures .0) (c .before .got .given .1)), (tt, c .before .before .before .before .before .loop .inv .1))
+returns c =
+    let b = c .before .before .before in let read-text = b .read-text in
+    let loop-test = b .before .loop-test in
+    let loop = b .before .before .loop in (
+      λ a. run-stop _ _ _ _ _ _ _ (loop .inv .2 a) _ (loop-test .taken)
+          (text-was-fault _ _ (read-text .ensures .0) (c .before .got .given .1)),
+      (tt, loop .inv .1),
+    )
 
 enum-known-got-2 : tie.Need-enum-known-got-2 Inv-loop μ-loop
 enum-known-got-2 c = search needs
@@ -60,19 +70,27 @@ loop-less : tie.Need-loop-less Inv-loop μ-loop
 loop-less c = omega arith
 
 loop-again : tie.Need-loop-again Inv-loop μ-loop
-loop-again c = let at = c .before .before .before .before .before .before .before .loop .at in
+loop-again c =
+    let got2-given = c .before .before .before .got2 .given in
+    let read-text = c .before .before .before .before .before .read-text .ensures in
+    let loop-test = c .before .before .before .before .before .before .loop-test .taken in
+    let at = c .before .before .before .before .before .before .before .loop .at in
+    let i = c .before .before .before .before .before .before .before .loop .i in
+    let inv = c .before .before .before .before .before .before .before .loop .inv in
     let len = c .before .before .before .before .before .before .before .loop .len in
     let signal = c .before .before .before .before .before .before .before .loop .signal in
-    let i = c .before .before .before .before .before .before .before .loop .i in
-    let b = text-inside _ _ (c .before .before .before .before .before .read-text .ensures .1) (c .before .before .before .got2 .given .1) in (
+    let s = c .before .before .before .before .before .before .before .before .before .args .s in
+    let b = text-inside _ _ (read-text .1) (got2-given .1) in (
       omega arith,
-      λ a.
-          let v = c .before .before .before .before .before .before .before .loop .inv .1 a in
-          (length-set at i (c .before .short .result) ∙ v .0, length-set len i (c .small .result) ∙ v .1, length-set signal i (c .before .before .before .before .before .before .before .before .before .args .s) ∙ v .2),
-      λ a.
-          let v = c .before .before .before .before .before .before .before .loop .inv .1 a in
-          run-more _ _ _ _ _ _ _ (c .before .before .before .before .before .before .before .loop .inv .2 a) _ _ _ (c .before .before .before .before .before .before .loop-test .taken) (text-was _ _ _ (c .before .before .before .before .before .read-text .ensures .0) (c .before .before .before .got2 .given .1)) (λ j l. urn-keep _ signal at len i _ _ _ j l)
-          (stored-urn _ signal at len i _ _ _ (two-bytes (c .before .short .ensures) (omega (arith, b .2))) (one-byte (c .small .ensures) (omega (arith, b .0))) (omega (arith, v .2)) (omega (arith, v .0)) (omega (arith, v .1))),
+      λ a. let v = inv .1 a in (
+        length-set at i (c .before .short .result) ∙ v .0,
+        length-set len i (c .small .result) ∙ v .1,
+        length-set signal i s ∙ v .2,
+      ),
+      λ a. let v = inv .1 a in run-more _ _ _ _ _ _ _ (inv .2 a) _ _ _ loop-test (text-was _ _ _ (read-text .0) (got2-given .1))
+          (λ j l. urn-keep _ signal at len i _ _ _ j l)
+          (stored-urn _ signal at len i _ _ _ (two-bytes (c .before .short .ensures) (omega (arith, b .2)))
+          (one-byte (c .small .ensures) (omega (arith, b .0))) (omega (arith, v .2)) (omega (arith, v .0)) (omega (arith, v .1))),
     )
 
 returns-2 : tie.Need-returns-2 Inv-loop μ-loop

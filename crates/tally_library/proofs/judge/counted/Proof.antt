@@ -39,7 +39,9 @@ same-length : tie.Need-same-length
 same-length c = search needs
 
 returns-3 : tie.Need-returns-3
-returns-3 c = counts-one _ _ (c .before .before .before .if1 .left) (omega (arith, c .before .slice-known2 .given (c .before .before .before .before .before .before .args .r .refusal - 1), c .if2 .left))
+returns-3 c =
+    let if1 = c .before .before .before .if1 .left in let r = c .before .before .before .before .before .before .args .r in
+    counts-one _ _ if1 (omega (arith, c .before .slice-known2 .given (r .refusal - 1), c .if2 .left))
 
 pub counted-spec : {M : Type 1} → statement M
 counted-spec =

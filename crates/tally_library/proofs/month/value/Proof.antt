@@ -1,5 +1,6 @@
 use mathlib.Core.Path.{_≡_}
 use lib.ListN.{length}
+use Rattle.base_numbers.specs.Numbers.{mostSignals}
 use Rattle.tally_library.proofs.TallyLaws.{first-past, first-within}
 use borrow.Author.Needs.{needs}
 use Rattle.tally_library.proofs.month.value.Statement.{statement}
@@ -18,7 +19,12 @@ same-length : tie.Need-same-length
 same-length c = search needs
 
 returns : tie.Need-returns
-returns c = let w : length (c .before .before .before .before .before .before .before .before .before .before .args .t2) ≡ 32 = c .before .before .before .before .before .before .before .before .before .before .good .1 .0 .1 .0 .1 in first-past _ (c .before .before .before .before .before .before .before .before .before .before .args .t2) (c .before .before .before .before .before .before .before .before .before .before .args .n) _ _ _ _ _ _ w (c .before .before .before .before .before .before .at-most .ensures .0) (c .before .before .before .before .judge .ensures) (c .before .place .ensures) (c .if1 .taken)
+returns c =
+    let b = c .before .before .before .before in let judge = b .judge in
+    let b2 = b .before .before in let at-most = b2 .at-most in
+    let a = b2 .before .before .before .before .args in let good = b2 .before .before .before .before .good in
+    let w : length (a .t2) ≡ mostSignals = good .1 .0 .1 .0 .1 in
+    first-past _ (a .t2) (a .n) _ _ _ _ _ _ w (at-most .ensures .0) (judge .ensures) (c .before .place .ensures) (c .if1 .taken)
 
 mul-plus : tie.Need-mul-plus
 mul-plus c = search needs
@@ -39,7 +45,14 @@ same-length-2 : tie.Need-same-length-2
 same-length-2 c = search needs
 
 returns-2 : tie.Need-returns-2
-returns-2 c = let w : length (c .before .before .before .before .before .before .before .before .before .before .before .before .before .before .args .t2) ≡ 32 = c .before .before .before .before .before .before .before .before .before .before .before .before .before .before .good .1 .0 .1 .0 .1 in first-within _ (c .before .before .before .before .before .before .before .before .before .before .before .before .before .before .args .t2) (c .before .before .before .before .before .before .before .before .before .before .before .before .before .before .args .n) _ _ _ _ _ _ w (c .before .before .before .before .before .before .before .before .before .before .at-most .ensures .0) (c .before .before .before .before .before .before .before .before .judge .ensures) (c .before .before .before .before .before .place .ensures) (c .before .before .before .before .if1 .left) _ (c .before .before .plus .ensures)
+returns-2 c =
+    let b = c .before .before .before .before in let if1 = b .if1 in
+    let place = b .before .place in
+    let b2 = b .before .before .before .before in let judge = b2 .judge in
+    let b3 = b2 .before .before in let at-most = b3 .at-most in
+    let a = b3 .before .before .before .before .args in let good = b3 .before .before .before .before .good in
+    let w : length (a .t2) ≡ mostSignals = good .1 .0 .1 .0 .1 in
+    first-within _ (a .t2) (a .n) _ _ _ _ _ _ w (at-most .ensures .0) (judge .ensures) (place .ensures) (if1 .left) _ (c .before .before .plus .ensures)
 
 pub value-spec : {M : Type 1} → statement M
 value-spec =

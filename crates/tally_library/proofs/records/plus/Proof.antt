@@ -14,7 +14,9 @@ uncounted-requires : tie.Need-uncounted-requires
 uncounted-requires c κs = search needs
 
 returns : tie.Need-returns
-returns c = added-no _ _ _ (c .uncounted .ensures) (chosen-full (c .before .before .before .before .before .args .x) (c .before .before .before .before .before .args .r) (c .before .if1 .taken))
+returns c =
+    let a = c .before .before .before .before .before .args in
+    added-no _ _ _ (c .uncounted .ensures) (chosen-full (a .x) (a .r) (c .before .if1 .taken))
 
 sub-if2 : tie.Need-sub-if2
 sub-if2 c = search needs
@@ -23,7 +25,9 @@ uncounted-requires-2 : tie.Need-uncounted-requires-2
 uncounted-requires-2 c κs = search needs
 
 returns-2 : tie.Need-returns-2
-returns-2 c = added-no _ _ _ (c .uncounted2 .ensures) (used-full (c .before .before .before .before .before .before .before .args .x) (c .before .before .before .before .before .before .before .args .r) (c .before .if2 .taken))
+returns-2 c =
+    let a = c .before .before .before .before .before .before .before .args in
+    added-no _ _ _ (c .uncounted2 .ensures) (used-full (a .x) (a .r) (c .before .if2 .taken))
 
 sub-if3 : tie.Need-sub-if3
 sub-if3 c = search needs
@@ -32,7 +36,10 @@ uncounted-requires-3 : tie.Need-uncounted-requires-3
 uncounted-requires-3 c κs = search needs
 
 returns-3 : tie.Need-returns-3
-returns-3 c = added-no _ _ _ (c .uncounted3 .ensures) (skipped-full (c .before .before .before .before .before .before .before .before .before .args .x) (c .before .before .before .before .before .before .before .before .before .args .r) (c .before .if3 .taken))
+returns-3 c =
+    let b = c .before .before .before .before .before .before .before .before in
+    let a = b .before .args in
+    added-no _ _ _ (c .uncounted3 .ensures) (skipped-full (a .x) (a .r) (c .before .if3 .taken))
 
 add-t8 : tie.Need-add-t8
 add-t8 c = search needs
@@ -44,7 +51,8 @@ add-t12 : tie.Need-add-t12
 add-t12 c = search needs
 
 returns-4 : tie.Need-returns-4
-returns-4 c = added-yes _ _ (fits-all _ (omega (arith, add-t8 (c .before .before) .fits)) (omega (arith, add-t11 (c .before) .fits)) (omega (arith, add-t12 c .fits)))
+returns-4 c = added-yes _ _ (fits-all _ (omega (arith, add-t8 (c .before .before) .fits)) (omega (arith, add-t11 (c .before) .fits))
+    (omega (arith, add-t12 c .fits)))
 
 pub plus-spec : {M : Type 1} → statement M
 plus-spec =

@@ -30,12 +30,11 @@ loop-less : tie.Need-loop-less Inv-loop μ-loop
 loop-less c = omega arith
 
 loop-again : tie.Need-loop-again Inv-loop μ-loop
-loop-again c = let v = c .before .before .before .before .before .before .loop in
-    let a = c .before .before .before .before .before .before .before .before .before .args in (
-      omega arith,
-      omega (arith, v .inv .1),
-      wrote-more (a .s .now) (v .i) (c .before .before .before .before .before .loop-test .taken) (v .inv .2) (c .before .before .byte .ensures),
-    )
+loop-again c =
+    let loop-test = c .before .before .before .before .before .loop-test in
+    let v = c .before .before .before .before .before .before .loop in
+    let a = c .before .before .before .before .before .before .before .before .before .args in
+    (omega arith, omega (arith, v .inv .1), wrote-more (a .s .now) (v .i) (loop-test .taken) (v .inv .2) (c .before .before .byte .ensures))
 
 same-length : tie.Need-same-length Inv-loop μ-loop
 same-length c = c .before .loop .inv .1

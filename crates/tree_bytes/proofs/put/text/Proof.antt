@@ -16,7 +16,10 @@ same-length : tie.Need-same-length
 same-length c = search needs
 
 returns : tie.Need-returns
-returns c = wrote-text _ (c .before .before .before .before .before .before .before .small .ensures) (c .before .before .before .before .before .before .byte .ensures) (c .before .before .all .ensures)
+returns c =
+    let b = c .before .before .before .before .before .before in let byte = b .byte in
+    let small = b .before .small in
+    wrote-text _ (small .ensures) (byte .ensures) (c .before .before .all .ensures)
 
 pub text-spec : {M : Type 1} → statement M
 text-spec = tie.close (tie.spec small-requires byte-requires all-requires same-length returns)

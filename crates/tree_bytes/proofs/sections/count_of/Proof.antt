@@ -2,7 +2,7 @@ use native.Mathlib.Omega.{arith}
 use Prim.Native.Nat.{_≤_, _-_}
 use mathlib.Core.Path.{_≡_}
 use lib.ListN.{length}
-use Rattle.theory_resolution.specs.Lists.{tabulate}
+use Rattle.base_lists.specs.Lists.{tabulate}
 use Rattle.tree_sections.specs.Held.{numberAt}
 use Rattle.tree_bytes.specs.Laid.{ofSignal}
 use Rattle.tree_bytes.proofs.Laying.{none-counted, count-hit, count-miss, counted-end, count-over, count-all}
@@ -38,7 +38,14 @@ loop-less : tie.Need-loop-less Inv-loop μ-loop
 loop-less c = omega arith
 
 loop-again : tie.Need-loop-again Inv-loop μ-loop
-loop-again c = (omega arith, omega arith, count-hit (c .before .before .before .before .before .before .args .s) (numberAt (c .before .before .before .before .before .before .args .signal .now) (c .before .before .before .before .before .before .args .number .now)) (c .before .before .before .before .loop .i) (c .before .before .before .before .loop .inv .2) (c .before .wide .ensures .0) (c .if2 .taken))
+loop-again c =
+    let loop = c .before .before .before .before .loop in
+    let a = c .before .before .before .before .before .before .args in (
+      omega arith,
+      omega arith,
+      count-hit (a .s) (numberAt (a .signal .now) (a .number .now)) (loop .i) (loop .inv .2)
+          (c .before .wide .ensures .0) (c .if2 .taken),
+    )
 
 add-i-2 : tie.Need-add-i-2 Inv-loop μ-loop
 add-i-2 c = search needs
@@ -47,10 +54,21 @@ loop-less-2 : tie.Need-loop-less-2 Inv-loop μ-loop
 loop-less-2 c = omega arith
 
 loop-again-2 : tie.Need-loop-again-2 Inv-loop μ-loop
-loop-again-2 c = (omega arith, omega arith, count-miss (c .before .before .before .before .before .before .args .s) (numberAt (c .before .before .before .before .before .before .args .signal .now) (c .before .before .before .before .before .before .args .number .now)) (c .before .before .before .before .loop .i) (c .before .before .before .before .loop .inv .2) (c .before .wide .ensures .0) (c .if2 .left))
+loop-again-2 c =
+    let loop = c .before .before .before .before .loop in
+    let a = c .before .before .before .before .before .before .args in (
+      omega arith,
+      omega arith,
+      count-miss (a .s) (numberAt (a .signal .now) (a .number .now)) (loop .i) (loop .inv .2)
+          (c .before .wide .ensures .0) (c .if2 .left),
+    )
 
 returns-2 : tie.Need-returns-2 Inv-loop μ-loop
-returns-2 c = count-all _ _ _ _ (c .before .before .if1 .left) (counted-end (c .before .before .before .args .s) (numberAt (c .before .before .before .args .signal .now) (c .before .before .before .args .number .now)) (c .before .loop .i) (c .before .before .before .args .m) (c .before .loop .inv .0) (c .loop-test .left) (c .before .loop .inv .2))
+returns-2 c =
+    let loop = c .before .loop in
+    let a = c .before .before .before .args in
+    count-all _ _ _ _ (c .before .before .if1 .left) (counted-end (a .s) (numberAt (a .signal .now) (a .number .now)) (loop .i) (a .m)
+    (loop .inv .0) (c .loop-test .left) (loop .inv .2))
 
 pub count-of-spec : {M : Type 1} → statement M
 count-of-spec =

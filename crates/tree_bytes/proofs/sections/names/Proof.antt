@@ -2,10 +2,10 @@ use native.Mathlib.Omega.{arith}
 use Prim.Native.Nat.{_≤_, _-_, _+_, _*_}
 use mathlib.Core.Path.{_≡_, refl, ap}
 use lib.ListN.{length}
-use Rattle.theory_resolution.specs.Lists.{tabulate}
-use Rattle.node_search.specs.Arrays.{stretch}
-use Rattle.table_sections.proofs.Padding.{one-byte}
-use Rattle.tree_forms.specs.Bytes.{each, textBytes}
+use Rattle.base_lists.specs.Cuts.{stretch}
+use Rattle.base_lists.proofs.Numbers.{one-byte}
+use Rattle.base_lists.specs.Lists.{tabulate, each}
+use Rattle.tree_forms.specs.Bytes.{textBytes}
 use Rattle.tree_bytes.specs.Laid.{Wrote}
 use Rattle.tree_bytes.proofs.Laying.{wrote-most, text-as, wrote-start, wrote-next, names-over, names-all}
 use Rattle.node_search.proofs.TextLaws.{text-in}
@@ -14,7 +14,8 @@ use Rattle.tree_bytes.proofs.sections.names.Statement.{statement}
 use Rattle.tree_bytes.proofs.sections.names.Tie as tie
 
 abbrev Inv-loop : tie.InvT-loop
-Inv-loop t n name-at name-len buf₀ p₀ i₀ buf p i = (i ≤ n) × (p ≤ 1 + 256 * i) × Wrote buf₀ buf p₀ (each textBytes (tabulate (stretch t name-at name-len) i)) p × (length buf ≡ length buf₀)
+Inv-loop t n name-at name-len buf₀ p₀ i₀ buf p i = (i ≤ n) × (p ≤ 1 + 256 * i)
+    × Wrote buf₀ buf p₀ (each textBytes (tabulate (stretch t name-at name-len) i)) p × (length buf ≡ length buf₀)
 
 abbrev μ-loop : tie.MeasureT-loop
 μ-loop t n name-at name-len buf₀ p₀ i₀ buf p i = n - i
@@ -29,7 +30,13 @@ byte-requires : tie.Need-byte-requires Inv-loop μ-loop
 byte-requires c κs = search needs
 
 loop-holds : tie.Need-loop-holds Inv-loop μ-loop
-loop-holds c = (omega arith, omega (arith, wrote-most (c .before .before .byte .ensures)), wrote-start textBytes (stretch (c .before .before .before .before .before .before .before .before .args .t .now) (c .before .before .before .before .before .before .before .before .args .name-at .now) (c .before .before .before .before .before .before .before .before .args .name-len .now)) _ _, refl)
+loop-holds c =
+    let a = c .before .before .before .before .before .before .before .before .args in (
+      omega arith,
+      omega (arith, wrote-most (c .before .before .byte .ensures)),
+      wrote-start textBytes (stretch (a .t .now) (a .name-at .now) (a .name-len .now)) _ _,
+      refl,
+    )
 
 name-text-requires : tie.Need-name-text-requires Inv-loop μ-loop
 name-text-requires c κs = search needs
@@ -44,17 +51,34 @@ loop-less : tie.Need-loop-less Inv-loop μ-loop
 loop-less c = omega arith
 
 loop-again : tie.Need-loop-again Inv-loop μ-loop
-loop-again c = let l = c .before .before .before .before .before .before .loop .inv in
-    let w = c .before .before .before .name-text .ensures in
-    let G = text-as (c .before .before .before .name-text .result .now) (c .before .before .text .ensures) (w .1) in
-    (omega arith, omega (arith, l .1, wrote-most G, w .1), wrote-next textBytes (stretch (c .before .before .before .before .before .before .before .before .before .before .before .before .before .before .before .args .t .now) (c .before .before .before .before .before .before .before .before .before .before .before .before .before .before .before .args .name-at .now) (c .before .before .before .before .before .before .before .before .before .before .before .before .before .before .before .args .name-len .now)) (c .before .before .before .before .before .before .loop .i) (l .2) G (ap textBytes (text-in _ _ _ _ _ (w .0) (omega arith))), omega (arith, l .3))
+loop-again c =
+    let name-text = c .before .before .before .name-text in
+    let loop = c .before .before .before .before .before .before .loop in
+    let a = c .before .before .before .before .before .before .before .before .before .before .before .before .before .before .before .args in
+    let l = loop .inv in
+    let w = name-text .ensures in
+    let G = text-as (name-text .result .now) (c .before .before .text .ensures) (w .1) in (
+      omega arith,
+      omega (arith, l .1, wrote-most G, w .1),
+      wrote-next textBytes (stretch (a .t .now) (a .name-at .now) (a .name-len .now)) (loop .i) (l .2) G
+          (ap textBytes (text-in _ _ _ _ _ (w .0) (omega arith))),
+      omega (arith, l .3),
+    )
 
 same-length : tie.Need-same-length Inv-loop μ-loop
 same-length c = omega (arith, c .before .loop .inv .3)
 
 returns-2 : tie.Need-returns-2 Inv-loop μ-loop
-returns-2 c = let l = c .before .loop .inv in
-    (names-all (c .before .before .before .before .before .before .before .before .before .before .args .t .now) (c .before .before .before .before .before .before .before .before .before .before .args .name-at .now) (c .before .before .before .before .before .before .before .before .before .before .args .name-len .now) (c .before .before .before .before .before .before .before .before .before .before .args .n) (c .before .loop .i) (omega arith) (one-byte (c .before .before .before .before .before .small .ensures) (omega arith)) (l .0) (c .loop-test .left) (c .before .before .before .before .byte .ensures) (l .2), omega (arith, l .1))
+returns-2 c =
+    let loop = c .before .loop in
+    let byte = c .before .before .before .before .byte in
+    let small = c .before .before .before .before .before .small in
+    let a = c .before .before .before .before .before .before .before .before .before .before .args in
+    let l = loop .inv in (
+      names-all (a .t .now) (a .name-at .now) (a .name-len .now) (a .n) (loop .i) (omega arith) (one-byte (small .ensures) (omega arith))
+          (l .0) (c .loop-test .left) (byte .ensures) (l .2),
+      omega (arith, l .1),
+    )
 
 pub names-spec : {M : Type 1} → statement M
 names-spec =

@@ -22,7 +22,10 @@ shared-slice-read-if1 : tie.Need-shared-slice-read-if1 Inv-loop μ-loop
 shared-slice-read-if1 c = omega (arith, c .before .before .loop .inv .0)
 
 returns : tie.Need-returns Inv-loop μ-loop
-returns c = (c .before .before .before .loop .inv .0, last-at (c .before .before .before .before .args .w .now) (c .before .before .before .loop .i) (c .before .before .loop-test .taken) (c .before .before .before .loop .inv .0) (c .before .before .before .loop .inv .1) (c .if1 .taken))
+returns c =
+    let loop = c .before .before .before .loop in
+    let a = c .before .before .before .before .args in
+    (loop .inv .0, last-at (a .w .now) (loop .i) (c .before .before .loop-test .taken) (loop .inv .0) (loop .inv .1) (c .if1 .taken))
 
 sub-i : tie.Need-sub-i Inv-loop μ-loop
 sub-i c = search needs
@@ -31,7 +34,10 @@ loop-less : tie.Need-loop-less Inv-loop μ-loop
 loop-less c = omega arith
 
 loop-again : tie.Need-loop-again Inv-loop μ-loop
-loop-again c = (omega (arith, c .before .before .before .loop .inv .0), whole-more (c .before .before .before .before .args .w .now) (c .before .before .before .loop .i) (c .before .before .loop-test .taken) (c .before .before .before .loop .inv .0) (c .before .before .before .loop .inv .1) (c .if1 .left))
+loop-again c =
+    let i = c .before .before .before .loop .i in let inv = c .before .before .before .loop .inv in
+    let w = c .before .before .before .before .args .w .now in
+    (omega (arith, inv .0), whole-more w i (c .before .before .loop-test .taken) (inv .0) (inv .1) (c .if1 .left))
 
 returns-2 : tie.Need-returns-2 Inv-loop μ-loop
 returns-2 c = (c .before .loop .inv .0, last-whole (c .before .before .args .w .now) (c .before .loop .i) (c .loop-test .left) (c .before .loop .inv .1))

@@ -35,13 +35,23 @@ same-length : tie.Need-same-length
 same-length c = search needs
 
 returns : tie.Need-returns
-returns c = let a = c .before .before .before .before .before .before .before .before .before .before .before .before .before .before .before .before .before .args in
-    let w = c .before .before .before .before .before .before .text-in .result .now in
+returns c =
+    let a = c .before .before .before .before .before .before .before .before .before .before .before .before .before .before .before .before .before .args in
+    let last-start = c .before .before .before .before .before .last-start .ensures in
     let k = c .before .before .before .before .before .last-start .result in
-    let F = puts-of (c .before .before .before .before .before .before .before .before .before .before .before .before .before .byte .ensures) (omega arith) in
-    let G = puts-of (c .before .before .before .before .before .before .before .before .before .byte2 .ensures) (omega (arith, F .end)) in
-    let H = puts-text-of (take (length w - k) (drop k w)) (c .before .before .text .ensures) (omega (arith, F .end, G .end)) (omega (arith, length-take (length w - k) (drop k w), length-drop k w, c .before .before .before .before .before .before .text-in .ensures .1)) in
-    puts-node _ _ (a .len) (a .at) k (a .t .now) w (c .before .before .before .before .before .before .text-in .ensures .0) (c .before .before .before .before .before .before .text-in .ensures .1) (c .before .before .before .before .before .last-start .ensures .1) F G H
+    let text-in = c .before .before .before .before .before .before .text-in .ensures in
+    let w = c .before .before .before .before .before .before .text-in .result .now in
+    let byte2 = c .before .before .before .before .before .before .before .before .before .byte2 .ensures in
+    let byte = c .before .before .before .before .before .before .before .before .before .before .before .before .before .byte .ensures in
+    let F = puts-of byte (omega arith) in
+    let G = puts-of byte2 (omega (arith, F .end)) in
+    let H = puts-text-of (take (length w - k) (drop k w)) (c .before .before .text .ensures) (omega (arith, F .end, G .end)) (omega (
+      arith,
+      length-take (length w - k) (drop k w),
+      length-drop k w,
+      text-in .1,
+    )) in
+    puts-node _ _ (a .len) (a .at) k (a .t .now) w (text-in .0) (text-in .1) (last-start .1) F G H
 
 pub put-node-spec : {M : Type 1} → statement M
 put-node-spec =

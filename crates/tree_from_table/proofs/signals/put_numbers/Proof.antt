@@ -1,9 +1,9 @@
-use Rattle.table_sections.proofs.Padding.{one-byte}
+use Rattle.base_lists.proofs.Numbers.{one-byte}
+use Rattle.base_lists.specs.Lists.{tabulate, each}
 use native.Mathlib.Omega.{arith}
 use Prim.Native.Nat.{_≤_, _-_, _+_}
 use mathlib.Core.Path.{refl, _∙_}
-use Rattle.theory_resolution.specs.Lists.{tabulate}
-use Rattle.tree_forms.specs.Bytes.{each, numberBytes}
+use Rattle.tree_forms.specs.Bytes.{numberBytes}
 use Rattle.tree_sections.specs.Held.{numberAt}
 use Rattle.tree_bytes.specs.Laid.{Puts, ofSignal}
 use Rattle.tree_bytes.proofs.Laying.{of-start, of-next, of-pass, of-end, count-is, puts-of}
@@ -12,7 +12,8 @@ use Rattle.tree_from_table.proofs.signals.put_numbers.Statement.{statem
 use Rattle.tree_from_table.proofs.signals.put_numbers.Tie as tie
 
 abbrev Inv-loop : tie.InvT-loop
-Inv-loop m signal number s buf₀ from n p₀ i₀ buf p i = (i ≤ m) × (p ≤ from + 1 + i) × Puts buf₀ buf p₀ (each numberBytes (ofSignal s (tabulate (numberAt signal number) i))) p
+Inv-loop m signal number s buf₀ from n p₀ i₀ buf p i = (i ≤ m) × (p ≤ from + 1 + i)
+    × Puts buf₀ buf p₀ (each numberBytes (ofSignal s (tabulate (numberAt signal number) i))) p
 
 abbrev μ-loop : tie.MeasureT-loop
 μ-loop m signal number s buf₀ from n p₀ i₀ buf p i = m - i
@@ -27,7 +28,11 @@ byte-requires : tie.Need-byte-requires Inv-loop μ-loop
 byte-requires c κs = search needs
 
 loop-holds : tie.Need-loop-holds Inv-loop μ-loop
-loop-holds c = (omega arith, omega (arith, puts-of (c .before .before .byte .ensures) (omega arith) .end), of-start numberBytes (c .before .before .before .before .before .before .before .args .s) (numberAt (c .before .before .before .before .before .before .before .args .signal .now) (c .before .before .before .before .before .before .before .args .number .now)) _ _)
+loop-holds c =
+    let number = c .before .before .before .before .before .before .before .args .number .now in
+    let s = c .before .before .before .before .before .before .before .args .s in
+    let signal = c .before .before .before .before .before .before .before .args .signal .now in
+    (omega arith, omega (arith, puts-of (c .before .before .byte .ensures) (omega arith) .end), of-start numberBytes s (numberAt signal number) _ _)
 
 element-copy-out-wide : tie.Need-element-copy-out-wide Inv-loop μ-loop
 element-copy-out-wide c = search needs
@@ -48,7 +53,24 @@ loop-less : tie.Need-loop-less Inv-loop μ-loop
 loop-less c = omega arith
 
 loop-again : tie.Need-loop-again Inv-loop μ-loop
-loop-again c = (omega arith, omega (arith, c .before .before .before .before .before .before .before .before .before .loop .inv .1, puts-of (c .before .before .byte2 .ensures) (omega (arith, c .before .before .before .before .before .before .before .before .before .loop .inv .1, c .before .before .before .before .before .before .before .before .before .before .before .before .before .before .before .before .before .pre .0, c .before .before .before .before .before .before .before .before .before .before .before .before .before .before .before .before .before .pre .1)) .end), of-next numberBytes (c .before .before .before .before .before .before .before .before .before .before .before .before .before .before .before .before .before .args .s) (numberAt (c .before .before .before .before .before .before .before .before .before .before .before .before .before .before .before .before .before .args .signal .now) (c .before .before .before .before .before .before .before .before .before .before .before .before .before .before .before .before .before .args .number .now)) (c .before .before .before .before .before .before .before .before .before .loop .i) (c .before .before .before .before .before .before .before .before .before .loop .inv .2) (puts-of (c .before .before .byte2 .ensures) (omega (arith, c .before .before .before .before .before .before .before .before .before .loop .inv .1, c .before .before .before .before .before .before .before .before .before .before .before .before .before .before .before .before .before .pre .0, c .before .before .before .before .before .before .before .before .before .before .before .before .before .before .before .before .before .pre .1))) refl (c .before .before .before .before .before .before .wide .ensures .0) (c .before .before .before .before .before .if1 .taken))
+loop-again c =
+    let byte2 = c .before .before .byte2 .ensures in let if1 = c .before .before .before .before .before .if1 .taken in
+    let wide = c .before .before .before .before .before .before .wide .ensures in
+    let loop-test = c .before .before .before .before .before .before .before .before .loop-test .taken in
+    let i = c .before .before .before .before .before .before .before .before .before .loop .i in
+    let inv = c .before .before .before .before .before .before .before .before .before .loop .inv in
+    let number = c .before .before .before .before .before .before .before .before .before .before .before .before .before .before .before
+    .before .before .args .number .now in
+    let s = c .before .before .before .before .before .before .before .before .before .before .before .before .before .before .before
+    .before .before .args .s in
+    let signal = c .before .before .before .before .before .before .before .before .before .before .before .before .before .before .before
+    .before .before .args .signal .now in
+    let pre = c .before .before .before .before .before .before .before .before .before .before .before .before .before .before .before
+    .before .before .pre in (
+      omega arith,
+      omega (arith, inv .1, puts-of byte2 (omega (arith, inv .1, loop-test, pre .0, pre .1)) .end),
+      of-next numberBytes s (numberAt signal number) i (inv .2) (puts-of byte2 (omega (arith, inv .1, loop-test, pre .0, pre .1))) refl (wide .0) if1,
+    )
 
 add-i-2 : tie.Need-add-i-2 Inv-loop μ-loop
 add-i-2 c = search needs
@@ -57,13 +79,31 @@ loop-less-2 : tie.Need-loop-less-2 Inv-loop μ-loop
 loop-less-2 c = omega arith
 
 loop-again-2 : tie.Need-loop-again-2 Inv-loop μ-loop
-loop-again-2 c = (omega arith, omega (arith, c .before .before .before .before .loop .inv .1), of-pass numberBytes (c .before .before .before .before .before .before .before .before .before .before .before .before .args .s) (numberAt (c .before .before .before .before .before .before .before .before .before .before .before .before .args .signal .now) (c .before .before .before .before .before .before .before .before .before .before .before .before .args .number .now)) (c .before .before .before .before .loop .i) (c .before .before .before .before .loop .inv .2) (c .before .wide .ensures .0) (c .if1 .left))
+loop-again-2 c =
+    let i = c .before .before .before .before .loop .i in let inv = c .before .before .before .before .loop .inv in
+    let number = c .before .before .before .before .before .before .before .before .before .before .before .before .args .number .now in
+    let s = c .before .before .before .before .before .before .before .before .before .before .before .before .args .s in
+    let signal = c .before .before .before .before .before .before .before .before .before .before .before .before .args .signal .now in
+    (omega arith, omega (arith, inv .1), of-pass numberBytes s (numberAt signal number) i (inv .2) (c .before .wide .ensures .0) (c .if1 .left))
 
 same-length : tie.Need-same-length Inv-loop μ-loop
 same-length c = c .before .loop .inv .2 .long ∙ puts-of (c .before .before .before .before .byte .ensures) (omega arith) .long
 
 returns : tie.Need-returns Inv-loop μ-loop
-returns c = (of-end numberBytes (c .before .before .before .before .before .before .before .before .before .args .s) (numberAt (c .before .before .before .before .before .before .before .before .before .args .signal .now) (c .before .before .before .before .before .before .before .before .before .args .number .now)) (c .before .loop .i) (c .before .before .before .before .before .before .before .before .before .args .m) (one-byte (c .before .before .before .before .before .small .ensures) (omega (arith, count-is _ _ _ _ (c .before .before .before .before .before .before .before .count-of .ensures) (c .before .before .before .before .before .before .before .before .before .pre .0), c .before .before .before .before .before .before .before .before .before .pre .2 (c .before .before .before .before .before .before .before .before .before .args .s)))) (count-is _ _ _ _ (c .before .before .before .before .before .before .before .count-of .ensures) (c .before .before .before .before .before .before .before .before .before .pre .0)) (c .before .loop .inv .0) (c .loop-test .left) (puts-of (c .before .before .before .before .byte .ensures) (omega arith)) (c .before .loop .inv .2), omega (arith, c .before .loop .inv .1, c .before .before .before .before .before .before .before .before .before .pre .0))
+returns c =
+    let inv = c .before .loop .inv in let byte = c .before .before .before .before .byte .ensures in
+    let small = c .before .before .before .before .before .small .ensures in
+    let count-of = c .before .before .before .before .before .before .before .count-of .ensures in
+    let m = c .before .before .before .before .before .before .before .before .before .args .m in
+    let number = c .before .before .before .before .before .before .before .before .before .args .number .now in
+    let s = c .before .before .before .before .before .before .before .before .before .args .s in
+    let signal = c .before .before .before .before .before .before .before .before .before .args .signal .now in
+    let pre = c .before .before .before .before .before .before .before .before .before .pre in (
+      of-end numberBytes s (numberAt signal number) (c .before .loop .i) m
+          (one-byte small (omega (arith, count-is _ _ _ _ count-of (pre .0), pre .2 s))) (count-is _ _ _ _ count-of (pre .0)) (inv .0)
+          (c .loop-test .left) (puts-of byte (omega arith)) (inv .2),
+      omega (arith, inv .1, pre .0),
+    )
 
 pub put-numbers-spec : {M : Type 1} → statement M
 put-numbers-spec =

@@ -4,9 +4,9 @@ use mathlib.Core.Path.{_≡_}
 use mathlib.Core.Bool.{true}
 use lib.ListN.{getD}
 use lib.Dec.{eqb}
-use Rattle.theory_resolution.specs.Lists.{tabulate}
-use Rattle.base_text.specs.Text.{all}
-use Rattle.table_places.proofs.TestLaws.{all-start}
+use Rattle.base_lists.proofs.Tests.{all-start}
+use Rattle.base_lists.specs.Tests.{all}
+use Rattle.base_lists.specs.Lists.{tabulate}
 use Rattle.tree_nodes.proofs.Tests.{link-next, link-fails, link-ends}
 use borrow.Author.Needs.{needs}
 use Rattle.tree_nodes.proofs.order.linked.Statement.{statement}
@@ -46,10 +46,18 @@ loop-less : tie.Need-loop-less Inv-loop μ-loop
 loop-less c = omega arith
 
 loop-again : tie.Need-loop-again Inv-loop μ-loop
-loop-again c = (omega arith, link-next (c .before .before .before .before .before .args .parent .now) (c .before .before .before .before .before .args .m) (c .before .before .before .before .loop .j) (c .before .wide .ensures .0) (c .before .before .before .before .loop .inv .1) (c .if1 .taken))
+loop-again c =
+    let inv = c .before .before .before .before .loop .inv in let j = c .before .before .before .before .loop .j in
+    let m = c .before .before .before .before .before .args .m in
+    let parent = c .before .before .before .before .before .args .parent .now in
+    (omega arith, link-next parent m j (c .before .wide .ensures .0) (inv .1) (c .if1 .taken))
 
 returns : tie.Need-returns Inv-loop μ-loop
-returns c = link-fails (c .before .before .before .before .before .args .parent .now) (c .before .before .before .before .before .args .m) (c .before .before .before .before .loop .j) (c .before .wide .ensures .0) (c .before .before .before .before .before .args .k) (c .before .before .before .loop-test .taken) (c .if1 .left)
+returns c =
+    let b = c .before .before .before in let loop-test = b .loop-test in
+    let loop = b .before .loop in
+    let a = b .before .before .args in
+    link-fails (a .parent .now) (a .m) (loop .j) (c .before .wide .ensures .0) (a .k) (loop-test .taken) (c .if1 .left)
 
 returns-2 : tie.Need-returns-2 Inv-loop μ-loop
 returns-2 c = link-ends _ _ _ _ (c .before .loop .inv .1) (c .before .loop .inv .0) (c .loop-test .left)

@@ -3,10 +3,10 @@ use Prim.Native.Nat.{_≤_, _-_}
 use mathlib.Core.Path.{_≡_, ap, _∙_}
 use mathlib.Core.Bool.{true}
 use lib.ListN.{getD}
-use Rattle.theory_resolution.specs.Lists.{tabulate}
-use Rattle.base_ascii.specs.Ascii.{within}
-use Rattle.base_text.specs.Text.{all}
-use Rattle.table_places.proofs.TestLaws.{all-start, all-next, all-fails, all-ends}
+use Rattle.base_lists.proofs.Tests.{all-start, all-next, all-fails, all-ends}
+use Rattle.base_lists.specs.Tests.{all}
+use Rattle.base_lists.specs.Numbers.{within}
+use Rattle.base_lists.specs.Lists.{tabulate}
 use borrow.Author.Needs.{needs}
 use Rattle.tree_nodes.proofs.order.numbers_known.Statement.{statement}
 use Rattle.tree_nodes.proofs.order.numbers_known.Tie as tie
@@ -36,10 +36,16 @@ loop-less : tie.Need-loop-less Inv-loop μ-loop
 loop-less c = omega arith
 
 loop-again : tie.Need-loop-again Inv-loop μ-loop
-loop-again c = (omega arith, all-next _ _ _ (c .before .before .before .before .before .loop .inv .1) (c .before .is-node .ensures ∙ ap (within 1 (c .before .before .before .before .before .before .args .n)) (c .before .before .wide .ensures .0)) (c .if1 .taken))
+loop-again c =
+    let inv = c .before .before .before .before .before .loop .inv in
+    let n = c .before .before .before .before .before .before .args .n in
+    (omega arith, all-next _ _ _ (inv .1) (c .before .is-node .ensures ∙ ap (within 1 n) (c .before .before .wide .ensures .0)) (c .if1 .taken))
 
 returns : tie.Need-returns Inv-loop μ-loop
-returns c = all-fails _ _ _ _ (c .before .before .before .before .loop-test .taken) (c .before .is-node .ensures ∙ ap (within 1 (c .before .before .before .before .before .before .args .n)) (c .before .before .wide .ensures .0)) (c .if1 .left)
+returns c =
+    let b = c .before .before .before .before in let loop-test = b .loop-test in
+    let a = b .before .before .args in
+    all-fails _ _ _ _ (loop-test .taken) (c .before .is-node .ensures ∙ ap (within 1 (a .n)) (c .before .before .wide .ensures .0)) (c .if1 .left)
 
 returns-2 : tie.Need-returns-2 Inv-loop μ-loop
 returns-2 c = all-ends _ _ _ _ (c .before .loop .inv .1) (c .before .loop .inv .0) (c .loop-test .left)

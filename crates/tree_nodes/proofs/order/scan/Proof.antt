@@ -3,7 +3,7 @@ use Prim.Native.Nat.{_≤_, _-_}
 use mathlib.Core.Path.{_≡_}
 use mathlib.Core.List.{foldl}
 use lib.ListN.{getD}
-use Rattle.theory_resolution.specs.Lists.{tabulate}
+use Rattle.base_lists.specs.Lists.{tabulate}
 use Rattle.tree_nodes.specs.Tests.{stepBy}
 use Rattle.tree_nodes.proofs.Tests.{scan-start, scan-more, scan-ends}
 use borrow.Author.Needs.{needs}

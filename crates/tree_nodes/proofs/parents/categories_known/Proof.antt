@@ -4,9 +4,9 @@ use mathlib.Core.Path.{_≡_}
 use mathlib.Core.Bool.{true}
 use lib.ListN.{getD}
 use lib.Dec.{ltb}
-use Rattle.theory_resolution.specs.Lists.{tabulate}
-use Rattle.base_text.specs.Text.{all}
-use Rattle.table_places.proofs.TestLaws.{all-start, all-ends}
+use Rattle.base_lists.proofs.Tests.{all-start, all-ends}
+use Rattle.base_lists.specs.Tests.{all}
+use Rattle.base_lists.specs.Lists.{tabulate}
 use Rattle.tree_nodes.proofs.Tests.{lower-next, lower-fails}
 use borrow.Author.Needs.{needs}
 use Rattle.tree_nodes.proofs.parents.categories_known.Statement.{statement}
@@ -34,10 +34,18 @@ loop-less : tie.Need-loop-less Inv-loop μ-loop
 loop-less c = omega arith
 
 loop-again : tie.Need-loop-again Inv-loop μ-loop
-loop-again c = (omega arith, lower-next (c .before .before .before .before .before .args .category .now) (c .before .before .before .before .before .args .c) (c .before .before .before .before .loop .i) (c .before .wide .ensures .0) (c .before .before .before .before .loop .inv .1) (c .if1 .taken))
+loop-again c =
+    let i = c .before .before .before .before .loop .i in let inv = c .before .before .before .before .loop .inv in
+    let the-c = c .before .before .before .before .before .args .c in
+    let category = c .before .before .before .before .before .args .category .now in
+    (omega arith, lower-next category the-c i (c .before .wide .ensures .0) (inv .1) (c .if1 .taken))
 
 returns : tie.Need-returns Inv-loop μ-loop
-returns c = lower-fails (c .before .before .before .before .before .args .category .now) (c .before .before .before .before .before .args .c) (c .before .before .before .before .loop .i) (c .before .wide .ensures .0) (c .before .before .before .before .before .args .n) (c .before .before .before .loop-test .taken) (c .if1 .left)
+returns c =
+    let b = c .before .before .before in let loop-test = b .loop-test in
+    let loop = b .before .loop in
+    let a = b .before .before .args in
+    lower-fails (a .category .now) (a .c) (loop .i) (c .before .wide .ensures .0) (a .n) (loop-test .taken) (c .if1 .left)
 
 returns-2 : tie.Need-returns-2 Inv-loop μ-loop
 returns-2 c = all-ends _ _ _ _ (c .before .loop .inv .1) (c .before .loop .inv .0) (c .loop-test .left)

@@ -27,13 +27,23 @@ same-requires : tie.Need-same-requires
 same-requires c κs = search needs
 
 returns : tie.Need-returns
-returns c = let a = c .before .before .before .before .before .before .before .before .before .before .args in by-name (a .t .now) (a .category .now) (a .parent .now) (a .at .now) (a .len .now) (a .i) (a .j) (c .before .before .before .before .before .before .if1 .taken) (c .before .before .before .if2 .taken) (c .same .ensures) (text-in _ _ _ _ _ (c .before .before .node-text .ensures .0) (omega arith)) (text-in _ _ _ _ _ (c .before .node-text2 .ensures .0) (omega arith))
+returns c =
+    let a = c .before .before .before .before .before .before .before .before .before .before .args in
+    let if2 = c .before .before .before .if2 .taken in
+    let if1 = c .before .before .before .before .before .before .if1 .taken in
+    by-name (a .t .now) (a .category .now) (a .parent .now) (a .at .now) (a .len .now) (a .i) (a .j) if1 if2 (c .same .ensures)
+    (text-in _ _ _ _ _ (c .before .before .node-text .ensures .0) (omega arith)) (text-in _ _ _ _ _ (c .before .node-text2 .ensures .0) (omega arith))
 
 returns-2 : tie.Need-returns-2
-returns-2 c = let a = c .before .before .before .before .before .before .before .args in not-parent (a .t .now) (a .category .now) (a .parent .now) (a .at .now) (a .len .now) (a .i) (a .j) (c .before .before .before .if1 .taken) (c .if2 .left)
+returns-2 c =
+    let b = c .before .before .before in let if1 = b .if1 in
+    let a = b .before .before .before .before .args in
+    not-parent (a .t .now) (a .category .now) (a .parent .now) (a .at .now) (a .len .now) (a .i) (a .j) (if1 .taken) (c .if2 .left)
 
 returns-3 : tie.Need-returns-3
-returns-3 c = let a = c .before .before .before .before .args in not-category (a .t .now) (a .category .now) (a .parent .now) (a .at .now) (a .len .now) (a .i) (a .j) (c .if1 .left)
+returns-3 c =
+    let a = c .before .before .before .before .args in
+    not-category (a .t .now) (a .category .now) (a .parent .now) (a .at .now) (a .len .now) (a .i) (a .j) (c .if1 .left)
 
 pub alike-spec : {M : Type 1} → statement M
 alike-spec =

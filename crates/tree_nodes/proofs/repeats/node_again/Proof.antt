@@ -2,9 +2,9 @@ use native.Mathlib.Omega.{arith}
 use Prim.Native.Nat.{_≤_, _-_}
 use mathlib.Core.Path.{_≡_, sym, _∙_}
 use mathlib.Core.Bool.{false}
-use Rattle.theory_resolution.specs.Lists.{tabulate}
-use Rattle.table_places.specs.Tests.{any}
-use Rattle.table_places.proofs.TestLaws.{any-start, any-next, any-found, any-ends}
+use Rattle.base_lists.proofs.Tests.{any-start, any-next, any-found, any-ends}
+use Rattle.base_lists.specs.Tests.{any}
+use Rattle.base_lists.specs.Lists.{tabulate}
 use Rattle.tree_nodes.specs.Scan.{sameNode}
 use Rattle.tree_sections.specs.Held.{nodeFrom}
 use borrow.Author.Needs.{needs}
@@ -12,7 +12,8 @@ use Rattle.tree_nodes.proofs.repeats.node_again.Statement.{statement}
 use Rattle.tree_nodes.proofs.repeats.node_again.Tie as tie
 
 abbrev Inv-loop : tie.InvT-loop
-Inv-loop t category parent at len i j₀ j = (j ≤ i) × (any (λ y. sameNode y (nodeFrom t category parent at len i)) (tabulate (nodeFrom t category parent at len) j) ≡ false)
+Inv-loop t category parent at len i j₀ j = (j ≤ i)
+    × (any (λ y. sameNode y (nodeFrom t category parent at len i)) (tabulate (nodeFrom t category parent at len) j) ≡ false)
 
 abbrev μ-loop : tie.MeasureT-loop
 μ-loop t category parent at len i j₀ j = i - j

@@ -2,9 +2,9 @@ use native.Mathlib.Omega.{arith}
 use Prim.Native.Nat.{_≤_, _-_}
 use mathlib.Core.Path.{_≡_, sym, _∙_}
 use mathlib.Core.Bool.{true}
-use Rattle.theory_resolution.specs.Lists.{tabulate}
-use Rattle.table_places.specs.Tests.{noTwo}
-use Rattle.table_places.proofs.TestLaws.{two-start, two-next, two-fails, two-ends}
+use Rattle.base_lists.proofs.Tests.{two-start, two-next, two-fails, two-ends}
+use Rattle.base_lists.specs.Tests.{noTwo}
+use Rattle.base_lists.specs.Lists.{tabulate}
 use Rattle.tree_nodes.specs.Scan.{sameNode}
 use Rattle.tree_sections.specs.Held.{nodeFrom}
 use borrow.Author.Needs.{needs}
@@ -33,7 +33,9 @@ loop-less : tie.Need-loop-less Inv-loop μ-loop
 loop-less c = omega arith
 
 loop-again : tie.Need-loop-again Inv-loop μ-loop
-loop-again c = (omega arith, two-next _ _ _ (c .before .before .before .before .before .args .n) (c .before .before .before .loop .inv .1) (sym (c .before .node-again .ensures) ∙ c .if1 .left))
+loop-again c =
+    let inv = c .before .before .before .loop .inv in let n = c .before .before .before .before .before .args .n in
+    (omega arith, two-next _ _ _ n (inv .1) (sym (c .before .node-again .ensures) ∙ c .if1 .left))
 
 returns-2 : tie.Need-returns-2 Inv-loop μ-loop
 returns-2 c = two-ends _ _ _ _ (c .before .loop .inv .1) (c .before .loop .inv .0) (c .loop-test .left)

@@ -2,11 +2,11 @@ use native.Mathlib.Omega.{arith}
 use Prim.Native.Nat.{_≤_, _-_}
 use mathlib.Core.Path.{_≡_, ap, _∙_}
 use mathlib.Core.Bool.{true}
-use Rattle.theory_resolution.specs.Lists.{tabulate}
-use Rattle.base_text.specs.Text.{all}
+use Rattle.base_lists.specs.Cuts.{stretch}
+use Rattle.base_lists.proofs.Tests.{all-start, all-next, all-fails, all-ends}
+use Rattle.base_lists.specs.Tests.{all}
+use Rattle.base_lists.specs.Lists.{tabulate}
 use Rattle.urn_names.specs.Urn.{storedName}
-use Rattle.node_search.specs.Arrays.{stretch}
-use Rattle.table_places.proofs.TestLaws.{all-start, all-next, all-fails, all-ends}
 use Rattle.node_search.proofs.TextLaws.{text-in}
 use Rattle.tree_nodes.proofs.ByArrays.{lasts-over, lasts-within}
 use borrow.Author.Needs.{needs}
@@ -38,10 +38,18 @@ loop-less : tie.Need-loop-less Inv-loop μ-loop
 loop-less c = omega arith
 
 loop-again : tie.Need-loop-again Inv-loop μ-loop
-loop-again c = (omega arith, all-next _ _ _ (c .before .before .before .before .loop .inv .1) (c .before .stored-name .ensures ∙ ap storedName (text-in _ _ _ _ _ (c .before .before .node-text .ensures .0) (omega arith))) (c .if2 .taken))
+loop-again c =
+    let inv = c .before .before .before .before .loop .inv in (
+      omega arith,
+      all-next _ _ _ (inv .1) (c .before .stored-name .ensures
+          ∙ ap storedName (text-in _ _ _ _ _ (c .before .before .node-text .ensures .0) (omega arith))) (c .if2 .taken),
+    )
 
 returns-2 : tie.Need-returns-2 Inv-loop μ-loop
-returns-2 c = lasts-within _ _ _ _ (omega arith) (all-fails _ _ _ _ (c .before .before .before .loop-test .taken) (c .before .stored-name .ensures ∙ ap storedName (text-in _ _ _ _ _ (c .before .before .node-text .ensures .0) (omega arith))) (c .if2 .left))
+returns-2 c =
+    let loop-test = c .before .before .before .loop-test .taken in
+    lasts-within _ _ _ _ (omega arith) (all-fails _ _ _ _ loop-test (c .before .stored-name .ensures
+    ∙ ap storedName (text-in _ _ _ _ _ (c .before .before .node-text .ensures .0) (omega arith))) (c .if2 .left))
 
 returns-3 : tie.Need-returns-3 Inv-loop μ-loop
 returns-3 c = lasts-within _ _ _ _ (omega arith) (all-ends _ _ _ _ (c .before .loop .inv .1) (c .before .loop .inv .0) (c .loop-test .left))

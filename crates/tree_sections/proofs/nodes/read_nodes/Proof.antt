@@ -2,9 +2,10 @@ use native.Mathlib.Omega.{arith}
 use Prim.Native.Nat.{_≤_, _-_, _<_}
 use mathlib.Core.Path.{_≡_, _∙_}
 use lib.ListN.{length, length-set}
-use Rattle.theory_resolution.specs.Lists.{tabulate}
+use Rattle.base_numbers.specs.Numbers.{mostNodes}
+use Rattle.base_lists.proofs.Numbers.{one-byte, two-bytes}
+use Rattle.base_lists.specs.Lists.{tabulate}
 use Rattle.table_sections.specs.Stored.{times}
-use Rattle.table_sections.proofs.Padding.{one-byte, two-bytes}
 use Rattle.table_sections.proofs.Readings.{after, run-start, run-more, run-stop, run-done}
 use Rattle.tree_sections.specs.Tree.{node}
 use Rattle.tree_sections.specs.Held.{nodeFrom}
@@ -14,7 +15,9 @@ use Rattle.tree_sections.proofs.nodes.read_nodes.Statement.{statement}
 use Rattle.tree_sections.proofs.nodes.read_nodes.Tie as tie
 
 abbrev Inv-loop : tie.InvT-loop
-Inv-loop t from n category₀ parent₀ at₀ len₀ i₀ p₀ category parent at len i p = (i ≤ n) × (length category ≡ 64) × (length parent ≡ 64) × (length at ≡ 64) × (length len ≡ 64) × (times (node t) n from ≡ after (tabulate (nodeFrom t category parent at len) i) (λ x. x) (times (node t) (n - i) p))
+Inv-loop t from n category₀ parent₀ at₀ len₀ i₀ p₀ category parent at len i p = (i ≤ n) × (length category ≡ mostNodes) × (length parent ≡ mostNodes)
+    × (length at ≡ mostNodes) × (length len ≡ mostNodes)
+    × (times (node t) n from ≡ after (tabulate (nodeFrom t category parent at len) i) (λ x. x) (times (node t) (n - i) p))
 
 abbrev μ-loop : tie.MeasureT-loop
 μ-loop t from n category₀ parent₀ at₀ len₀ i₀ p₀ category parent at len i p = n - i
@@ -29,7 +32,11 @@ enum-known-got : tie.Need-enum-known-got Inv-loop μ-loop
 enum-known-got c = search needs
 
 returns : tie.Need-returns Inv-loop μ-loop
-returns c = (run-stop _ _ _ _ _ _ _ (c .before .before .before .before .before .loop .inv .5) _ (c .before .before .before .before .loop-test .taken) (node-was-fault _ (c .before .before .before .read-node .ensures .0) (c .before .got .given .1)), tt)
+returns c =
+    let b = c .before .before .before in let read-node = b .read-node in
+    let loop-test = b .before .loop-test in
+    let loop = b .before .before .loop in
+    (run-stop _ _ _ _ _ _ _ (loop .inv .5) _ (loop-test .taken) (node-was-fault _ (read-node .ensures .0) (c .before .got .given .1)), tt)
 
 enum-known-got-2 : tie.Need-enum-known-got-2 Inv-loop μ-loop
 enum-known-got-2 c = search needs
@@ -65,22 +72,30 @@ loop-less : tie.Need-loop-less Inv-loop μ-loop
 loop-less c = omega arith
 
 loop-again : tie.Need-loop-again Inv-loop μ-loop
-loop-again c = let category = c .before .before .before .before .before .before .before .loop .category in
-    let parent = c .before .before .before .before .before .before .before .loop .parent in
+loop-again c =
+    let got2-given = c .before .before .before .got2 .given in
+    let read-node = c .before .before .before .before .before .read-node .ensures in
+    let loop-test = c .before .before .before .before .before .before .loop-test .taken in
     let at = c .before .before .before .before .before .before .before .loop .at in
-    let len = c .before .before .before .before .before .before .before .loop .len in
+    let category = c .before .before .before .before .before .before .before .loop .category in
     let i = c .before .before .before .before .before .before .before .loop .i in
+    let inv = c .before .before .before .before .before .before .before .loop .inv in
+    let len = c .before .before .before .before .before .before .before .loop .len in
+    let parent = c .before .before .before .before .before .before .before .loop .parent in
     let h : i < length category = omega arith in
     let k : i < length parent = omega arith in
     let l : i < length at = omega arith in
     let o : i < length len = omega arith in
-    let b = node-inside _ (c .before .before .before .before .before .read-node .ensures .1) (c .before .before .before .got2 .given .1) in (
+    let b = node-inside _ (read-node .1) (got2-given .1) in (
       omega arith,
-      length-set category i _ ∙ c .before .before .before .before .before .before .before .loop .inv .1,
-      length-set parent i _ ∙ c .before .before .before .before .before .before .before .loop .inv .2,
-      length-set at i (c .before .short .result) ∙ c .before .before .before .before .before .before .before .loop .inv .3,
-      length-set len i (c .small .result) ∙ c .before .before .before .before .before .before .before .loop .inv .4,
-      run-more _ _ _ _ _ _ _ (c .before .before .before .before .before .before .before .loop .inv .5) _ _ _ (c .before .before .before .before .before .before .loop-test .taken) (node-was _ (c .before .before .before .before .before .read-node .ensures .0) (c .before .before .before .got2 .given .1)) (λ j g. node-keep _ category parent at len i _ _ _ _ j g) (node-put _ category parent at len i _ _ _ _ _ (two-bytes (c .before .short .ensures) (omega (arith, b .2))) (one-byte (c .small .ensures) (omega (arith, b .0))) h k l o),
+      length-set category i _ ∙ inv .1,
+      length-set parent i _ ∙ inv .2,
+      length-set at i (c .before .short .result) ∙ inv .3,
+      length-set len i (c .small .result) ∙ inv .4,
+      run-more _ _ _ _ _ _ _ (inv .5) _ _ _ loop-test (node-was _ (read-node .0) (got2-given .1))
+          (λ j g. node-keep _ category parent at len i _ _ _ _ j g)
+          (node-put _ category parent at len i _ _ _ _ _ (two-bytes (c .before .short .ensures) (omega (arith, b .2)))
+          (one-byte (c .small .ensures) (omega (arith, b .0))) h k l o),
     )
 
 returns-2 : tie.Need-returns-2 Inv-loop μ-loop

@@ -3,10 +3,11 @@ use Prim.Native.Nat.{_≤_, _-_, _*_}
 use mathlib.Core.Path.{_≡_}
 use mathlib.Core.List.{_++_}
 use lib.ListN.{length}
-use Rattle.theory_resolution.specs.Lists.{tabulate}
+use Rattle.base_numbers.specs.Numbers.{mostTableUrns}
+use Rattle.base_lists.proofs.Numbers.{one-byte}
+use Rattle.base_lists.specs.Lists.{tabulate}
 use Rattle.table_sections.specs.Stored.{times, counted}
 use Rattle.table_sections.specs.Held.{taggedFrom, mapRead}
-use Rattle.table_sections.proofs.Padding.{one-byte}
 use Rattle.table_sections.proofs.SectionLaws.{signals-start, signals-more, signals-stop, signals-done, at-most-got}
 use Rattle.tree_sections.specs.Held.{numberAt}
 use Rattle.tree_sections.specs.Tree.{anyByte}
@@ -15,7 +16,9 @@ use Rattle.tree_sections.proofs.signals.read_signals.Statement.{stateme
 use Rattle.tree_sections.proofs.signals.read_signals.Tie as tie
 
 abbrev Inv-loop : tie.InvT-loop
-Inv-loop t from n number₀ signal₀ s₀ m₀ p₀ number signal s m p = (s ≤ n) × (m ≤ 8 * s) × (length number ≡ 256) × (length signal ≡ 256) × (mapRead (taggedFrom 0) (times (counted 0 8 (anyByte t) t) n from) ≡ mapRead (λ ss. tabulate (numberAt signal number) m ++ taggedFrom s ss) (times (counted 0 8 (anyByte t) t) (n - s) p))
+Inv-loop t from n number₀ signal₀ s₀ m₀ p₀ number signal s m p = (s ≤ n) × (m ≤ 8 * s) × (length number ≡ mostTableUrns) × (length signal ≡ mostTableUrns)
+    × (mapRead (taggedFrom 0) (times (counted 0 8 (anyByte t) t) n from)
+    ≡ mapRead (λ ss. tabulate (numberAt signal number) m ++ taggedFrom s ss) (times (counted 0 8 (anyByte t) t) (n - s) p))
 
 abbrev μ-loop : tie.MeasureT-loop
 μ-loop t from n number₀ signal₀ s₀ m₀ p₀ number signal s m p = n - s
@@ -33,7 +36,11 @@ enum-known-got : tie.Need-enum-known-got Inv-loop μ-loop
 enum-known-got c = search needs
 
 returns : tie.Need-returns Inv-loop μ-loop
-returns c = (signals-stop _ _ _ _ _ _ _ (c .before .before .before .before .before .before .before .before .loop .inv .4) _ _ _ (c .before .before .before .before .before .before .before .loop-test .taken) (c .before .before .before .read-signal .ensures .0) (c .before .got .given .1), tt)
+returns c =
+    let b = c .before .before .before in let read-signal = b .read-signal in
+    let b2 = b .before .before .before .before in let loop-test = b2 .loop-test in
+    let loop = b2 .before .loop in
+    (signals-stop _ _ _ _ _ _ _ (loop .inv .4) _ _ _ (loop-test .taken) (read-signal .ensures .0) (c .before .got .given .1), tt)
 
 enum-known-got-2 : tie.Need-enum-known-got-2 Inv-loop μ-loop
 enum-known-got-2 c = search needs
@@ -45,13 +52,18 @@ loop-less : tie.Need-loop-less Inv-loop μ-loop
 loop-less c = omega arith
 
 loop-again : tie.Need-loop-again Inv-loop μ-loop
-loop-again c = let k = at-most-got _ _ (c .before .before .before .read-signal .ensures .1 .0) (c .before .got2 .given .1) in (
-  omega arith,
-  omega (arith, k),
-  c .before .before .before .read-signal .ensures .1 .1,
-  c .before .before .before .read-signal .ensures .1 .2,
-  signals-more _ _ _ _ _ _ _ (c .before .before .before .before .before .before .before .before .loop .inv .4) _ _ _ (c .before .before .before .before .before .before .before .loop-test .taken) (one-byte (c .before .before .before .before .before .before .small .ensures) (omega arith)) (c .before .before .before .read-signal .ensures .0) (c .before .got2 .given .1),
-)
+loop-again c =
+    let got2-given = c .before .got2 .given in let read-signal = c .before .before .before .read-signal .ensures in
+    let small = c .before .before .before .before .before .before .small .ensures in
+    let loop-test = c .before .before .before .before .before .before .before .loop-test .taken in
+    let inv = c .before .before .before .before .before .before .before .before .loop .inv in
+    let k = at-most-got _ _ (read-signal .1 .0) (got2-given .1) in (
+      omega arith,
+      omega (arith, k),
+      read-signal .1 .1,
+      read-signal .1 .2,
+      signals-more _ _ _ _ _ _ _ (inv .4) _ _ _ loop-test (one-byte small (omega arith)) (read-signal .0) (got2-given .1),
+    )
 
 returns-2 : tie.Need-returns-2 Inv-loop μ-loop
 returns-2 c = (signals-done _ _ _ _ _ _ _ (c .before .loop .inv .4) (c .loop-test .left), omega arith)

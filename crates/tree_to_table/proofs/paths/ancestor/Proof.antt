@@ -26,10 +26,15 @@ loop-less : tie.Need-loop-less Inv-loop μ-loop
 loop-less c = omega arith
 
 loop-again : tie.Need-loop-again Inv-loop μ-loop
-loop-again c = (omega arith, ancestor-more (c .before .before .before .args .parent .now) (c .before .before .before .args .k) (c .before .before .loop .i) (c .before .before .loop .inv .1) (c .parent-of .ensures))
+loop-again c = (
+  omega arith,
+  ancestor-more (c .before .before .before .args .parent .now) (c .before .before .before .args .k)
+      (c .before .before .loop .i) (c .before .before .loop .inv .1) (c .parent-of .ensures),
+)
 
 returns : tie.Need-returns Inv-loop μ-loop
-returns c = ancestor-end (c .before .before .args .parent .now) (c .before .before .args .k) (c .before .loop .i) (c .before .before .args .j) (c .before .loop .inv .0) (c .loop-test .left) (c .before .loop .inv .1)
+returns c = ancestor-end (c .before .before .args .parent .now) (c .before .before .args .k) (c .before .loop .i)
+    (c .before .before .args .j) (c .before .loop .inv .0) (c .loop-test .left) (c .before .loop .inv .1)
 
 pub ancestor-spec : {M : Type 1} → statement M
 ancestor-spec =

@@ -22,7 +22,11 @@ node-text-requires : tie.Need-node-text-requires
 node-text-requires c κs = search needs
 
 returns-3 : tie.Need-returns-3
-returns-3 c = (text-in _ _ _ _ _ (c .node-text .ensures .0) (omega arith) ∙ last-some _ _ _ _ (c .before .before .if1 .left) (c .before .if2 .left), c .node-text .ensures .1)
+returns-3 c = (
+  text-in _ _ _ _ _ (c .node-text .ensures .0) (omega arith) ∙ last-some _ _ _ _ (c .before .before .if1 .left)
+      (c .before .if2 .left),
+  c .node-text .ensures .1,
+)
 
 pub last-of-spec : {M : Type 1} → statement M
 last-of-spec =

@@ -1,5 +1,5 @@
-use Rattle.table_sections.proofs.Padding.{one-byte}
 use native.Mathlib.Omega.{arith}
+use Rattle.base_lists.proofs.Numbers.{one-byte}
 use Rattle.tree_to_table.proofs.Ancestry.{puts-urn}
 use mathlib.Core.Path.{_∙_}
 use Rattle.tree_bytes.proofs.Laying.{puts-of}
@@ -42,25 +42,47 @@ all-requires : tie.Need-all-requires
 all-requires c κs = search needs
 
 put-path-requires : tie.Need-put-path-requires
-put-path-requires c κs = let g = c .before .before .before .before .before .before .before .before .before .before .before .before .before .before .before .before .before .pre in
-    let w = c .before .before .before .before .name-text .ensures .1 in
-    let F = puts-of (c .before .before .before .before .before .before .before .before .byte .ensures) (omega (arith, g .5)) in
-    let H = puts-of (c .before .before .before .all .ensures) (omega (arith, w, F .end, g .5)) in
-    (g .4, omega (arith, w, F .end, H .end, g .5))
+put-path-requires c κs =
+    let all = c .before .before .before .all .ensures in
+    let name-text = c .before .before .before .before .name-text .ensures in
+    let byte = c .before .before .before .before .before .before .before .before .byte .ensures in
+    let g = c .before .before .before .before .before .before .before .before .before .before .before .before .before .before .before .before .before .pre in
+    let F = puts-of byte (omega (arith, g .5)) in
+    let H = puts-of all (omega (arith, (name-text .1), F .end, g .5)) in
+    (g .4, omega (arith, (name-text .1), F .end, H .end, g .5))
 
 same-length : tie.Need-same-length
-same-length c = let g = c .before .before .before .before .before .before .before .before .before .before .before .before .before .before .before .before .before .before .before .before .pre in
-    let w = c .before .before .before .before .before .before .before .name-text .ensures .1 in
-    let F = puts-of (c .before .before .before .before .before .before .before .before .before .before .before .byte .ensures) (omega (arith, g .5)) in
-    c .before .before .put-path .ensures .0 .long ∙ puts-of (c .before .before .before .before .before .before .all .ensures) (omega (arith, w, F .end, g .5)) .long ∙ F .long
+same-length c =
+    let all = c .before .before .before .before .before .before .all .ensures in
+    let name-text = c .before .before .before .before .before .before .before .name-text .ensures in
+    let byte = c .before .before .before .before .before .before .before .before .before .before .before .byte .ensures in
+    let g = c .before .before .before .before .before .before .before .before .before .before .before .before .before .before .before
+    .before .before .before .before .before .pre in
+    let F = puts-of byte (omega (arith, g .5)) in
+    c .before .before .put-path .ensures .0 .long ∙ puts-of all (omega (arith, (name-text .1), F .end, g .5)) .long ∙ F .long
 
 returns : tie.Need-returns
-returns c = let a = c .before .before .before .before .before .before .before .before .before .before .before .before .before .before .before .before .before .before .before .before .args in
-    let g = c .before .before .before .before .before .before .before .before .before .before .before .before .before .before .before .before .before .before .before .before .pre in
+returns c =
+    let a = c .before .before .before .before .before .before .before .before .before .before .before .before .before .before .before
+    .before .before .before .before .before .args in
+    let put-path = c .before .before .put-path .ensures in
+    let all = c .before .before .before .before .before .before .all .ensures in
     let w = c .before .before .before .before .before .before .before .name-text .ensures in
-    let F = puts-of (c .before .before .before .before .before .before .before .before .before .before .before .byte .ensures) (omega (arith, g .5)) in
-    let H = puts-of (c .before .before .before .before .before .before .all .ensures) (omega (arith, w .1, F .end, g .5)) in
-    (puts-urn (a .t .now) (a .name-at .now) (a .name-len .now) (a .category .now) (a .parent .now) (a .at .now) (a .len .now) (a .size .now) (a .depth .now) (a .k) (one-byte (c .before .before .before .before .before .before .before .before .before .before .before .before .small .ensures) (omega (arith, g .3))) (c .before .before .before .before .before .before .before .before .before .before .before .before .before .before .wide .ensures .0) (text-in _ _ _ _ _ (w .0) (omega (arith, c .before .before .before .before .before .before .before .before .before .before .before .before .before .before .wide .ensures .0, g .2))) F H (c .before .before .put-path .ensures .0), omega (arith, F .end, H .end, w .1, c .before .before .put-path .ensures .1))
+    let byte = c .before .before .before .before .before .before .before .before .before .before .before .byte .ensures in
+    let small = c .before .before .before .before .before .before .before .before .before .before .before .before .small .ensures in
+    let wide = c .before .before .before .before .before .before .before .before .before .before .before .before .before .before .wide .ensures in
+    let g = c .before .before .before .before .before .before .before .before .before .before .before .before .before .before .before
+    .before .before .before .before .before .pre in
+    let F = puts-of byte (omega (arith, g .5)) in
+    let H = puts-of all (omega (arith, w .1, F .end, g .5)) in (
+      puts-urn (a .t .now) (a .name-at .now) (a .name-len .now) (a .category .now) (a .parent .now) (a .at .now) (a .len .now)
+          (a .size .now) (a .depth .now) (a .k) (one-byte small (omega (arith, g .3))) (wide .0) (text-in _ _ _ _ _ (w .0) (omega (
+            arith,
+            wide .0,
+            g .2,
+          ))) F H (put-path .0),
+      omega (arith, F .end, H .end, w .1, put-path .1),
+    )
 
 pub put-urn-spec : {M : Type 1} → statement M
 put-urn-spec =

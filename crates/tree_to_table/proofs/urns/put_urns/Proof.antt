@@ -1,9 +1,8 @@
-use Rattle.table_sections.proofs.Padding.{one-byte}
+use Rattle.base_lists.proofs.Numbers.{one-byte}
+use Rattle.base_lists.specs.Lists.{tabulate, each}
 use native.Mathlib.Omega.{arith}
 use Prim.Native.Nat.{_≤_, _-_, _+_, _*_}
 use mathlib.Core.Path.{ap, _∙_}
-use Rattle.theory_resolution.specs.Lists.{tabulate}
-use Rattle.tree_forms.specs.Bytes.{each}
 use Rattle.tree_sections.specs.Held.{numberAt}
 use Rattle.tree_bytes.specs.Laid.{Puts, ofSignal}
 use Rattle.tree_to_table.specs.Urns.{urnBytes}
@@ -14,7 +13,9 @@ use Rattle.tree_to_table.proofs.urns.put_urns.Statement.{statement}
 use Rattle.tree_to_table.proofs.urns.put_urns.Tie as tie
 
 abbrev Inv-loop : tie.InvT-loop
-Inv-loop t m signal number s name-at name-len category parent at len size depth buf₀ from n p₀ i₀ buf p i = (i ≤ m) × (p ≤ from + 1 + 2400 * i) × Puts buf₀ buf p₀ (each (urnBytes t name-at name-len category parent at len size depth) (ofSignal s (tabulate (numberAt signal number) i))) p
+Inv-loop t m signal number s name-at name-len category parent at len size depth buf₀ from n p₀ i₀ buf p i = (i ≤ m)
+    × (p ≤ from + 1 + 2400 * i) × Puts buf₀ buf p₀ (each (urnBytes t name-at name-len category parent at len size depth)
+    (ofSignal s (tabulate (numberAt signal number) i))) p
 
 abbrev μ-loop : tie.MeasureT-loop
 μ-loop t m signal number s name-at name-len category parent at len size depth buf₀ from n p₀ i₀ buf p i = m - i
@@ -29,7 +30,13 @@ byte-requires : tie.Need-byte-requires Inv-loop μ-loop
 byte-requires c κs = search needs
 
 loop-holds : tie.Need-loop-holds Inv-loop μ-loop
-loop-holds c = (omega arith, omega (arith, puts-of (c .before .before .byte .ensures) (omega arith) .end), of-start (urnBytes (c .before .before .before .before .before .before .before .before .args .t .now) (c .before .before .before .before .before .before .before .before .args .name-at .now) (c .before .before .before .before .before .before .before .before .args .name-len .now) (c .before .before .before .before .before .before .before .before .args .category .now) (c .before .before .before .before .before .before .before .before .args .parent .now) (c .before .before .before .before .before .before .before .before .args .at .now) (c .before .before .before .before .before .before .before .before .args .len .now) (c .before .before .before .before .before .before .before .before .args .size .now) (c .before .before .before .before .before .before .before .before .args .depth .now)) (c .before .before .before .before .before .before .before .before .args .s) (numberAt (c .before .before .before .before .before .before .before .before .args .signal .now) (c .before .before .before .before .before .before .before .before .args .number .now)) _ _)
+loop-holds c =
+    let a = c .before .before .before .before .before .before .before .before .args in (
+      omega arith,
+      omega (arith, puts-of (c .before .before .byte .ensures) (omega arith) .end),
+      of-start (urnBytes (a .t .now) (a .name-at .now) (a .name-len .now) (a .category .now) (a .parent .now) (a .at .now) (a .len .now)
+          (a .size .now) (a .depth .now)) (a .s) (numberAt (a .signal .now) (a .number .now)) _ _,
+    )
 
 element-copy-out-wide : tie.Need-element-copy-out-wide Inv-loop μ-loop
 element-copy-out-wide c = search needs
@@ -44,8 +51,14 @@ wide-requires-2 : tie.Need-wide-requires-2 Inv-loop μ-loop
 wide-requires-2 c κs = search needs
 
 put-urn-requires : tie.Need-put-urn-requires Inv-loop μ-loop
-put-urn-requires c κs = let w = ready-at (c .before .before .before .before .before .before .before .before .before .before .before .before .before .before .before .before .args .number .now) (c .before .before .before .before .before .before .before .before .before .before .before .before .before .before .before .before .args .category .now) (c .before .before .before .before .before .before .before .before .before .before .before .before .before .before .before .before .args .size .now) (c .before .before .before .before .before .before .before .before .before .before .before .before .before .before .before .before .args .depth .now) (c .before .before .before .before .before .before .before .before .before .before .before .before .before .before .before .before .args .m) (c .before .before .before .before .before .before .before .before .before .before .before .before .before .before .before .before .pre .3) (c .before .before .before .before .before .before .before .loop .i) (c .before .before .before .before .before .before .loop-test .taken) (c .before .wide2 .ensures .0) in
-    (w .0, w .1, w .2, w .3, w .4, omega (arith, c .before .before .before .before .before .before .before .loop .inv .1, c .before .before .before .before .before .before .before .loop .inv .0, c .before .before .before .before .before .before .before .before .before .before .before .before .before .before .before .before .pre .0, c .before .before .before .before .before .before .before .before .before .before .before .before .before .before .before .before .pre .1))
+put-urn-requires c κs =
+    let a = c .before .before .before .before .before .before .before .before .before .before .before .before .before .before .before .before .args in
+    let loop-test = c .before .before .before .before .before .before .loop-test .taken in
+    let i = c .before .before .before .before .before .before .before .loop .i in
+    let inv = c .before .before .before .before .before .before .before .loop .inv in
+    let pre = c .before .before .before .before .before .before .before .before .before .before .before .before .before .before .before .before .pre in
+    let w = ready-at (a .number .now) (a .category .now) (a .size .now) (a .depth .now) (a .m) (pre .3) i loop-test (c .before .wide2 .ensures .0) in
+    (w .0, w .1, w .2, w .3, w .4, omega (arith, inv .1, inv .0, pre .0, pre .1))
 
 add-i : tie.Need-add-i Inv-loop μ-loop
 add-i c = search needs
@@ -54,7 +67,22 @@ loop-less : tie.Need-loop-less Inv-loop μ-loop
 loop-less c = omega arith
 
 loop-again : tie.Need-loop-again Inv-loop μ-loop
-loop-again c = (omega arith, omega (arith, c .before .before .before .before .before .before .before .before .before .before .loop .inv .1, c .before .before .put-urn .ensures .1), of-next (urnBytes (c .before .before .before .before .before .before .before .before .before .before .before .before .before .before .before .before .before .before .before .args .t .now) (c .before .before .before .before .before .before .before .before .before .before .before .before .before .before .before .before .before .before .before .args .name-at .now) (c .before .before .before .before .before .before .before .before .before .before .before .before .before .before .before .before .before .before .before .args .name-len .now) (c .before .before .before .before .before .before .before .before .before .before .before .before .before .before .before .before .before .before .before .args .category .now) (c .before .before .before .before .before .before .before .before .before .before .before .before .before .before .before .before .before .before .before .args .parent .now) (c .before .before .before .before .before .before .before .before .before .before .before .before .before .before .before .before .before .before .before .args .at .now) (c .before .before .before .before .before .before .before .before .before .before .before .before .before .before .before .before .before .before .before .args .len .now) (c .before .before .before .before .before .before .before .before .before .before .before .before .before .before .before .before .before .before .before .args .size .now) (c .before .before .before .before .before .before .before .before .before .before .before .before .before .before .before .before .before .before .before .args .depth .now)) (c .before .before .before .before .before .before .before .before .before .before .before .before .before .before .before .before .before .before .before .args .s) (numberAt (c .before .before .before .before .before .before .before .before .before .before .before .before .before .before .before .before .before .before .before .args .signal .now) (c .before .before .before .before .before .before .before .before .before .before .before .before .before .before .before .before .before .before .before .args .number .now)) (c .before .before .before .before .before .before .before .before .before .before .loop .i) (c .before .before .before .before .before .before .before .before .before .before .loop .inv .2) (c .before .before .put-urn .ensures .0) (ap (urnBytes (c .before .before .before .before .before .before .before .before .before .before .before .before .before .before .before .before .before .before .before .args .t .now) (c .before .before .before .before .before .before .before .before .before .before .before .before .before .before .before .before .before .before .before .args .name-at .now) (c .before .before .before .before .before .before .before .before .before .before .before .before .before .before .before .before .before .before .before .args .name-len .now) (c .before .before .before .before .before .before .before .before .before .before .before .before .before .before .before .before .before .before .before .args .category .now) (c .before .before .before .before .before .before .before .before .before .before .before .before .before .before .before .before .before .before .before .args .parent .now) (c .before .before .before .before .before .before .before .before .before .before .before .before .before .before .before .before .before .before .before .args .at .now) (c .before .before .before .before .before .before .before .before .before .before .before .before .before .before .before .before .before .before .before .args .len .now) (c .before .before .before .before .before .before .before .before .before .before .before .before .before .before .before .before .before .before .before .args .size .now) (c .before .before .before .before .before .before .before .before .before .before .before .before .before .before .before .before .before .before .before .args .depth .now)) (c .before .before .before .before .wide2 .ensures .0)) (c .before .before .before .before .before .before .before .wide .ensures .0) (c .before .before .before .before .before .before .if1 .taken))
+loop-again c =
+    let a = c .before .before .before .before .before .before .before .before .before .before .before .before .before .before .before
+    .before .before .before .before .args in
+    let at = a .at .now in let category = a .category .now in let depth = a .depth .now in let len = a .len .now in
+    let name-at = a .name-at .now in let name-len = a .name-len .now in let parent = a .parent .now in
+    let size = a .size .now in let t = a .t .now in let put-urn = c .before .before .put-urn .ensures in
+    let wide2 = c .before .before .before .before .wide2 .ensures in
+    let if1 = c .before .before .before .before .before .before .if1 .taken in
+    let wide = c .before .before .before .before .before .before .before .wide .ensures in
+    let i = c .before .before .before .before .before .before .before .before .before .before .loop .i in
+    let inv = c .before .before .before .before .before .before .before .before .before .before .loop .inv in (
+      omega arith,
+      omega (arith, inv .1, put-urn .1),
+      of-next (urnBytes t name-at name-len category parent at len size depth) (a .s) (numberAt (a .signal .now) (a .number .now)) i
+          (inv .2) (put-urn .0) (ap (urnBytes t name-at name-len category parent at len size depth) (wide2 .0)) (wide .0) if1,
+    )
 
 add-i-2 : tie.Need-add-i-2 Inv-loop μ-loop
 add-i-2 c = search needs
@@ -63,13 +91,31 @@ loop-less-2 : tie.Need-loop-less-2 Inv-loop μ-loop
 loop-less-2 c = omega arith
 
 loop-again-2 : tie.Need-loop-again-2 Inv-loop μ-loop
-loop-again-2 c = (omega arith, omega (arith, c .before .before .before .before .loop .inv .1), of-pass (urnBytes (c .before .before .before .before .before .before .before .before .before .before .before .before .before .args .t .now) (c .before .before .before .before .before .before .before .before .before .before .before .before .before .args .name-at .now) (c .before .before .before .before .before .before .before .before .before .before .before .before .before .args .name-len .now) (c .before .before .before .before .before .before .before .before .before .before .before .before .before .args .category .now) (c .before .before .before .before .before .before .before .before .before .before .before .before .before .args .parent .now) (c .before .before .before .before .before .before .before .before .before .before .before .before .before .args .at .now) (c .before .before .before .before .before .before .before .before .before .before .before .before .before .args .len .now) (c .before .before .before .before .before .before .before .before .before .before .before .before .before .args .size .now) (c .before .before .before .before .before .before .before .before .before .before .before .before .before .args .depth .now)) (c .before .before .before .before .before .before .before .before .before .before .before .before .before .args .s) (numberAt (c .before .before .before .before .before .before .before .before .before .before .before .before .before .args .signal .now) (c .before .before .before .before .before .before .before .before .before .before .before .before .before .args .number .now)) (c .before .before .before .before .loop .i) (c .before .before .before .before .loop .inv .2) (c .before .wide .ensures .0) (c .if1 .left))
+loop-again-2 c =
+    let a = c .before .before .before .before .before .before .before .before .before .before .before .before .before .args in
+    let i = c .before .before .before .before .loop .i in let inv = c .before .before .before .before .loop .inv in (
+      omega arith,
+      omega (arith, inv .1),
+      of-pass (urnBytes (a .t .now) (a .name-at .now) (a .name-len .now) (a .category .now) (a .parent .now) (a .at .now) (a .len .now)
+          (a .size .now) (a .depth .now)) (a .s) (numberAt (a .signal .now) (a .number .now)) i (inv .2) (c .before .wide .ensures .0) (c .if1 .left),
+    )
 
 same-length : tie.Need-same-length Inv-loop μ-loop
 same-length c = c .before .loop .inv .2 .long ∙ puts-of (c .before .before .before .before .byte .ensures) (omega arith) .long
 
 returns : tie.Need-returns Inv-loop μ-loop
-returns c = (of-end (urnBytes (c .before .before .before .before .before .before .before .before .before .before .args .t .now) (c .before .before .before .before .before .before .before .before .before .before .args .name-at .now) (c .before .before .before .before .before .before .before .before .before .before .args .name-len .now) (c .before .before .before .before .before .before .before .before .before .before .args .category .now) (c .before .before .before .before .before .before .before .before .before .before .args .parent .now) (c .before .before .before .before .before .before .before .before .before .before .args .at .now) (c .before .before .before .before .before .before .before .before .before .before .args .len .now) (c .before .before .before .before .before .before .before .before .before .before .args .size .now) (c .before .before .before .before .before .before .before .before .before .before .args .depth .now)) (c .before .before .before .before .before .before .before .before .before .before .args .s) (numberAt (c .before .before .before .before .before .before .before .before .before .before .args .signal .now) (c .before .before .before .before .before .before .before .before .before .before .args .number .now)) (c .before .loop .i) (c .before .before .before .before .before .before .before .before .before .before .args .m) (one-byte (c .before .before .before .before .before .small .ensures) (omega (arith, count-is _ _ _ _ (c .before .before .before .before .before .before .before .count-of .ensures) (c .before .before .before .before .before .before .before .before .before .before .pre .0), c .before .before .before .before .before .before .before .before .before .before .pre .2 (c .before .before .before .before .before .before .before .before .before .before .args .s)))) (count-is _ _ _ _ (c .before .before .before .before .before .before .before .count-of .ensures) (c .before .before .before .before .before .before .before .before .before .before .pre .0)) (c .before .loop .inv .0) (c .loop-test .left) (puts-of (c .before .before .before .before .byte .ensures) (omega arith)) (c .before .loop .inv .2), omega (arith, c .before .loop .inv .1, c .before .loop .inv .0, c .before .before .before .before .before .before .before .before .before .before .pre .0))
+returns c =
+    let a = c .before .before .before .before .before .before .before .before .before .before .args in let s = a .s in
+    let inv = c .before .loop .inv in let byte = c .before .before .before .before .byte .ensures in
+    let small = c .before .before .before .before .before .small .ensures in
+    let count-of = c .before .before .before .before .before .before .before .count-of .ensures in
+    let pre = c .before .before .before .before .before .before .before .before .before .before .pre in (
+      of-end (urnBytes (a .t .now) (a .name-at .now) (a .name-len .now) (a .category .now) (a .parent .now) (a .at .now) (a .len .now)
+          (a .size .now) (a .depth .now)) s (numberAt (a .signal .now) (a .number .now)) (c .before .loop .i) (a .m)
+          (one-byte small (omega (arith, count-is _ _ _ _ count-of (pre .0), pre .2 s))) (count-is _ _ _ _ count-of (pre .0)) (inv .0)
+          (c .loop-test .left) (puts-of byte (omega arith)) (inv .2),
+      omega (arith, inv .1, inv .0, pre .0),
+    )
 
 pub put-urns-spec : {M : Type 1} → statement M
 put-urns-spec =

@@ -1,6 +1,6 @@
 use native.Mathlib.Omega.{arith}
+use Rattle.base_lists.proofs.Cuts.{upTo-le}
 use Rattle.urn_names.specs.Names.{nameOk}
-use Rattle.base_text.proofs.Fields.{upTo-le}
 use Rattle.urn_names.proofs.Runs.{front-named, front-unnamed}
 use borrow.Author.Needs.{needs}
 use Rattle.urn_names.proofs.names.any_name_end.Statement.{statement}

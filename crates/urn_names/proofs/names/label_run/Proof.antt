@@ -1,7 +1,8 @@
 use native.Mathlib.Omega.{arith}
 use Prim.Native.Nat.{_≤_, _+_, _-_}
 use lib.ListN.{length, drop}
-use Rattle.urn_names.specs.Names.{labelByte, runBy}
+use Rattle.base_lists.specs.Cuts.{run}
+use Rattle.urn_names.specs.Names.{labelByte}
 use Rattle.urn_names.proofs.Runs.{run-more, run-stop, run-end}
 use mathlib.Core.Path.{_≡_}
 use borrow.Author.Needs.{needs}
@@ -9,7 +10,7 @@ use Rattle.urn_names.proofs.names.label_run.Statement.{statement}
 use Rattle.urn_names.proofs.names.label_run.Tie as tie
 
 abbrev Inv-loop : tie.InvT-loop
-Inv-loop s i₀ i = (i ≤ length s) × (runBy labelByte s ≡ i + runBy labelByte (drop i s))
+Inv-loop s i₀ i = (i ≤ length s) × (run labelByte s ≡ i + run labelByte (drop i s))
 
 abbrev μ-loop : tie.MeasureT-loop
 μ-loop s i₀ i = length s - i
@@ -42,7 +43,11 @@ returns c =
     omega (arith, c .before .before .before .before .loop .inv .1, run-stop labelByte s i (search needs) (c .before .label-byte .ensures) (c .if1 .left))
 
 returns-2 : tie.Need-returns-2 Inv-loop μ-loop
-returns-2 c = omega (arith, c .before .loop .inv .1, run-end labelByte (c .before .before .before .args .s .now) (c .before .loop .i) (search needs) (search needs))
+returns-2 c = omega (
+  arith,
+  c .before .loop .inv .1,
+  run-end labelByte (c .before .before .before .args .s .now) (c .before .loop .i) (search needs) (search needs),
+)
 
 pub label-run-spec : {M : Type 1} → statement M
 label-run-spec =

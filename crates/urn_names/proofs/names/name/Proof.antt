@@ -17,7 +17,12 @@ returns c =
 
 shared-slice-read-if2 : tie.Need-shared-slice-read-if2
 shared-slice-read-if2 c =
-    omega (arith, run-fits (c .before .before .before .before .args .s .now) (c .before .before .label-run .result) (c .before .before .label-run .ensures), c .before .if1 .left)
+    omega (
+      arith,
+      run-fits (c .before .before .before .before .args .s .now) (c .before .before .label-run .result)
+          (c .before .before .label-run .ensures),
+      c .before .if1 .left,
+    )
 
 returns-2 : tie.Need-returns-2
 returns-2 c =

@@ -1,6 +1,6 @@
 use native.Mathlib.Omega.{arith}
+use Rattle.base_lists.proofs.Cuts.{upTo-le}
 use Rattle.urn_names.specs.Urn.{storedName}
-use Rattle.base_text.proofs.Fields.{upTo-le}
 use Rattle.urn_names.proofs.Runs.{front-named, front-unnamed}
 use borrow.Author.Needs.{needs}
 use Rattle.urn_names.proofs.stored.any_stored_end.Statement.{statement}

@@ -8,7 +8,8 @@ stored-run-requires : tie.Need-stored-run-requires
 stored-run-requires c κs = search needs
 
 run-label-requires : tie.Need-run-label-requires
-run-label-requires c κs = end-run-label (c .before .before .before .args .s .now) (c .before .stored-run .result) (c .before .stored-run .ensures) (c .if1 .taken)
+run-label-requires c κs = end-run-label (c .before .before .before .args .s .now) (c .before .stored-run .result)
+    (c .before .stored-run .ensures) (c .if1 .taken)
 
 returns : tie.Need-returns
 returns c =
@@ -33,17 +34,29 @@ run-label-requires-2 c κs =
 add-j : tie.Need-add-j
 add-j c =
     let l = c .before .before .before .before .before in
-    omega (arith, stored-within (l .before .before .args .s .now) (l .stored-run .result) (l .stored-run .ensures) (c .before .before .before .before .if1 .left))
+    omega (
+      arith,
+      stored-within (l .before .before .args .s .now) (l .stored-run .result) (l .stored-run .ensures)
+          (c .before .before .before .before .if1 .left),
+    )
 
 sub-stored-label : tie.Need-sub-stored-label
 sub-stored-label c =
     let l = c .before .before .before .before .before in
-    omega (arith, stored-within (l .before .before .args .s .now) (l .stored-run .result) (l .stored-run .ensures) (c .before .before .before .before .if1 .left))
+    omega (
+      arith,
+      stored-within (l .before .before .args .s .now) (l .stored-run .result) (l .stored-run .ensures)
+          (c .before .before .before .before .if1 .left),
+    )
 
 part-stored-label-start : tie.Need-part-stored-label-start
 part-stored-label-start c =
     let l = c .before .before .before .before .before in
-    omega (arith, stored-within (l .before .before .args .s .now) (l .stored-run .result) (l .stored-run .ensures) (c .before .before .before .before .if1 .left))
+    omega (
+      arith,
+      stored-within (l .before .before .args .s .now) (l .stored-run .result) (l .stored-run .ensures)
+          (c .before .before .before .before .if1 .left),
+    )
 
 part-stored-label-end : tie.Need-part-stored-label-end
 part-stored-label-end c = search needs
@@ -54,7 +67,8 @@ stored-label-requires c κs = search needs
 returns-3 : tie.Need-returns-3
 returns-3 c =
     let l = c .before .before .before .before .before .before .before in
-    stored-second (l .before .before .args .s .now) (l .stored-run .result) (l .stored-run .ensures) (c .before .before .before .before .before .before .if1 .left)
+    stored-second (l .before .before .args .s .now) (l .stored-run .result) (l .stored-run .ensures)
+    (c .before .before .before .before .before .before .if1 .left)
     (c .before .before .before .before .if2 .left) (c .before .before .before .run-label2 .ensures) (c .before .before .if3 .taken) (c .stored-label .ensures)
 
 returns-4 : tie.Need-returns-4

@@ -30,7 +30,8 @@ stored-end-requires c κs = search needs
 returns : tie.Need-returns Inv-loop μ-loop
 returns c =
     let l = c .before .before .before .before in
-    names-stop storedName stored-some (l .before .before .args .s .now) (l .loop .at) (c .before .stored-end .result) (c .before .stored-end .ensures) (l .loop .count)
+    names-stop storedName stored-some (l .before .before .args .s .now) (l .loop .at) (c .before .stored-end .result)
+    (c .before .stored-end .ensures) (l .loop .count)
     (l .loop .inv .2) (c .if1 .taken)
 
 add-count : tie.Need-add-count Inv-loop μ-loop
@@ -39,7 +40,11 @@ add-count c = let l = c .before .before .before .before in omega (arith, l .loop
 add-end : tie.Need-add-end Inv-loop μ-loop
 add-end c =
     let l = c .before .before .before .before in
-    omega (arith, field-le storedName stored-some (l .before .before .args .s .now) (l .loop .at) (c .before .stored-end .result) (c .before .stored-end .ensures) (c .if1 .left) (l .loop .inv .0))
+    omega (
+      arith,
+      field-le storedName stored-some (l .before .before .args .s .now) (l .loop .at) (c .before .stored-end .result)
+          (c .before .stored-end .ensures) (c .if1 .left) (l .loop .inv .0),
+    )
 
 add-at : tie.Need-add-at Inv-loop μ-loop
 add-at c = search needs
@@ -49,13 +54,18 @@ loop-less c = omega arith
 
 loop-again : tie.Need-loop-again Inv-loop μ-loop
 loop-again c =
-    let l = c .before .before .before .before .before in
-    (omega arith, omega (arith, l .loop .inv .1), names-step storedName stored-some (l .before .before .args .s .now) (l .loop .at) (c .before .before .stored-end .result) (c .before .before .stored-end .ensures) (c .before .if1 .left) (l .loop .count) (l .loop .inv .2) (c .if2 .taken))
+    let l = c .before .before .before .before .before in (
+      omega arith,
+      omega (arith, l .loop .inv .1),
+      names-step storedName stored-some (l .before .before .args .s .now) (l .loop .at) (c .before .before .stored-end .result)
+          (c .before .before .stored-end .ensures) (c .before .if1 .left) (l .loop .count) (l .loop .inv .2) (c .if2 .taken),
+    )
 
 returns-2 : tie.Need-returns-2 Inv-loop μ-loop
 returns-2 c =
     let l = c .before .before .before .before .before in
-    names-done storedName stored-some (l .before .before .args .s .now) (l .loop .at) (c .before .before .stored-end .result) (c .before .before .stored-end .ensures) (c .before .if1 .left) (l .loop .count) (l .loop .inv .2) (c .if2 .left)
+    names-done storedName stored-some (l .before .before .args .s .now) (l .loop .at) (c .before .before .stored-end .result)
+    (c .before .before .stored-end .ensures) (c .before .if1 .left) (l .loop .count) (l .loop .inv .2) (c .if2 .left)
 
 returns-3 : tie.Need-returns-3 Inv-loop μ-loop
 returns-3 c = absurd (omega (arith, c .loop-test .left, c .before .loop .inv .0))

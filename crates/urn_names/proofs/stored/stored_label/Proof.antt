@@ -7,7 +7,8 @@ stored-run-requires : tie.Need-stored-run-requires
 stored-run-requires c κs = search needs
 
 run-label-requires : tie.Need-run-label-requires
-run-label-requires c κs = end-run-label (c .before .before .before .args .s .now) (c .before .stored-run .result) (c .before .stored-run .ensures) (c .if1 .taken)
+run-label-requires c κs = end-run-label (c .before .before .before .args .s .now) (c .before .stored-run .result)
+    (c .before .stored-run .ensures) (c .if1 .taken)
 
 returns : tie.Need-returns
 returns c =

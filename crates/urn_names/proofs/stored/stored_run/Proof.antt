@@ -1,7 +1,7 @@
 use native.Mathlib.Omega.{arith}
 use Prim.Native.Nat.{_≤_, _+_, _-_}
 use lib.ListN.{length, drop}
-use Rattle.urn_names.specs.Names.{runBy}
+use Rattle.base_lists.specs.Cuts.{run}
 use Rattle.urn_names.specs.Urn.{storedByte}
 use Rattle.urn_names.proofs.Runs.{run-more, run-stop, run-end}
 use mathlib.Core.Path.{_≡_}
@@ -10,7 +10,7 @@ use Rattle.urn_names.proofs.stored.stored_run.Statement.{statement}
 use Rattle.urn_names.proofs.stored.stored_run.Tie as tie
 
 abbrev Inv-loop : tie.InvT-loop
-Inv-loop s i₀ i = (i ≤ length s) × (runBy storedByte s ≡ i + runBy storedByte (drop i s))
+Inv-loop s i₀ i = (i ≤ length s) × (run storedByte s ≡ i + run storedByte (drop i s))
 
 abbrev μ-loop : tie.MeasureT-loop
 μ-loop s i₀ i = length s - i
@@ -43,7 +43,11 @@ returns c =
     omega (arith, c .before .before .before .before .loop .inv .1, run-stop storedByte s i (search needs) (c .before .stored-byte .ensures) (c .if1 .left))
 
 returns-2 : tie.Need-returns-2 Inv-loop μ-loop
-returns-2 c = omega (arith, c .before .loop .inv .1, run-end storedByte (c .before .before .before .args .s .now) (c .before .loop .i) (search needs) (search needs))
+returns-2 c = omega (
+  arith,
+  c .before .loop .inv .1,
+  run-end storedByte (c .before .before .before .args .s .now) (c .before .loop .i) (search needs) (search needs),
+)
 
 pub stored-run-spec : {M : Type 1} → statement M
 stored-run-spec =

@@ -36,7 +36,8 @@ loop-holds c =
 returns-2 : tie.Need-returns-2 Inv-loop μ-loop
 returns-2 c =
     let l = c .before .before in
-    begins-short scheme (l .before .before .before .before .before .before .args .s .now) (l .loop .i) (l .loop .inv .1) (c .before .loop-test .taken) (c .if2 .taken)
+    begins-short scheme (l .before .before .before .before .before .before .args .s .now) (l .loop .i) (l .loop .inv .1)
+    (c .before .loop-test .taken) (c .if2 .taken)
 
 array-read-x : tie.Need-array-read-x Inv-loop μ-loop
 array-read-x c = search needs
@@ -55,13 +56,17 @@ loop-less c = search needs
 
 loop-again : tie.Need-loop-again Inv-loop μ-loop
 loop-again c =
-    let l = c .before .before .before .before .before in
-    (omega arith, begins-more scheme (l .before .before .before .before .before .before .args .s .now) (l .loop .i) (l .loop .inv .1) (c .before .before .before .before .loop-test .taken) (c .before .before .before .if2 .left) (c .before .lower-of .ensures) (c .if3 .taken))
+    let l = c .before .before .before .before .before in (
+      omega arith,
+      begins-more scheme (l .before .before .before .before .before .before .args .s .now) (l .loop .i) (l .loop .inv .1)
+          (c .before .before .before .before .loop-test .taken) (c .before .before .before .if2 .left) (c .before .lower-of .ensures) (c .if3 .taken),
+    )
 
 returns-3 : tie.Need-returns-3 Inv-loop μ-loop
 returns-3 c =
     let l = c .before .before .before .before .before in
-    begins-less scheme (l .before .before .before .before .before .before .args .s .now) (l .loop .i) (l .loop .inv .1) (c .before .before .before .before .loop-test .taken) (c .before .before .before .if2 .left) (c .before .lower-of .ensures) (c .if3 .left)
+    begins-less scheme (l .before .before .before .before .before .before .args .s .now) (l .loop .i) (l .loop .inv .1)
+    (c .before .before .before .before .loop-test .taken) (c .before .before .before .if2 .left) (c .before .lower-of .ensures) (c .if3 .left)
 
 returns-4 : tie.Need-returns-4 Inv-loop μ-loop
 returns-4 c =

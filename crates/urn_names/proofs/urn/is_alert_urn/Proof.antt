@@ -13,7 +13,8 @@ rest-formed-requires : tie.Need-rest-formed-requires
 rest-formed-requires c κs = search needs
 
 returns : tie.Need-returns
-returns c = alert-rest _ _ (c .before .before .before .begins-alert .ensures) (c .before .before .if1 .taken) (c .before .part .ensures) (c .rest-formed .ensures)
+returns c = alert-rest _ _ (c .before .before .before .begins-alert .ensures) (c .before .before .if1 .taken) (c .before .part .ensures)
+    (c .rest-formed .ensures)
 
 returns-2 : tie.Need-returns-2
 returns-2 c = alert-other _ (c .before .begins-alert .ensures) (c .if1 .left)

@@ -40,7 +40,11 @@ add-count c = let l = c .before .before .before .before in omega (arith, l .loop
 add-end : tie.Need-add-end Inv-loop μ-loop
 add-end c =
     let l = c .before .before .before .before in
-    omega (arith, field-le nameOk name-some (l .before .before .args .s .now) (l .loop .at) (c .before .name-end .result) (c .before .name-end .ensures) (c .if1 .left) (l .loop .inv .0))
+    omega (
+      arith,
+      field-le nameOk name-some (l .before .before .args .s .now) (l .loop .at) (c .before .name-end .result)
+          (c .before .name-end .ensures) (c .if1 .left) (l .loop .inv .0),
+    )
 
 add-at : tie.Need-add-at Inv-loop μ-loop
 add-at c = search needs
@@ -50,13 +54,18 @@ loop-less c = omega arith
 
 loop-again : tie.Need-loop-again Inv-loop μ-loop
 loop-again c =
-    let l = c .before .before .before .before .before in
-    (omega arith, omega (arith, l .loop .inv .1), names-step nameOk name-some (l .before .before .args .s .now) (l .loop .at) (c .before .before .name-end .result) (c .before .before .name-end .ensures) (c .before .if1 .left) (l .loop .count) (l .loop .inv .2) (c .if2 .taken))
+    let l = c .before .before .before .before .before in (
+      omega arith,
+      omega (arith, l .loop .inv .1),
+      names-step nameOk name-some (l .before .before .args .s .now) (l .loop .at) (c .before .before .name-end .result)
+          (c .before .before .name-end .ensures) (c .before .if1 .left) (l .loop .count) (l .loop .inv .2) (c .if2 .taken),
+    )
 
 returns-2 : tie.Need-returns-2 Inv-loop μ-loop
 returns-2 c =
     let l = c .before .before .before .before .before in
-    names-done nameOk name-some (l .before .before .args .s .now) (l .loop .at) (c .before .before .name-end .result) (c .before .before .name-end .ensures) (c .before .if1 .left) (l .loop .count) (l .loop .inv .2) (c .if2 .left)
+    names-done nameOk name-some (l .before .before .args .s .now) (l .loop .at) (c .before .before .name-end .result)
+    (c .before .before .name-end .ensures) (c .before .if1 .left) (l .loop .count) (l .loop .inv .2) (c .if2 .left)
 
 returns-3 : tie.Need-returns-3 Inv-loop μ-loop
 returns-3 c = absurd (omega (arith, c .loop-test .left, c .before .loop .inv .0))

@@ -20,7 +20,9 @@ shr-result : tie.Need-shr-result
 shr-result c = search needs
 
 returns : tie.Need-returns
-returns c = let a = c .before .before .before .before .args in four-right (now (a .classes)) (c .before .before .before .before .pre .1) (a .class) (c .before .before .before .before .pre .0) (search needs) (search needs) (search needs) (search needs) (c .before .before .before .of .ensures) (c .before .before .of2 .ensures) (c .before .of3 .ensures) (c .of4 .ensures)
+returns c = let a = c .before .before .before .before .args in four-right (now (a .classes)) (c .before .before .before .before .pre .1)
+    (a .class) (c .before .before .before .before .pre .0) (search needs) (search needs) (search needs) (search needs)
+    (c .before .before .before .of .ensures) (c .before .before .of2 .ensures) (c .before .of3 .ensures) (c .of4 .ensures)
 
 pub have-spec : {M : Type 1} → statement M
 have-spec =

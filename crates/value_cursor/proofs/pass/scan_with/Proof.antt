@@ -67,7 +67,8 @@ returns c = c .note2 .ensures
     (c .before .before .before .before .before .loop .t)) (reading-last
     (now (c .before .before .before .before .before .before .before .args .v))
     (c .before .before .before .before .before .loop .at) _ (c .before .before .before .before .entry-with .ensures) _
-    (c .before .before .found2 .given .1) .0) ∙ summary-last (c .before .before .before .before .before .before .before .args .k) (c .before .before .before .before .before .loop .t) _)
+    (c .before .before .found2 .given .1) .0) ∙ summary-last (c .before .before .before .before .before .before .before .args .k)
+    (c .before .before .before .before .before .loop .t) _)
 
 enum-told : tie.Need-enum-told Inv-loop μ-loop
 enum-told c = search needs

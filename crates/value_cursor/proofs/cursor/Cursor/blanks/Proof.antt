@@ -29,13 +29,16 @@ loop-less : tie.Need-loop-less Inv-loop μ-loop
 loop-less c = search needs
 
 loop-again : tie.Need-loop-again Inv-loop μ-loop
-loop-again c = c .before .before .before .loop .inv ∙ white-space (now (c .before .before .before .before .before .args .s)) (c .before .before .before .loop .at) (c .if1 .taken)
+loop-again c = c .before .before .before .loop .inv ∙ white-space (now (c .before .before .before .before .before .args .s))
+    (c .before .before .before .loop .at) (c .if1 .taken)
 
 shared-slice-read-if2 : tie.Need-shared-slice-read-if2 Inv-loop μ-loop
 shared-slice-read-if2 c = search needs
 
 returns : tie.Need-returns Inv-loop μ-loop
-returns c = sym (c .before .before .before .before .before .loop .inv ∙ white-above (now (c .before .before .before .before .before .before .before .args .s)) (c .before .before .before .before .before .loop .at) (c .if2 .taken))
+returns c = sym (c .before .before .before .before .before .loop .inv
+    ∙ white-above (now (c .before .before .before .before .before .before .before .args .s))
+    (c .before .before .before .before .before .loop .at) (c .if2 .taken))
 
 shared-slice-read-if3 : tie.Need-shared-slice-read-if3 Inv-loop μ-loop
 shared-slice-read-if3 c = search needs
@@ -47,28 +50,50 @@ loop-less-2 : tie.Need-loop-less-2 Inv-loop μ-loop
 loop-less-2 c = search needs
 
 loop-again-2 : tie.Need-loop-again-2 Inv-loop μ-loop
-loop-again-2 c = c .before .before .before .before .before .before .before .loop .inv ∙ white-tab (now (c .before .before .before .before .before .before .before .before .before .args .s)) (c .before .before .before .before .before .before .before .loop .at) (c .if3 .taken)
+loop-again-2 c = c .before .before .before .before .before .before .before .loop .inv
+    ∙ white-tab (now (c .before .before .before .before .before .before .before .before .before .args .s))
+    (c .before .before .before .before .before .before .before .loop .at) (c .if3 .taken)
 
 shared-slice-read-if4 : tie.Need-shared-slice-read-if4 Inv-loop μ-loop
 shared-slice-read-if4 c = search needs
 
 returns-2 : tie.Need-returns-2 Inv-loop μ-loop
-returns-2 c = sym (c .before .before .before .before .before .before .before .before .before .loop .inv ∙ white-other (now (c .before .before .before .before .before .before .before .before .before .before .before .args .s)) (c .before .before .before .before .before .before .before .before .before .loop .at) (c .before .before .before .before .before .before .if1 .left) (c .before .before .if3 .left) (c .if4 .taken))
+returns-2 c = sym (c .before .before .before .before .before .before .before .before .before .loop .inv
+    ∙ white-other (now (c .before .before .before .before .before .before .before .before .before .before .before .args .s))
+    (c .before .before .before .before .before .before .before .before .before .loop .at)
+    (c .before .before .before .before .before .before .if1 .left) (c .before .before .if3 .left) (c .if4 .taken))
 
 fold-requires : tie.Need-fold-requires Inv-loop μ-loop
 fold-requires c κs = search needs
 
 returns-3 : tie.Need-returns-3 Inv-loop μ-loop
-returns-3 c = sym (c .before .before .before .before .before .before .before .before .before .before .before .loop .inv ∙ white-broken (now (c .before .before .before .before .before .before .before .before .before .before .before .before .before .args .s)) (c .before .before .before .before .before .before .before .before .before .before .before .loop .at) _ (c .before .before .if4 .left) (c .before .fold .ensures) (c .if5 .taken))
+returns-3 c = sym (c .before .before .before .before .before .before .before .before .before .before .before .loop .inv
+    ∙ white-broken (now (c .before .before .before .before .before .before .before .before .before .before .before .before
+    .before .args .s)) (c .before .before .before .before .before .before .before .before .before .before .before .loop .at) _
+    (c .before .before .if4 .left) (c .before .fold .ensures) (c .if5 .taken))
 
 add-at-3 : tie.Need-add-at-3 Inv-loop μ-loop
-add-at-3 c = omega (arith, white-fold (now (c .before .before .before .before .before .before .before .before .before .before .before .before .before .args .s)) (c .before .before .before .before .before .before .before .before .before .before .before .loop .at) _ (c .before .before .if4 .left) (c .before .fold .ensures) (c .if5 .left))
+add-at-3 c = omega (
+  arith,
+  white-fold
+      (now (c .before .before .before .before .before .before .before .before .before .before .before .before .before .args .s))
+      (c .before .before .before .before .before .before .before .before .before .before .before .loop .at) _
+      (c .before .before .if4 .left) (c .before .fold .ensures) (c .if5 .left),
+)
 
 loop-less-3 : tie.Need-loop-less-3 Inv-loop μ-loop
-loop-less-3 c = omega (arith, white-fold (now (c .before .before .before .before .before .before .before .before .before .before .before .before .before .args .s)) (c .before .before .before .before .before .before .before .before .before .before .before .loop .at) _ (c .before .before .if4 .left) (c .before .fold .ensures) (c .if5 .left))
+loop-less-3 c = omega (
+  arith,
+  white-fold (now (c .before .before .before .before .before .before .before .before .before .before .before .before .before .args .s))
+      (c .before .before .before .before .before .before .before .before .before .before .before .loop .at) _
+      (c .before .before .if4 .left) (c .before .fold .ensures) (c .if5 .left),
+)
 
 loop-again-3 : tie.Need-loop-again-3 Inv-loop μ-loop
-loop-again-3 c = c .before .before .before .before .before .before .before .before .before .before .before .loop .inv ∙ white-fold (now (c .before .before .before .before .before .before .before .before .before .before .before .before .before .args .s)) (c .before .before .before .before .before .before .before .before .before .before .before .loop .at) _ (c .before .before .if4 .left) (c .before .fold .ensures) (c .if5 .left) .0
+loop-again-3 c = c .before .before .before .before .before .before .before .before .before .before .before .loop .inv
+    ∙ white-fold (now (c .before .before .before .before .before .before .before .before .before .before .before .before .before .args .s))
+    (c .before .before .before .before .before .before .before .before .before .before .before .loop .at) _ (c .before .before .if4 .left)
+    (c .before .fold .ensures) (c .if5 .left) .0
 
 returns-4 : tie.Need-returns-4 Inv-loop μ-loop
 returns-4 c = sym (c .before .loop .inv ∙ white-past-end (now (c .before .before .before .args .s)) (c .before .loop .at) (search needs))

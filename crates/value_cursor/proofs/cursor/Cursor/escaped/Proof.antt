@@ -15,13 +15,15 @@ has-requires : tie.Need-has-requires
 has-requires c κs = search needs
 
 returns-2 : tie.Need-returns-2
-returns-2 c = escape-broken (now (c .before .before .before .before .before .args .s)) (c .before .before .before .before .before .args .self .at) (search needs) (c .before .has .ensures) (not-true _ (c .if2 .taken))
+returns-2 c = escape-broken (now (c .before .before .before .before .before .args .s))
+    (c .before .before .before .before .before .args .self .at) (search needs) (c .before .has .ensures) (not-true _ (c .if2 .taken))
 
 add-next : tie.Need-add-next
 add-next c = search needs
 
 returns-3 : tie.Need-returns-3
-returns-3 c = escape-passed (now (c .before .before .before .before .before .args .s)) (c .before .before .before .before .before .args .self .at) (search needs) (c .before .has .ensures) (not-false _ (c .if2 .left))
+returns-3 c = escape-passed (now (c .before .before .before .before .before .args .s))
+    (c .before .before .before .before .before .args .self .at) (search needs) (c .before .has .ensures) (not-false _ (c .if2 .left))
 
 pub escaped-spec : {M : Type 1} → statement M
 escaped-spec =

@@ -21,7 +21,8 @@ shared-slice-read-if2 : tie.Need-shared-slice-read-if2
 shared-slice-read-if2 c = search needs
 
 returns-2 : tie.Need-returns-2
-returns-2 c = fold-lf (now (c .before .before .before .before .args .s)) (c .before .before .before .before .args .self .at) (c .before .before .before .before .pre .1) (c .if2 .taken)
+returns-2 c = fold-lf (now (c .before .before .before .before .args .s)) (c .before .before .before .before .args .self .at)
+    (c .before .before .before .before .pre .1) (c .if2 .taken)
 
 add-has : tie.Need-add-has
 add-has c = search needs
@@ -34,11 +35,17 @@ has-requires c κs = search needs
 
 returns-3 : tie.Need-returns-3
 returns-3 c =
-    fold-from (now (c .before .before .before .before .before .before .before .args .s)) (c .before .before .before .before .before .before .before .args .self .at) (c .before .before .before .before .before .before .before .pre .1) true (c .before .before .before .if2 .left) (sym (c .if3 .taken) ∙ c .before .has .ensures)
+    fold-from (now (c .before .before .before .before .before .before .before .args .s))
+    (c .before .before .before .before .before .before .before .args .self .at)
+    (c .before .before .before .before .before .before .before .pre .1) true (c .before .before .before .if2 .left) (sym (c .if3 .taken)
+    ∙ c .before .has .ensures)
 
 returns-4 : tie.Need-returns-4
 returns-4 c =
-    fold-from (now (c .before .before .before .before .before .before .before .args .s)) (c .before .before .before .before .before .before .before .args .self .at) (c .before .before .before .before .before .before .before .pre .1) false (c .before .before .before .if2 .left) (sym (c .if3 .left) ∙ c .before .has .ensures)
+    fold-from (now (c .before .before .before .before .before .before .before .args .s))
+    (c .before .before .before .before .before .before .before .args .self .at)
+    (c .before .before .before .before .before .before .before .pre .1) false (c .before .before .before .if2 .left) (sym (c .if3 .left)
+    ∙ c .before .has .ensures)
 
 pub fold-spec : {M : Type 1} → statement M
 fold-spec =

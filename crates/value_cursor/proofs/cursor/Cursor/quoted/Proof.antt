@@ -61,7 +61,8 @@ returns-2 c = sym
     (opened (now (c .before .before .before .before .before .before .before .before .before .args .s))
     (c .before .before .before .before .before .before .before .before .before .args .self .at)
     (sym (c .before .before .before .before .before .before .before .peek .ensures)
-    ∙ c .before .before .before .before .before .before .if1 .left) ∙ c .before .before .before .before .loop .inv ∙ quoted-halt _ _ _ _ _ (c .before .before .before .quoted-text .ensures) (c .before .q2 .given .1) refl)
+    ∙ c .before .before .before .before .before .before .if1 .left) ∙ c .before .before .before .before .loop .inv
+    ∙ quoted-halt _ _ _ _ _ (c .before .before .before .quoted-text .ensures) (c .before .q2 .given .1) refl)
 
 enum-told : tie.Need-enum-told Inv-loop μ-loop
 enum-told c = search needs
@@ -71,7 +72,8 @@ returns-3 c = sym
     (opened (now (c .before .before .before .before .before .before .before .before .args .s))
     (c .before .before .before .before .before .before .before .before .args .self .at)
     (sym (c .before .before .before .before .before .before .peek .ensures)
-    ∙ c .before .before .before .before .before .if1 .left) ∙ c .before .before .before .loop .inv ∙ quoted-halt _ _ _ _ _ (c .before .before .quoted-text .ensures) (c .enum-told .given .1) refl)
+    ∙ c .before .before .before .before .before .if1 .left) ∙ c .before .before .before .loop .inv
+    ∙ quoted-halt _ _ _ _ _ (c .before .before .quoted-text .ensures) (c .enum-told .given .1) refl)
 
 pub quoted-spec : {M : Type 1} → statement M
 quoted-spec =
