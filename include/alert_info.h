@@ -4,25 +4,18 @@
  * or a tab count as white space. Any bytes may be given, also none; bytes that the caller lends are only read, and no
  * pointer is kept. A pointer must lead to as many readable bytes as its length says, and must not be null, not even for
  * a length of 0. No function allocates, fails or keeps anything between calls, so any number of threads may call them at
- * once. */
+ * once. If more than one number applies, the smallest is given. */
 #ifndef ALERT_INFO_H
 #define ALERT_INFO_H
 
 #include <stddef.h>
 #include <stdint.h>
 
+#include "alert_numbers.h"
+
 #ifdef __cplusplus
 extern "C" {
 #endif
-
-/* What is wrong, by its number; if more than one applies, the smallest is given. */
-enum {
-    ALERT_INFO_ACCEPTED = 0,
-    ALERT_INFO_TOO_LONG = 1,         /* the value is longer than 4,096 bytes */
-    ALERT_INFO_MISFIT = 2,           /* the value is not of the field's form: docs/RULES.md, section 1 */
-    ALERT_INFO_TOO_MANY_ENTRIES = 3, /* the value has more than 64 entries */
-    ALERT_INFO_NO_ENTRY = 18         /* the value has fewer than k + 1 entries */
-};
 
 /* A part of the value: `len` bytes from value[start] on. */
 typedef struct alert_info_span {

@@ -6,14 +6,11 @@
 #include <stddef.h>
 #include <stdint.h>
 
+#include "alert_numbers.h"
+
 #ifdef __cplusplus
 extern "C" {
 #endif
-
-enum {
-    CALL_LOG_NO_LOG = 25,    /* longer than 32,768 bytes, stops early, or goes on after its last call */
-    CALL_LOG_LONGEST = 32768 /* bytes that a log may have */
-};
 
 /* What is said of a log: the refusal number; 1 if every call agrees. Otherwise `call` is the first that does not, counted
  * from 0, and `signal`, `used` and `skipped` are the right answer to its value. All that is not said is 0. */

@@ -1,5 +1,5 @@
 /* The resolvers: libresolver.a, which needs no other library. What the pointers must hold is said in
- * alert_info.h; the refusal numbers are those of alert_info.h and signal_table.h. */
+ * alert_info.h; the refusal numbers are in alert_numbers.h. */
 #ifndef RESOLVER_H
 #define RESOLVER_H
 
@@ -8,9 +8,6 @@
 
 #include "alert_info.h"
 #include "signal_table.h"
-
-/* Most values of one message. */
-#define ALERT_VALUES 16
 
 #ifdef __cplusplus
 extern "C" {
@@ -56,7 +53,7 @@ typedef struct alert_record {
     uint8_t signal;    /* the signal so far */
     uint8_t status[8]; /* of each category in the table's order: 0 open, 1 shut, 1 + n held at node n;
                           0 for those that the table lacks */
-    uint8_t values;    /* how many values were fed, at most ALERT_VALUES */
+    uint8_t values;    /* how many values were fed, at most ALERT_MOST_VALUES */
 } alert_record;
 
 /* The signal after one more value of a message that has several Alert-Info fields: resolution goes on from the record,

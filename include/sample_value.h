@@ -6,14 +6,11 @@
 #include <stddef.h>
 #include <stdint.h>
 
+#include "alert_numbers.h"
+
 #ifdef __cplusplus
 extern "C" {
 #endif
-
-enum {
-    SAMPLE_ROOM_TOO_SMALL = 26, /* the buffer is shorter than SAMPLE_ROOM */
-    SAMPLE_ROOM = 4096          /* the least buffer; no value is longer than 2,175 bytes */
-};
 
 /* The seed: any number to begin with. The same seed and table give the same values. */
 typedef struct sample_seed {

@@ -10,29 +10,14 @@
 #include <stddef.h>
 #include <stdint.h>
 
+#include "alert_numbers.h"
+
 #ifdef __cplusplus
 extern "C" {
 #endif
 
-/* What is wrong, by its number; if more than one applies, the smallest is given. Between 5 and 6 it is the one that a
- * reader from the left meets first; bytes after the last signal come last. */
-enum {
-    SIGNAL_TABLE_ACCEPTED = 0,
-    SIGNAL_TABLE_TOO_LONG = 4,        /* the table is longer than 8,192 bytes */
-    SIGNAL_TABLE_WRONG_END = 5,       /* it stops before its counts and lengths are met, or goes on after its last signal */
-    SIGNAL_TABLE_OUT_OF_RANGE = 6,    /* one of its counts or lengths is out of range */
-    SIGNAL_TABLE_BAD_FORM = 7,        /* a category's name or a URN is of wrong form or has a capital letter; a URN has more than 8 parts */
-    SIGNAL_TABLE_BAD_CATEGORY = 8,    /* a category stands twice, or no signal uses it; a URN names one that is not there */
-    SIGNAL_TABLE_TWO_OF_CATEGORY = 9, /* one signal has two URNs of the same category */
-    SIGNAL_TABLE_BAD_DEFAULT = 10,    /* signal 0 names a URN */
-    SIGNAL_TABLE_SAME_PLACES = 11,    /* two signals have equal places in all categories */
-    SIGNAL_TABLE_TOO_MANY_NODES = 12, /* there are more than 64 nodes */
-    MACHINE_TOO_MANY_STATES = 13,     /* the machine would have more than 256 states */
-    MACHINE_NO_ROOM = 14,             /* the image does not fit the buffer */
-    MACHINE_BAD_FORM = 15,            /* the image is not of the form that the table asks for: docs/RULES.md, section 6 */
-    MACHINE_WRONG_START = 16,         /* state 0 is another than the start */
-    MACHINE_WRONG_ROW = 17            /* a row leads to a state with a wrong signal or status */
-};
+/* If more than one number applies, the smallest is given. Between 5 and 6 it is the one that a reader from the left meets
+ * first; bytes after the last signal come last. */
 
 /* No image is longer than this: a buffer of so many bytes has room for every machine. */
 #define MACHINE_LONGEST 35459

@@ -1,6 +1,6 @@
 /* Smaller machines: whether one class for each state of a machine's image makes a smaller machine that does the same, the small
  * image of such classes, and a proposer of them: libsmall_machine.a, which needs no other library. What the pointers must hold is
- * said in signal_table.h, and numbers 4 to 12 and 14 to 17 too. */
+ * said in signal_table.h; the numbers are in alert_numbers.h. */
 #ifndef SMALL_MACHINE_H
 #define SMALL_MACHINE_H
 
@@ -13,10 +13,7 @@
 extern "C" {
 #endif
 
-/* The number that is new here. It comes after 4 to 12 and 15 to 17, and before 14. */
-enum {
-    MACHINE_BAD_CLASSES = 27 /* the classes do not fit the image's machine: docs/RULES.md, section 16; from the proposer, none do */
-};
+/* 27, ALERT_BAD_CLASSES, comes after 4 to 12 and 15 to 17, and before 14. */
 
 /* No small image is longer than this, and no proposal than 256 bytes. */
 #define MACHINE_SMALL_LONGEST 33411

@@ -13,12 +13,6 @@
 extern "C" {
 #endif
 
-enum {
-    TALLY_NOT_COUNTED = 20, /* too few records or counts, or a count would pass 4,294,967,295 */
-    TALLY_REFUSALS = 12,    /* counts that tally_value asks for: that of refusal number k is refusals[k - 1] */
-    TALLY_RECORDS = 32      /* records that are enough for every table: that of signal s is records[s] */
-};
-
 /* What one signal was heard: all zero at the start of a month. */
 typedef struct alert_tally {
     uint32_t chosen;  /* how many values chose it */

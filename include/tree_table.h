@@ -1,5 +1,5 @@
 /* Tables that write their tree once, and the conversions between them and the tables of signal_table.h: libtree_table.a,
- * which needs no other library. What the pointers must hold is said in signal_table.h, and numbers 4 to 12 too. */
+ * which needs no other library. What the pointers must hold is said in signal_table.h. */
 #ifndef TREE_TABLE_H
 #define TREE_TABLE_H
 
@@ -12,12 +12,8 @@
 extern "C" {
 #endif
 
-/* The numbers that are new here. Of a tree they come in this order: 4; 5 and 6 from the left; 7 for names; 21; 6 for a path
- * whose URN would have more than 255 bytes; 7 for more than 8 parts; 8 to 11. A conversion gives 22 after all others. */
-enum {
-    TREE_TABLE_BAD_TREE = 21, /* a node is unused or repeated or not in its order, its parent is wrong, or a number is not there */
-    TREE_TABLE_NO_ROOM = 22   /* the other form does not fit the buffer, or would be longer than 8,192 bytes with its URNs in full */
-};
+/* The numbers of a tree come in this order: 4; 5 and 6 from the left; 7 for names; 21; 6 for a path whose URN would have
+ * more than 255 bytes; 7 for more than 8 parts; 8 to 11. A conversion gives 22 after all others. */
 
 /* A buffer of so many bytes has room for every table with its tree written once. */
 #define TREE_TABLE_LONGEST 4451

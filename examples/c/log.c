@@ -10,7 +10,7 @@
 
 /* Room for the longest table and log and one byte more, so that a longer one is seen as such. */
 static uint8_t table[8192 + 1];
-static uint8_t calls[CALL_LOG_LONGEST + 1];
+static uint8_t calls[ALERT_MOST_LOG_BYTES + 1];
 
 int main(int count, char **words)
 {

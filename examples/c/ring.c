@@ -20,7 +20,7 @@ static alert_resolution resolve(size_t table_len, const char *text)
     const uint8_t *value = (const uint8_t *)text;
     size_t value_len = strlen(text);
     machine_built built = machine_build(table, table_len, machine, sizeof machine);
-    if (built.refusal == MACHINE_TOO_MANY_STATES) {
+    if (built.refusal == ALERT_TOO_MANY_STATES) {
         alert_plain plain = resolve_plain(table, table_len, value, value_len);
         alert_resolution answer = {plain.refusal, plain.signal, plain.used, plain.skipped};
         return answer;

@@ -11,7 +11,7 @@
 
 /* Room for the longest table and one byte more, so that a longer one is seen as such. */
 static uint8_t table[8192 + 1];
-static uint8_t value[SAMPLE_ROOM];
+static uint8_t value[ALERT_SAMPLE_ROOM];
 
 int main(int count, char **words)
 {

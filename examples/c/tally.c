@@ -14,8 +14,8 @@
  * than any value. */
 static uint8_t table[8192 + 1];
 static char line[4096 + 4];
-static alert_tally records[TALLY_RECORDS];
-static uint32_t refusals[TALLY_REFUSALS];
+static alert_tally records[ALERT_MOST_SIGNALS];
+static uint32_t refusals[ALERT_TALLY_COUNTS];
 
 /* The number of bytes without the line's end. */
 static size_t without_end(const char *text)
@@ -55,19 +55,19 @@ int main(int count, char **words)
         alert_resolution answer;
         if (value_len == 0)
             continue;
-        answer = tally_value(table, (size_t)length, records, TALLY_RECORDS, refusals, TALLY_REFUSALS,
+        answer = tally_value(table, (size_t)length, records, ALERT_MOST_SIGNALS, refusals, ALERT_TALLY_COUNTS,
                              (const uint8_t *)line, value_len);
-        if (answer.refusal == TALLY_NOT_COUNTED) {
+        if (answer.refusal == ALERT_NOT_COUNTED) {
             fprintf(stderr, "tally: a count is full\n");
             return 1;
         }
         calls++;
     }
-    for (k = 0; k < TALLY_RECORDS; k++)
+    for (k = 0; k < ALERT_MOST_SIGNALS; k++)
         if (records[k].chosen != 0)
             printf("ring %u: chosen %lu, used %lu, skipped %lu\n", k, (unsigned long)records[k].chosen,
                    (unsigned long)records[k].used, (unsigned long)records[k].skipped);
-    for (k = 0; k < TALLY_REFUSALS; k++)
+    for (k = 0; k < ALERT_TALLY_COUNTS; k++)
         if (refusals[k] != 0)
             printf("refused with %u: %lu\n", k + 1, (unsigned long)refusals[k]);
     printf("calls: %lu\n", calls);

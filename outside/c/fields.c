@@ -158,13 +158,13 @@ static void forms(const char *folder)
 static void counts(const char *folder)
 {
     bytes t2 = table(folder, "T2");
-    alert_tally month[TALLY_RECORDS];
-    uint32_t refusals[TALLY_REFUSALS] = {0};
+    alert_tally month[ALERT_MOST_SIGNALS];
+    uint32_t refusals[ALERT_TALLY_COUNTS] = {0};
     alert_resolution answer;
     memset(month, 0, sizeof month);
-    tally_value(BYTES(t2), month, TALLY_RECORDS, refusals, TALLY_REFUSALS, VALUE(HIGH));
-    answer = tally_value(BYTES(t2), month, TALLY_RECORDS, refusals, TALLY_REFUSALS, VALUE(HIGH));
-    tally_value(BYTES(t2), month, TALLY_RECORDS, refusals, TALLY_REFUSALS, VALUE("<a>,"));
+    tally_value(BYTES(t2), month, ALERT_MOST_SIGNALS, refusals, ALERT_TALLY_COUNTS, VALUE(HIGH));
+    answer = tally_value(BYTES(t2), month, ALERT_MOST_SIGNALS, refusals, ALERT_TALLY_COUNTS, VALUE(HIGH));
+    tally_value(BYTES(t2), month, ALERT_MOST_SIGNALS, refusals, ALERT_TALLY_COUNTS, VALUE("<a>,"));
     FIELD(answer.refusal, 0);
     FIELD(answer.signal, 8);
     FIELD(answer.used, 3);
@@ -174,10 +174,10 @@ static void counts(const char *folder)
     FIELD(month[8].skipped, 2);
     FIELD(refusals[1], 1);
     month[8].skipped = UINT32_MAX;
-    FIELD(tally_value(BYTES(t2), month, TALLY_RECORDS, refusals, TALLY_REFUSALS, VALUE(HIGH)).refusal, 20);
+    FIELD(tally_value(BYTES(t2), month, ALERT_MOST_SIGNALS, refusals, ALERT_TALLY_COUNTS, VALUE(HIGH)).refusal, 20);
     FIELD(month[8].chosen, 2);
     month[8].skipped = 0;
-    tally_value(BYTES(t2), month, TALLY_RECORDS, refusals, TALLY_REFUSALS, VALUE(HIGH));
+    tally_value(BYTES(t2), month, ALERT_MOST_SIGNALS, refusals, ALERT_TALLY_COUNTS, VALUE(HIGH));
     FIELD(month[8].chosen, 3);
     FIELD(month[8].used, 9);
     FIELD(month[8].skipped, 1);
