@@ -2,7 +2,17 @@
 //! there is an error.
 use std::path::Path;
 
-const LIBRARIES: [&str; 8] = ["small_machine", "sample_value", "call_log", "tally", "resolver", "tree_table", "signal_table", "alert_info"];
+const LIBRARIES: [&str; 9] = [
+    "table_kept",
+    "small_machine",
+    "sample_value",
+    "call_log",
+    "tally",
+    "resolver",
+    "tree_table",
+    "signal_table",
+    "alert_info",
+];
 
 fn main() {
     let folder = Path::new(env!("CARGO_MANIFEST_DIR")).join("../target/c/lib");

@@ -10,6 +10,7 @@
 #include "sample_value.h"
 #include "signal_table.h"
 #include "small_machine.h"
+#include "table_kept.h"
 #include "tally.h"
 #include "tree_table.h"
 
@@ -131,7 +132,7 @@ static void places(const char *folder)
 
 static void forms(const char *folder)
 {
-    static uint8_t image[MACHINE_LONGEST], small[MACHINE_SMALL_LONGEST], tree[TREE_TABLE_LONGEST], value[SAMPLE_ROOM];
+    static uint8_t image[MACHINE_LONGEST], small[MACHINE_SMALL_LONGEST], tree[TREE_TABLE_LONGEST], value[ALERT_SAMPLE_ROOM];
     bytes t1 = table(folder, "T1"), t2 = table(folder, "T2");
     machine_built built = machine_build(BYTES(t1), image, sizeof image);
     table_converted converted = tree_table_from_signal_table(BYTES(t2), tree, sizeof tree);
@@ -210,6 +211,33 @@ static void logs(const char *folder)
     FIELD(call_log_check(BYTES(t2), log.at, log.n - 1).refusal, 25);
 }
 
+/* T3: after priority:low (node 3), source:internal (node 2) is lost, and signal 3 rings; 4 is rung by source:external and
+ * priority:low, 1 and 3. */
+static void marks(const char *folder)
+{
+    bytes t3 = table(folder, "T3");
+    alert_kept lost = alert_signal_table_keeps(BYTES(t3), 255, 2), kept = alert_signal_table_keeps(BYTES(t3), 255, 1);
+    alert_rung rung = alert_signal_table_rings(BYTES(t3), 255, 4);
+    FIELD(lost.refusal, 0);
+    FIELD(lost.kept, 0);
+    FIELD(lost.rings, 3);
+    FIELD(lost.len, 2);
+    FIELD(lost.marks[0], 3);
+    FIELD(lost.marks[1], 2);
+    FIELD(lost.marks[2], 0);
+    FIELD(kept.kept, 1);
+    FIELD(kept.len, 0);
+    FIELD(rung.refusal, 0);
+    FIELD(rung.rings, 1);
+    FIELD(rung.len, 2);
+    FIELD(rung.marks[0], 1);
+    FIELD(rung.marks[1], 3);
+    FIELD(rung.marks[2], 0);
+    FIELD(alert_signal_table_keeps(BYTES(t3), 256, 1).refusal, 23);
+    FIELD(alert_signal_table_keeps(BYTES(t3), 255, 5).refusal, 30);
+    FIELD(alert_signal_table_rings(BYTES(t3), 255, 8).refusal, 31);
+}
+
 int main(int n, char **words)
 {
     if (n != 2) {
@@ -222,5 +250,6 @@ int main(int n, char **words)
     forms(words[1]);
     counts(words[1]);
     logs(words[1]);
+    marks(words[1]);
     return wrong;
 }

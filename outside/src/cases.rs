@@ -18,6 +18,8 @@
 //! | `early T V` | refusal, signal, entries needed |
 //! | `available T SET V` | refusal, signal, used, skipped; SET is a number, bit s for signal s |
 //! | `pair RINGS LAMPS V` | refusal, ring, lamp |
+//! | `keeps T SET NODE` | refusal, kept, what the list shown rings, the list's nodes as bytes |
+//! | `rings T SET SIGNAL` | refusal, whether some list rings it, the list's nodes as bytes |
 //! | `log T LOG` | refusal, agrees, call, signal, used, skipped |
 //! | `match T URI` | refusal, category (-1 if the URI is skipped), node, whole, bytes compared |
 //! | `newtable N` | refusal |
@@ -25,14 +27,14 @@
 //! | `toold N ROOM` | refusal, length, table (the same) |
 //! | `sample T SEED ROOM` | refusal, length, seed after it, value (the rest of the buffer of ROOM bytes stays) |
 //! | `tally T RECORDS REFUSALS V` | refusal, records and refusal counts after it; `chosen:used:skipped` and counts, `;` between |
-use crate::{Built, Classes, Converted, Early, Logs, Made, Match, Pair, Reader, Record, Resolution};
+use crate::{Built, Classes, Converted, Early, Logs, Made, Marks, Match, Pair, Reader, Record, Resolution};
 use crate::{Resolvers, Samples, Seed, Tables, Tallies, Tally, Trees};
 use std::fmt::Write;
 use std::path::{Path, PathBuf};
 
 /// One file for each command, the draft's worked examples, values with folded lines, messages of
 /// several fields, and URNs that a category holds.
-pub const FILES: [&str; 23] = [
+pub const FILES: [&str; 24] = [
     "value.txt",
     "entry.txt",
     "table.txt",
@@ -56,6 +58,7 @@ pub const FILES: [&str; 23] = [
     "sample.txt",
     "smallwalk.txt",
     "classes.txt",
+    "kept.txt",
 ];
 
 /// Where the cases are.
@@ -74,6 +77,7 @@ pub enum Layer {
     Tallies,
     Logs,
     Samples,
+    Marks,
 }
 
 #[derive(Clone)]
@@ -94,6 +98,7 @@ impl Case {
             "tally" => Layer::Tallies,
             "log" => Layer::Logs,
             "sample" => Layer::Samples,
+            "keeps" | "rings" => Layer::Marks,
             other => panic!("{}: unknown command {other}", self.place),
         }
     }
@@ -178,6 +183,23 @@ pub fn ask_reader<I: Reader>(case: &Case) -> String {
             format!("{} {}", I::entry_refusal(&value, k), to_hex(I::entry(&value, k)))
         }
         other => panic!("{}: {other} is not the reader's", case.place),
+    }
+}
+
+/// What an implementation answers to a case of kept marks.
+pub fn ask_marks<I: Marks>(case: &Case) -> String {
+    let (table, set) = (case.bytes(1), case.number(2) as u32);
+    let number = case.number(3) as u8;
+    match case.words[0].as_str() {
+        "keeps" => {
+            let r = I::keeps(&table, set, number);
+            format!("{} {} {} {}", r.refusal, r.kept, r.rings, to_hex(&r.marks[..r.len as usize]))
+        }
+        "rings" => {
+            let r = I::rings(&table, set, number);
+            format!("{} {} {}", r.refusal, r.rings, to_hex(&r.marks[..r.len as usize]))
+        }
+        other => panic!("{}: {other} does not ask for marks", case.place),
     }
 }
 

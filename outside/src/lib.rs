@@ -165,6 +165,59 @@ pub struct Seed {
     pub x: u32,
 }
 
+/// What is said of a mark: a refusal number; 1 if the table keeps it; else the signal that a shortest list rings which shows
+/// the loss, and that list by the numbers of its nodes, with zeros after it.
+#[repr(C)]
+#[derive(Clone, Copy, Debug, PartialEq, Eq)]
+pub struct Kept {
+    pub refusal: u8,
+    pub kept: u8,
+    pub rings: u8,
+    pub len: u8,
+    pub marks: [u8; 32],
+}
+
+impl Kept {
+    pub fn refused(refusal: u8) -> Kept {
+        Kept { refusal, kept: 0, rings: 0, len: 0, marks: [0; 32] }
+    }
+
+    pub fn kept() -> Kept {
+        Kept { kept: 1, ..Kept::refused(0) }
+    }
+
+    pub fn lost(rings: u8, list: &[u8]) -> Kept {
+        Kept { refusal: 0, kept: 0, rings, len: list.len() as u8, marks: padded(list) }
+    }
+}
+
+/// What is said of a signal: a refusal number; 1 if some list rings it; and a shortest such list, with zeros after it.
+#[repr(C)]
+#[derive(Clone, Copy, Debug, PartialEq, Eq)]
+pub struct Rung {
+    pub refusal: u8,
+    pub rings: u8,
+    pub len: u8,
+    pub marks: [u8; 32],
+}
+
+impl Rung {
+    pub fn refused(refusal: u8) -> Rung {
+        Rung { refusal, rings: 0, len: 0, marks: [0; 32] }
+    }
+
+    pub fn by(list: &[u8]) -> Rung {
+        Rung { refusal: 0, rings: 1, len: list.len() as u8, marks: padded(list) }
+    }
+}
+
+/// A list with zeros after it.
+fn padded(list: &[u8]) -> [u8; 32] {
+    let mut marks = [0; 32];
+    marks[..list.len()].copy_from_slice(list);
+    marks
+}
+
 /// The reader of Alert-Info values: what the library alert_info answers.
 pub trait Reader {
     fn value_refusal(value: &[u8]) -> u8;
@@ -230,6 +283,12 @@ pub trait Resolvers {
     fn available(table: &[u8], available: u32, value: &[u8]) -> Resolution;
     /// A ring and a lamp, by two tables with no category in common.
     fn pair(rings: &[u8], lamps: &[u8], value: &[u8]) -> Pair;
+}
+
+/// Kept marks and signals that can ring: what the library table_kept answers, while only some signals are available.
+pub trait Marks {
+    fn keeps(table: &[u8], available: u32, node: u8) -> Kept;
+    fn rings(table: &[u8], available: u32, signal: u8) -> Rung;
 }
 
 /// The monthly count: what the library tally answers and leaves in the records and refusal counts.

@@ -11,14 +11,16 @@ use crate::Resolution;
 use crate::{Converted, Trees};
 #[cfg(feature = "resolver")]
 use crate::{Early, Pair, Record};
+#[cfg(feature = "table_kept")]
+use crate::{Kept, Marks, Rung};
 #[cfg(feature = "call_log")]
 use crate::{Logs, Verdict};
+#[cfg(feature = "sample_value")]
+use crate::{Made, Samples, Seed};
 #[cfg(feature = "signal_table")]
 use crate::{Match, Tables};
 #[cfg(feature = "resolver")]
 use crate::{Plain, Resolvers};
-#[cfg(feature = "sample_value")]
-use crate::{Made, Samples, Seed};
 #[cfg(feature = "tally")]
 use crate::{Tallies, Tally};
 
@@ -310,5 +312,22 @@ extern "C" {
 impl Samples for Ours {
     fn sample(table: &[u8], seed: &mut Seed, buffer: &mut [u8]) -> Made {
         unsafe { sample_value_make(table.as_ptr(), table.len(), seed, buffer.as_mut_ptr(), buffer.len()) }
+    }
+}
+
+#[cfg(feature = "table_kept")]
+extern "C" {
+    fn alert_signal_table_keeps(table: *const u8, table_len: usize, available: u32, node: u8) -> Kept;
+    fn alert_signal_table_rings(table: *const u8, table_len: usize, available: u32, signal: u8) -> Rung;
+}
+
+#[cfg(feature = "table_kept")]
+impl Marks for Ours {
+    fn keeps(table: &[u8], available: u32, node: u8) -> Kept {
+        unsafe { alert_signal_table_keeps(table.as_ptr(), table.len(), available, node) }
+    }
+
+    fn rings(table: &[u8], available: u32, signal: u8) -> Rung {
+        unsafe { alert_signal_table_rings(table.as_ptr(), table.len(), available, signal) }
     }
 }

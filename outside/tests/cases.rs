@@ -1,6 +1,6 @@
 //! Every case with a known answer, against each implementation.
 use outside::baseline::Baseline;
-use outside::cases::{all, ask_classes, ask_logs, ask_reader, ask_resolvers, ask_samples};
+use outside::cases::{all, ask_classes, ask_logs, ask_marks, ask_reader, ask_resolvers, ask_samples};
 use outside::cases::{ask_tables, ask_tallies, ask_trees, Case, Layer};
 use outside::reference::Reference;
 
@@ -61,6 +61,11 @@ macro_rules! hold_to_cases {
             fn samples() {
                 hold(Layer::Samples, ask_samples::<$implementation>);
             }
+
+            #[test]
+            fn marks() {
+                hold(Layer::Marks, ask_marks::<$implementation>);
+            }
         }
     };
 }
@@ -77,7 +82,8 @@ mod ours {
         feature = "resolver",
         feature = "tally",
         feature = "call_log",
-        feature = "sample_value"
+        feature = "sample_value",
+        feature = "table_kept"
     ))]
     use super::*;
 
@@ -127,5 +133,11 @@ mod ours {
     #[test]
     fn samples() {
         hold(Layer::Samples, ask_samples::<outside::ours::Ours>);
+    }
+
+    #[cfg(feature = "table_kept")]
+    #[test]
+    fn marks() {
+        hold(Layer::Marks, ask_marks::<outside::ours::Ours>);
     }
 }

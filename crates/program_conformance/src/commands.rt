@@ -13,6 +13,8 @@
 //   early T V        refusal number, signal, entries needed
 //   available T SET V  refusal number, signal, used, skipped; SET is a number, bit s for signal s
 //   pair RINGS LAMPS V  refusal number, ring, lamp
+//   keeps T SET NODE  refusal number, kept, what the list shown rings, the list's nodes
+//   rings T SET SIGNAL  refusal number, whether some list rings it, the list's nodes
 //   log T LOG        refusal number, agrees, call, signal, used, skipped
 //   sample T SEED ROOM  refusal number, length, seed after it, the value; the bytes after it are told only if one has changed
 //   match T URI      refusal number, category (-1 if the URI is skipped), node, whole, bytes compared
@@ -111,6 +113,28 @@ pub fn early(t: &[u8], v: &[u8]) {
 pub fn available(line: &[u8], t: &[u8], v: &[u8]) {
     let set = numbers::number(program_lines::word(line, 2));
     resolution(resolve_available::resolve(t, set, v));
+}
+
+// The number that a word says, at most 255.
+fn small_number(line: &[u8], i: usize) -> u8 {
+    (program_lines::number(program_lines::word(line, i)) % 256) as u8
+}
+
+pub fn keeps(line: &[u8], t: &[u8]) {
+    let set = numbers::number(program_lines::word(line, 2));
+    let r = table_kept::kept::keeps(t, set, small_number(line, 3));
+    print::three(r.refusal, r.kept, r.rings);
+    let marks = r.marks;
+    print::bytes(base_text::cut::part(&marks, 0, r.len as usize));
+}
+
+pub fn rings(line: &[u8], t: &[u8]) {
+    let set = numbers::number(program_lines::word(line, 2));
+    let r = table_kept::rung::rings(t, set, small_number(line, 3));
+    print::number(r.refusal as usize);
+    print::next(r.rings as usize);
+    let marks = r.marks;
+    print::bytes(base_text::cut::part(&marks, 0, r.len as usize));
 }
 
 pub fn pair(rings: &[u8], lamps: &[u8], v: &[u8]) {

@@ -93,6 +93,8 @@ fn answer(line: &[u8], a: &[u8], b: &[u8], c: &[u8]) {
         b'l' => commands::log(a, b),
         b'a' => commands::available(line, a, c),
         b'f' => fields::feed(line, a, c),
+        b'k' => commands::keeps(line, a),
+        b'r' => commands::rings(line, a),
         b's' => with_s(line, a, b, c),
         _ => return,
     }

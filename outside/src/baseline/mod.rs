@@ -1,6 +1,7 @@
 //! The same answers in plain Rust without allocation, written for speed: what the proved libraries are timed against.
 mod classes;
 mod early;
+mod kept;
 mod log;
 mod machine;
 mod resolve;
@@ -11,8 +12,8 @@ mod tree;
 mod urn;
 mod value;
 
-use crate::{Built, Classes, Converted, Early, Logs, Made, Match, Pair, Plain, Reader, Record};
-use crate::{Resolution, Resolvers, Samples, Seed, Tables, Tallies, Tally, Trees, Verdict};
+use crate::{Built, Classes, Converted, Early, Kept, Logs, Made, Marks, Match, Pair, Plain, Reader, Record};
+use crate::{Resolution, Resolvers, Rung, Samples, Seed, Tables, Tallies, Tally, Trees, Verdict};
 
 pub struct Baseline;
 
@@ -103,6 +104,16 @@ impl Resolvers for Baseline {
 
     fn pair(rings: &[u8], lamps: &[u8], value: &[u8]) -> Pair {
         resolve::pair(rings, lamps, value).unwrap_or_else(Pair::refused)
+    }
+}
+
+impl Marks for Baseline {
+    fn keeps(table: &[u8], available: u32, node: u8) -> Kept {
+        kept::keeps(table, available, node).unwrap_or_else(Kept::refused)
+    }
+
+    fn rings(table: &[u8], available: u32, signal: u8) -> Rung {
+        kept::rings(table, available, signal).unwrap_or_else(Rung::refused)
     }
 }
 

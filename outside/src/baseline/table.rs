@@ -324,6 +324,19 @@ impl<'a> Decoded<'a> {
         }
     }
 
+    /// The signal that has the node for its place in the node's category, and the places of another signal in every other.
+    pub fn besides(&self, signal: u8, node: u8) -> Option<u8> {
+        let shift = 8 * self.nodes[node as usize].category;
+        let others = self.rows[signal as usize] & !(0xFF << shift);
+        self.signal_with(others | (node as u64) << shift).map(|found| found as u8)
+    }
+
+    /// Whether the node properly extends the signal's place in its category.
+    pub fn extends(&self, signal: u8, node: u8) -> bool {
+        let place = (self.rows[signal as usize] >> (8 * self.nodes[node as usize].category)) as u8;
+        place != node && self.is_above(place, node)
+    }
+
     fn signal_with(&self, row: u64) -> Option<usize> {
         self.rows[..self.signal_count].iter().position(|&r| r == row)
     }
@@ -400,7 +413,7 @@ impl<'a> Decoded<'a> {
     }
 
     /// Whether `above` is `node` or one of its ancestors.
-    fn is_above(&self, above: u8, mut node: u8) -> bool {
+    pub fn is_above(&self, above: u8, mut node: u8) -> bool {
         while node > above {
             node = self.nodes[node as usize].parent;
         }

@@ -8,8 +8,8 @@ use outside::cases::{show_counts, show_record, show_records, to_hex};
 use outside::random::tables::{self, Draft, Limit};
 use outside::random::{classes, images, logs, records, trees, values, Random};
 use outside::reference::Reference;
-use outside::{Built, Classes, Converted, Early, Logs, Made, Match, Pair, Plain, Reader, Record};
-use outside::{Resolution, Resolvers, Samples, Seed, Tables, Tallies, Tally as Counts, Trees, Verdict};
+use outside::{Built, Classes, Converted, Early, Kept, Logs, Made, Marks, Match, Pair, Plain, Reader, Record};
+use outside::{Resolution, Resolvers, Rung, Samples, Seed, Tables, Tallies, Tally as Counts, Trees, Verdict};
 use std::collections::BTreeMap;
 use std::fmt::Debug;
 use std::process::exit;
@@ -23,7 +23,8 @@ use std::time::{Instant, SystemTime, UNIX_EPOCH};
     feature = "resolver",
     feature = "tally",
     feature = "call_log",
-    feature = "sample_value"
+    feature = "sample_value",
+    feature = "table_kept"
 ))]
 use outside::ours::Ours;
 
@@ -31,7 +32,7 @@ use outside::ours::Ours;
 const LONGEST: usize = 35_459;
 
 /// Every function with the refusal numbers that it may give.
-const FUNCTIONS: [(&str, &[u8]); 24] = [
+const FUNCTIONS: [(&str, &[u8]); 26] = [
     ("alert_info_refusal", &[0, 1, 2, 3]),
     ("alert_info_entries", &[0, 1, 2, 3]),
     ("alert_info_entry", &[0, 1, 2, 3, 18]),
@@ -56,6 +57,8 @@ const FUNCTIONS: [(&str, &[u8]); 24] = [
     ("tally_value", &[0, 1, 2, 3, 4, 5, 6, 7, 8, 9, 10, 11, 12, 20]),
     ("call_log_check", &[0, 4, 5, 6, 7, 8, 9, 10, 11, 12, 25]),
     ("sample_value_make", &[0, 4, 5, 6, 7, 8, 9, 10, 11, 12, 26]),
+    ("alert_signal_table_keeps", &[0, 4, 5, 6, 7, 8, 9, 10, 11, 12, 23, 30]),
+    ("alert_signal_table_rings", &[0, 4, 5, 6, 7, 8, 9, 10, 11, 12, 23, 31]),
 ];
 
 #[derive(Default)]
@@ -252,6 +255,98 @@ fn sample<I: Samples>(table: &[u8], seed: Seed, room: usize) -> (Made, Seed, Vec
     let mut buffer: Vec<u8> = (0..room).map(|i| (i % 251) as u8).collect();
     let made = I::sample(table, &mut after, &mut buffer);
     (made, after, buffer)
+}
+
+fn keeps<I: Marks>(table: &[u8], set: u32, node: u8) -> Kept {
+    I::keeps(table, set, node)
+}
+
+fn rings<I: Marks>(table: &[u8], set: u32, signal: u8) -> Rung {
+    I::rings(table, set, signal)
+}
+
+/// Some node and some signal of a small table, or any of one that is refused. The list that shows a loss, as a value, rings a
+/// signal that does not say the mark; so does no shorter list of nodes and of what lies under them.
+fn hold_marks(tally: &mut Tally, random: &mut Random, table: &[u8]) {
+    let read = outside::reference::table::Table::read(table);
+    let (nodes, signals) = read.as_ref().map_or((5, 5), |table| (table.nodes.len(), table.signals.len()));
+    if nodes > 12 {
+        return;
+    }
+    let set = set(random, signals);
+    let node = random.below(nodes + 2) as u8;
+    let answers = answers!("table_kept", keeps, table, set, node);
+    let line = || format!("keeps {} {set} {node}", to_hex(table));
+    let kept = answers[0].1;
+    tally.hold("alert_signal_table_keeps", kept.refusal, &answers, line);
+    if let (Ok(read), 0) = (&read, kept.refusal) {
+        hold_lists(tally, read, table, set, node, kept);
+    }
+    let signal = random.below(signals + 2) as u8;
+    let answers = answers!("table_kept", rings, table, set, signal);
+    let line = || format!("rings {} {set} {signal}", to_hex(table));
+    tally.hold("alert_signal_table_rings", answers[0].1.refusal, &answers, line);
+}
+
+/// The URN of a node as an entry, or of something under it that no table has.
+fn node_entry(table: &outside::reference::table::Table, k: usize) -> Vec<u8> {
+    let node = &table.nodes[k / 2];
+    let mut urn = [&b"<urn:alert:"[..], &table.categories[node.category]].concat();
+    for part in &node.path {
+        urn.extend([&b":"[..], part].concat());
+    }
+    urn.extend(if k % 2 == 1 { &b":q7q>"[..] } else { b">" });
+    urn
+}
+
+/// The list that is shown, and every list of up to three entries that gives the mark and goes one way in its category.
+fn hold_lists(
+    tally: &mut Tally,
+    read: &outside::reference::table::Table,
+    table: &[u8],
+    set: u32,
+    node: u8,
+    kept: Kept,
+) {
+    let mark = &read.nodes[node as usize - 1];
+    let loses = |list: &[usize]| {
+        let value = list.iter().map(|&k| node_entry(read, k)).collect::<Vec<_>>().join(&b',');
+        let signal = Reference::available(table, set, &value).signal;
+        !outside::reference::kept::says(read, signal as usize, mark)
+    };
+    let shown: Vec<usize> = kept.marks[..kept.len as usize].iter().map(|&n| 2 * (n as usize - 1)).collect();
+    if kept.kept == 0 && !loses(&shown) {
+        println!("the list shown does not show a loss: keeps {} {set} {node}", to_hex(table));
+        tally.wrong += 1;
+    }
+    let urns = 2 * read.nodes.len();
+    let most = if urns > 12 { 1 } else { 3 };
+    let shorter = if kept.kept == 1 { most } else { most.min(kept.len as usize - 1) };
+    let mut lists: Vec<Vec<usize>> = vec![Vec::new()];
+    for _ in 0..shorter {
+        lists = lists.iter().flat_map(|list| (0..urns).map(move |k| [&list[..], &[k]].concat())).collect();
+        for list in &lists {
+            let mine: Vec<_> = list
+                .iter()
+                .map(|&k| (&read.nodes[k / 2], k % 2))
+                .filter(|(n, _)| n.category == mark.category)
+                .collect();
+            let gives = mine.iter().any(|(n, _)| n.path.starts_with(&mark.path));
+            let above = |(a, s): &(&outside::reference::table::Node, usize),
+                         (b, r): &(&outside::reference::table::Node, usize)| {
+                if *s == 1 {
+                    *r == 1 && a.path == b.path
+                } else {
+                    b.path.starts_with(&a.path)
+                }
+            };
+            let one_way = mine.iter().all(|x| mine.iter().all(|y| above(x, y) || above(y, x)));
+            if gives && one_way && loses(list) {
+                println!("a list of {} loses it: keeps {} {set} {node}", list.len(), to_hex(table));
+                tally.wrong += 1;
+            }
+        }
+    }
 }
 
 /// A seed and some room. A value that is made is accepted, and every URI of it is an alert URN.
@@ -647,6 +742,7 @@ fn round(tally: &mut Tally, random: &mut Random, other: &mut Vec<u8>) {
     hold_message(tally, &table, &message);
     for _ in 0..3 {
         hold_sample(tally, random, &table);
+        hold_marks(tally, random, &table);
     }
     hold_pairs(tally, random);
     for _ in 0..3 {
@@ -668,6 +764,7 @@ fn limits(tally: &mut Tally, random: &mut Random) {
         hold_from_table(tally, random, &table);
         for _ in 0..20 {
             hold_sample(tally, random, &table);
+            hold_marks(tally, random, &table);
         }
         hold_check(tally, &table, &machine);
         hold_classes(tally, random, &table, &machine, false);
@@ -764,6 +861,7 @@ fn every_byte(tally: &mut Tally, random: &mut Random) {
             hold_table(tally, random, &changed, &image);
             hold_proposal(tally, random, &changed, &image, &[0, 1, 2, 3]);
             hold_from_table(tally, random, &changed);
+            hold_marks(tally, random, &changed);
             hold_matches(tally, &changed, value);
             hold_resolvers(tally, &changed, &image, value);
         }

@@ -5,6 +5,7 @@ pub mod classes;
 pub mod direct;
 pub mod early;
 pub mod fields;
+pub mod kept;
 pub mod log;
 pub mod machine;
 pub mod pair;
@@ -16,8 +17,8 @@ pub mod tree;
 pub mod urn;
 pub mod value;
 
-use crate::{Built, Classes, Converted, Early, Logs, Made, Match, Pair, Plain, Reader, Record};
-use crate::{Resolution, Resolvers, Samples, Seed, Tables, Tallies, Tally, Trees, Verdict};
+use crate::{Built, Classes, Converted, Early, Kept, Logs, Made, Marks, Match, Pair, Plain, Reader, Record};
+use crate::{Resolution, Resolvers, Rung, Samples, Seed, Tables, Tallies, Tally, Trees, Verdict};
 use table::Table;
 
 pub struct Reference;
@@ -114,6 +115,16 @@ impl Resolvers for Reference {
 
     fn pair(rings: &[u8], lamps: &[u8], value: &[u8]) -> Pair {
         pair::resolve(rings, lamps, value).unwrap_or_else(Pair::refused)
+    }
+}
+
+impl Marks for Reference {
+    fn keeps(table: &[u8], available: u32, node: u8) -> Kept {
+        kept::keeps(table, available, node).unwrap_or_else(Kept::refused)
+    }
+
+    fn rings(table: &[u8], available: u32, signal: u8) -> Rung {
+        kept::rings(table, available, signal).unwrap_or_else(Rung::refused)
     }
 }
 

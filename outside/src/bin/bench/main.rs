@@ -13,7 +13,7 @@ use inputs::Inputs;
 use outside::baseline::Baseline;
 use outside::reference::table::Table;
 use outside::reference::Reference;
-use outside::{Classes, Logs, Reader, Record, Resolvers, Samples, Seed, Tables, Tallies, Tally, Trees};
+use outside::{Classes, Logs, Marks, Reader, Record, Resolvers, Samples, Seed, Tables, Tallies, Tally, Trees};
 use std::hint::black_box;
 
 #[cfg(any(
@@ -24,7 +24,8 @@ use std::hint::black_box;
     feature = "resolver",
     feature = "tally",
     feature = "call_log",
-    feature = "sample_value"
+    feature = "sample_value",
+    feature = "table_kept"
 ))]
 use outside::ours::Ours;
 
@@ -230,6 +231,30 @@ fn sample_rows<'a>(inputs: &'a Inputs, rows: &mut Vec<Row<'a>>) {
     }
 }
 
+/// All marks of a table, and all of its signals.
+fn mark_rows<'a>(inputs: &'a Inputs, rows: &mut Vec<Row<'a>>) {
+    for (name, table, _) in &inputs.tables {
+        let read = Table::read(table).unwrap_or_else(|number| panic!("{name}: {number}"));
+        let (nodes, signals) = (read.nodes.len() as u8, read.signals.len() as u8);
+        let all = ((1u64 << signals) - 1) as u32;
+        rows.push(row!("table_kept", "alert_signal_table_keeps", format!("{name}, all {nodes} marks"), |I, _| {
+            for node in 1..=nodes {
+                black_box(I::keeps(black_box(table), all, node));
+            }
+        }));
+    }
+    for (name, table, _) in &inputs.tables {
+        let read = Table::read(table).unwrap_or_else(|number| panic!("{name}: {number}"));
+        let signals = read.signals.len() as u8;
+        let all = ((1u64 << signals) - 1) as u32;
+        rows.push(row!("table_kept", "alert_signal_table_rings", format!("{name}, all {signals} signals"), |I, _| {
+            for signal in 0..signals {
+                black_box(I::rings(black_box(table), all, signal));
+            }
+        }));
+    }
+}
+
 fn print_times(rows: &[Row], runs: usize) {
     println!("| function | input | ours | baseline | ours / baseline |");
     println!("|---|---|---:|---:|---:|");
@@ -300,6 +325,7 @@ fn main() {
     tally_rows(&inputs, &mut rows);
     log_rows(&inputs, &mut rows);
     sample_rows(&inputs, &mut rows);
+    mark_rows(&inputs, &mut rows);
     time::warm_up(&*rows[0].baseline);
     println!("## Time of one call, best of {runs} runs\n");
     print_times(&rows, runs);

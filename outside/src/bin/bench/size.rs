@@ -5,7 +5,17 @@ use std::process::Command;
 pub fn print() {
     println!("| library | code and constants | data | zeroed |");
     println!("|---|---:|---:|---:|");
-    for name in ["alert_info", "signal_table", "tree_table", "resolver", "tally", "call_log", "sample_value", "small_machine"] {
+    for name in [
+        "alert_info",
+        "signal_table",
+        "tree_table",
+        "resolver",
+        "tally",
+        "call_log",
+        "sample_value",
+        "small_machine",
+        "table_kept",
+    ] {
         let archive = Path::new(env!("CARGO_MANIFEST_DIR")).join(format!("../target/c/lib/lib{name}.a"));
         match sizes(&archive) {
             Some([text, data, bss]) => println!("| lib{name}.a | {text} | {data} | {bss} |"),
