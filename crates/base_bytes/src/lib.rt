@@ -2,6 +2,8 @@
 //
 //   numbers.rt  bytes as indices and back, the lesser of two numbers, ranges
 //   lent.rt     lent bytes: one of them; all of them cleared; others copied over them
+#![tactic(auto)]
+
 pub mod lent;
 pub mod numbers;
 
@@ -10,7 +12,7 @@ ghost use Rattle.base_bytes.specs.Built.{refused};
 
 // What a builder answers: the number if it is refused, or how many bytes it wrote.
 #[repr(C)]
-#[derive(Drop)]
+#[derive(Clone, Copy)]
 pub struct Built {
     pub refusal: u8,
     pub len: usize,

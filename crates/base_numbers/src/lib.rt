@@ -1,4 +1,5 @@
 // Every limit and every refusal number by name; specs/Numbers.antt has the same names for contracts.
+#![tactic(auto)]
 
 // Bytes of a value.
 pub const MOST_VALUE_BYTES: usize = 4096;

@@ -5,6 +5,8 @@
 //   cut.rt          texts cut, and searched for a byte
 //   compare.rt      texts compared byte by byte
 //   letter_case.rt  texts compared without regard to letter case
+#![tactic(auto)]
+
 pub mod compare;
 pub mod cut;
 pub mod letter_case;

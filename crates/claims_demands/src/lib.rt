@@ -5,3 +5,4 @@
 //   specs/Tried      the plain resolver's tries
 //   specs/Examples   eleven values and an image marked by hand; that no claim is empty stands in DemandExample, FieldsExample and
 //                    EarlyExample, and that 9 tries are needed in TriedExample
+#![tactic(auto)]

@@ -4,6 +4,8 @@
 // the right answer to it. The table is decoded once for all calls.
 //
 //   c.rt  the same for C
+#![tactic(auto)]
+
 mod c;
 
 ghost use Rattle.std.specs.Prelude.{◌≡◌, ◌+◌, ◌<◌, get_or};
@@ -19,7 +21,7 @@ use table_decode::Decoded;
 
 // A refusal number; 1 if every call agrees; else 0, the first call that does not, counted from 0, and the right answer.
 #[repr(C)]
-#[derive(Drop)]
+#[derive(Clone, Copy)]
 pub struct Verdict {
     pub refusal: u8,
     pub agrees: u8,

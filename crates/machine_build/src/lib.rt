@@ -3,6 +3,8 @@
 // In: a decoded table's arrays, its symbols, and a buffer. Out: 0, 13 or 14 with the image's length, and the whole buffer.
 //
 //   states.rt  the states by discovery, with their rows
+#![tactic(auto)]
+
 mod states;
 
 ghost use Rattle.std.specs.Prelude.{◌≡◌, ◌+◌, ◌*◌, ◌≤◌, min, length};

@@ -5,6 +5,8 @@
 //   image.rt  an image's counts, signals, statuses and targets
 //   form.rt   its form: 15
 //   rows.rt   its rows: 17
+#![tactic(auto)]
+
 pub mod form;
 pub mod image;
 mod rows;

@@ -5,6 +5,8 @@
 //
 //   matching.rt  what a URI is to a table
 //   c.rt         all of it for C
+#![tactic(auto)]
+
 pub mod c;
 mod matching;
 

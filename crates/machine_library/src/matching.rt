@@ -7,7 +7,7 @@ use node_search::uses::Use;
 // A refusal number, 0 if the table is well-formed; whether the URI is used; the category and the node or root; whether the URN
 // is that node; and how many bytes were compared.
 #[repr(C)]
-#[derive(Drop)]
+#[derive(Clone, Copy)]
 pub struct Match {
     pub refusal: u8,
     pub used: u8,

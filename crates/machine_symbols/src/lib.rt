@@ -3,6 +3,8 @@
 // In: a decoded table's arrays. Out: its symbols, their index, the number of a URN's symbol, and the state after one.
 //
 //   steps.rt  the step of a symbol
+#![tactic(auto)]
+
 pub mod steps;
 
 ghost use Rattle.std.specs.Prelude.{◌≡◌, List, [], ◌∷◌, ◌++◌, ℕ, ◌+◌, ◌*◌, ◌≤◌, ◌<◌, min, replicate};
@@ -16,7 +18,7 @@ use base_numbers::{MOST_CATEGORIES, MOST_NODES, MOST_SYMBOL_BYTES, MOST_SYMBOLS}
 use node_step::inner_at;
 
 // How many symbols there are, and three bytes for each.
-#[derive(Drop)]
+#[derive(Clone, Copy)]
 pub struct Symbols {
     pub count: usize,
     pub bytes: [u8; MOST_SYMBOL_BYTES],

@@ -6,6 +6,8 @@
 //   uses.rt   the search
 //   marks.rt  what the search keeps of each node
 //   texts.rt  the text at an index of arrays: a category's name, a node's path, a URN
+#![tactic(auto)]
+
 pub mod marks;
 pub mod texts;
 pub mod uses;

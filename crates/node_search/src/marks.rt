@@ -8,7 +8,7 @@ ghost use Rattle.node_search.specs.Arrays.{last_path, shared_of, SharedIn, child
 use crate::texts::node_text;
 use base_numbers::{LAST_NODE, MOST_NODES};
 
-#[derive(Drop)]
+#[derive(Clone, Copy)]
 pub struct Marks {
     pub shared: [u8; MOST_NODES],
     pub inner: [bool; MOST_NODES],

@@ -10,7 +10,7 @@ use base_numbers::{MOST_CATEGORIES, MOST_NODES};
 
 // What a URI is to the table: skipped, or used, with its deepest node, or the root, whether it is that node, and the
 // bytes compared to find it.
-#[derive(Drop)]
+#[derive(Clone, Copy)]
 pub enum Use {
     Skipped,
     Used {
@@ -23,7 +23,7 @@ pub enum Use {
 
 // A search for a path: the deepest node met that is the path or above it, whether it is the path, and the bytes compared;
 // how many bytes the last node met has in common with the path; and whether the search ends there, at a leaf.
-#[derive(Drop)]
+#[derive(Clone, Copy)]
 struct Search {
     ends: bool,
     node: u8,

@@ -7,6 +7,8 @@
 //   tries.rt   the step with the candidates that it tries
 //   rows.rt    a signal's places in one number, read and set
 //   stored.rt  a state's statuses as bytes in one number, and the step on them
+#![tactic(auto)]
+
 pub mod rows;
 pub mod stored;
 pub mod tries;
@@ -20,7 +22,7 @@ use base_bytes::numbers::at_most;
 use base_numbers::{LAST_NODE, MOST_CATEGORIES, MOST_NODES, MOST_SIGNALS, MOST_TRIES};
 
 // What is kept of the last URN that a category took: the category is open at its place, held at a node, or shut for good.
-#[derive(Drop)]
+#[derive(Clone, Copy)]
 pub enum Status {
     Open,
     Held(u8),
@@ -28,20 +30,20 @@ pub enum Status {
 }
 
 // One category's progress.
-#[derive(Drop)]
+#[derive(Clone, Copy)]
 pub struct Progress {
     pub status: Status,
 }
 
 // The current signal, and each category's progress; those past the table's are open.
-#[derive(Drop)]
+#[derive(Clone, Copy)]
 pub struct State {
     pub signal: u8,
     pub categories: [Progress; MOST_CATEGORIES],
 }
 
 // A signal that was found, with the node at which it was.
-#[derive(Drop)]
+#[derive(Clone, Copy)]
 pub struct Hit {
     pub found: bool,
     pub node: u8,

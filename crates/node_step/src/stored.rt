@@ -12,7 +12,7 @@ use base_bytes::numbers::at_most;
 use base_numbers::{MOST_CATEGORIES, MOST_NODES, MOST_SIGNALS};
 
 // A state with its categories' bytes in one number, category 0 lowest.
-#[derive(Drop)]
+#[derive(Clone, Copy)]
 pub struct Packed {
     pub signal: u8,
     pub statuses: u64,

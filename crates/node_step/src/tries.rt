@@ -8,7 +8,7 @@ use crate::{Hit, State};
 use base_numbers::{MOST_CATEGORIES, MOST_DEPTH, MOST_NODES, MOST_SIGNALS};
 
 // The state after a step, and the candidates tried.
-#[derive(Drop)]
+#[derive(Clone, Copy)]
 pub struct Counted {
     pub state: State,
     pub tries: u8,

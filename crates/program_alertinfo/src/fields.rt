@@ -6,7 +6,7 @@ use resolve_run::Resolution;
 
 // What is known after some values: whether all could be read, what is carried, whether one was accepted, the counts of
 // all, and the number of the last that was refused.
-#[derive(Drop)]
+#[derive(Clone, Copy)]
 pub struct Message {
     pub ok: bool,
     pub carried: Carried,

@@ -1,5 +1,7 @@
 // Picks a ring from the command line: the libraries' answers, in plain words. Files are read up to 65,536 bytes, more
 // than the libraries take, so that a longer one is refused by its number.
+#![tactic(auto)]
+
 mod answers;
 mod fields;
 mod files;
@@ -13,7 +15,7 @@ mod words;
 use libc::{STDERR_FILENO, STDOUT_FILENO};
 
 // What is asked of a table, which is word 2.
-#[derive(Drop)]
+#[derive(Clone, Copy)]
 enum Command {
     Build,
     Check,

@@ -6,7 +6,7 @@ ghost use Rattle.io.specs.Counts.{IsPrefixLen};
 use tally_library::Tally;
 
 // What is kept from piece to piece: the tally, how many bytes of the present line are held, and how many values were not counted.
-#[derive(Drop)]
+#[derive(Clone, Copy)]
 pub struct Month {
     pub records: [Tally; 32],
     pub refusals: [u32; 12],
@@ -15,7 +15,7 @@ pub struct Month {
 }
 
 // A read of a piece: the month after it, and whether the file goes on.
-#[derive(Drop)]
+#[derive(Clone, Copy)]
 pub struct After {
     pub month: Month,
     pub more: bool,

@@ -4,7 +4,7 @@ use libc::{STDERR_FILENO, STDOUT_FILENO};
 use sample_library::Made;
 
 // What was read of a number: what its digits say, and whether they are digits.
-#[derive(Drop)]
+#[derive(Clone, Copy)]
 struct Digits {
     n: u64,
     ok: bool,

@@ -2,7 +2,7 @@
 
 // What was read so far: the set, bit s for signal s; the number that is being read, if it has a digit; and whether all is
 // of that form.
-#[derive(Drop)]
+#[derive(Clone, Copy)]
 pub struct Listed {
     pub bits: u32,
     number: usize,

@@ -1,6 +1,8 @@
 // Answers the cases of the files that are named on the command line, one line each. A case is a line `COMMAND = ANSWER`,
 // bytes in hex, `-` for none; what stands after the equals sign is not read here. Lines that begin with `#`, and empty
 // ones, are no cases.
+#![tactic(auto)]
+
 mod commands;
 mod fields;
 mod numbers;

@@ -4,7 +4,7 @@ use crate::{numbers, print};
 use tally_library::Tally;
 
 // At most 32 records.
-#[derive(Drop)]
+#[derive(Clone, Copy)]
 struct Sheet {
     items: [Tally; 32],
     n: usize,

@@ -1,6 +1,8 @@
 // Reads lines of test cases: words with single spaces between, bytes in hex, numbers in decimal.
 //
 // In: a file's bytes. Out: its lines' words, bytes and numbers.
+#![tactic(auto)]
+
 ghost use Rattle.std.specs.Prelude.{◌≡◌, ◌≤◌, ◌<◌, ◌/◌, min, length, get_or, take};
 ghost use Rattle.base_lists.specs.Lists.{tabulate, over};
 ghost use Rattle.base_lists.specs.Cuts.{up_to, past};

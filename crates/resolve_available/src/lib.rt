@@ -4,6 +4,8 @@
 // entries.
 //
 //   rows.rt  the places of the available signals
+#![tactic(auto)]
+
 mod rows;
 
 ghost use Rattle.std.specs.Prelude.{min, ◌≡◌};

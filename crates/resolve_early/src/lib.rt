@@ -4,6 +4,8 @@
 //
 //   settled.rt  whether a state is settled: no URN leads from it to another signal
 //   run.rt      going through a value from entry to entry, until the state is settled
+#![tactic(auto)]
+
 mod run;
 mod settled;
 
@@ -17,7 +19,7 @@ use table_decode::Decoded;
 
 // A refusal number, 0 if the question is answered; the signal; and how many entries were needed.
 #[repr(C)]
-#[derive(Drop)]
+#[derive(Clone, Copy)]
 pub struct Early {
     pub refusal: u8,
     pub signal: u8,

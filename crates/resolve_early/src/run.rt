@@ -11,7 +11,7 @@ use resolve_run::entry::entry_at;
 use table_decode::Decoded;
 
 // The signal after so many entries, and whether they are enough.
-#[derive(Drop)]
+#[derive(Clone, Copy)]
 pub struct Reached {
     pub enough: bool,
     pub signal: u8,

@@ -6,6 +6,8 @@
 //   fields.rt   one value of a message that has several Alert-Info fields
 //   by.rt       the plain resolver by a decoded table
 //   c.rt        all of it for C
+#![tactic(auto)]
+
 pub mod by;
 mod c;
 mod fields;
@@ -20,7 +22,7 @@ use resolve_run::Resolution;
 
 // The plain resolver's answer: a resolution, and how many candidates its searches tried.
 #[repr(C)]
-#[derive(Drop)]
+#[derive(Clone, Copy)]
 pub struct PlainResolution {
     pub refusal: u8,
     pub signal: u8,
@@ -30,7 +32,7 @@ pub struct PlainResolution {
 }
 
 // The answer to one value of several, and what is carried to the next.
-#[derive(Drop)]
+#[derive(Clone, Copy)]
 pub struct Fed {
     pub answer: Resolution,
     pub carried: Carried,

@@ -3,6 +3,8 @@
 // In: a ring table, a lamp table and a value, each any bytes. Out: a refusal number, or the two signals.
 //
 //   names.rt  whether the tables have a category in common
+#![tactic(auto)]
+
 mod names;
 
 ghost use Rattle.std.specs.Prelude.{◌≡◌};
@@ -18,7 +20,7 @@ use table_decode::Decoded;
 
 // A refusal number, 0 if nothing is refused; the ring table's signal; and the lamp table's.
 #[repr(C)]
-#[derive(Drop)]
+#[derive(Clone, Copy)]
 pub struct Pair {
     pub refusal: u8,
     pub ring: u8,

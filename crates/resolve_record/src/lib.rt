@@ -1,6 +1,8 @@
 // What is carried between the values of one message: a record by value, and for C its ten bytes.
 //
 // In: a record, any bytes. Out: whether a table can go on from it; the state of direct resolution in it, and back.
+#![tactic(auto)]
+
 ghost use Rattle.std.specs.Prelude.{◌≡◌, length};
 ghost use Rattle.base_numbers.specs.Numbers.{most_categories};
 ghost use Rattle.base_lists.specs.Lists.{tabulate, all_below};
@@ -13,7 +15,7 @@ use node_step::{Progress, State};
 
 // The signal, a status for each of 8 categories (0 open, 1 shut, 1 + n held at node n), and how many values there were. All
 // zero before the first.
-#[derive(Drop)]
+#[derive(Clone, Copy)]
 pub struct Carried {
     pub signal: u8,
     pub status: [u8; MOST_CATEGORIES],

@@ -13,7 +13,7 @@ use base_numbers::{
 use table_decode::Decoded;
 
 // Where a resolver ends: its answer, and where it is.
-#[derive(Drop)]
+#[derive(Clone, Copy)]
 pub struct Ended {
     pub answer: Resolution,
     pub last: Current,

@@ -6,7 +6,7 @@ ghost use Rattle.resolve_run.specs.Run.{entry_of};
 use value_cursor::{Cursor, Found, Span};
 
 // An entry: where its URI lies, and where the next one begins unless it is the last; or the value does not fit.
-#[derive(Drop)]
+#[derive(Clone, Copy)]
 pub struct Entry {
     pub fits: bool,
     pub last: bool,

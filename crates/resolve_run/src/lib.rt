@@ -6,13 +6,15 @@
 //   entry.rt    one entry
 //   run.rt      from entry to entry
 //   answer.rt   the answer at a value's end
+#![tactic(auto)]
+
 pub mod answer;
 pub mod entry;
 pub mod run;
 
 // A refusal number, 0 if neither value nor table is refused; the signal; and how many entries were used and skipped.
 #[repr(C)]
-#[derive(Drop)]
+#[derive(Clone, Copy)]
 pub struct Resolution {
     pub refusal: u8,
     pub signal: u8,

@@ -11,7 +11,7 @@ use table_decode::Decoded;
 
 // Where a resolver is: a state of direct resolution, with the candidates tried so far, or, if it walks, a state's number in an
 // image.
-#[derive(Drop)]
+#[derive(Clone, Copy)]
 pub struct Current {
     pub walks: bool,
     pub number: u8,
@@ -20,7 +20,7 @@ pub struct Current {
 }
 
 // Where a resolver is after some entries, with the numbers of used and skipped ones.
-#[derive(Drop)]
+#[derive(Clone, Copy)]
 pub struct Point {
     pub current: Current,
     pub used: usize,
@@ -28,7 +28,7 @@ pub struct Point {
 }
 
 // A whole value: whether it fits the grammar, and where the resolver is at its end.
-#[derive(Drop)]
+#[derive(Clone, Copy)]
 pub struct Outcome {
     pub fits: bool,
     pub point: Point,

@@ -2,6 +2,8 @@
 //
 // In: a table, an image or a small image, and a value, each any bytes. Out: a refusal number, or the signal with the numbers of
 // used and skipped entries.
+#![tactic(auto)]
+
 ghost use Rattle.std.specs.Prelude.{◌≡◌, ◌≤◌};
 ghost use Rattle.table_decode.specs.Decoded.{Means};
 ghost use Rattle.table_decode.specs.Tables.{table_of};

@@ -16,7 +16,7 @@ use table_decode::Decoded;
 const OPEN: [u8; 11] = [60, 117, 114, 110, 58, 97, 108, 101, 114, 116, 58];
 
 // Where an entry ends, and the seed after its choices.
-#[derive(Drop)]
+#[derive(Clone, Copy)]
 pub struct Wrote {
     pub len: usize,
     pub seed: u32,

@@ -7,6 +7,8 @@
 //
 // The kit's borrow checker does not cover a reference to a struct, so `sample_value_make`, which has the lent seed, is proved
 // by a walk of its MIR by hand. It is thin: all decisions are made in `make_from`.
+#![tactic(auto)]
+
 mod entry;
 
 ghost use Rattle.std.specs.Prelude.{◌≡◌, ◌≤◌, length};
@@ -20,7 +22,7 @@ use sample_seed::Seed;
 use table_decode::Decoded;
 
 // What the maker came to: a refusal number, the length of the value, and the seed after its last choice.
-#[derive(Drop)]
+#[derive(Clone, Copy)]
 pub struct Made {
     pub refusal: u8,
     pub len: usize,
@@ -29,7 +31,7 @@ pub struct Made {
 
 // A refusal number, and the length of the value.
 #[repr(C)]
-#[derive(Drop)]
+#[derive(Clone, Copy)]
 pub struct Answer {
     pub refusal: u8,
     pub len: usize,

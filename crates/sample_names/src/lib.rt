@@ -3,6 +3,8 @@
 // In: a table, decoded, and for a part the category and the path that it is to stand under. Out: the name.
 //
 //   search.rt  which of the names are taken
+#![tactic(auto)]
+
 mod search;
 
 ghost use Rattle.std.specs.Prelude.{◌≡◌, ◌≤◌, length, take};
@@ -17,7 +19,7 @@ use base_numbers::{MOST_CATEGORIES, MOST_NODES};
 use table_decode::Decoded;
 
 // One of the names: z and one or two digits. Which bytes stand past its length is open.
-#[derive(Drop)]
+#[derive(Clone, Copy)]
 pub struct FreeName {
     pub bytes: [u8; 3],
     pub len: usize,

@@ -4,12 +4,14 @@
 //
 // The kit's borrow checker does not cover a reference to a struct, so `draw`, which is lent the seed, and `drawn`, which
 // lends one, are proved by walks of their MIR by hand. `drawn` has plain parameters: whoever calls it needs no walk.
+#![tactic(auto)]
+
 ghost use Rattle.std.specs.Prelude.{◌≡◌, ◌*◌, ◌%◌};
 ghost use Rattle.sample_seed.specs.Numbers.{next_of, choice_of};
 
 // The seed as it is lent.
 #[repr(C)]
-#[derive(Drop)]
+#[derive(Clone, Copy)]
 pub struct Seed {
     pub x: u32,
 }

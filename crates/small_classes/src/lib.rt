@@ -5,6 +5,8 @@
 //
 //   numbers.rt  classes by their first states
 //   states.rt   the states that state 0 leads to, and their classes
+#![tactic(auto)]
+
 use base_numbers::MOST_STATES;
 
 mod numbers;

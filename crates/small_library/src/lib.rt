@@ -5,6 +5,8 @@
 //
 //   image.rt  what is answered for an image of right form
 //   c.rt      all of it for C
+#![tactic(auto)]
+
 use base_numbers::MOST_CATEGORIES;
 
 pub mod c;
@@ -17,7 +19,7 @@ ghost use Rattle.small_library.specs.Rows.{Judges};
 pub use base_bytes::Built;
 
 // What the checker says of an image, and how many bytes each of its states has before the targets.
-#[derive(Drop)]
+#[derive(Clone, Copy)]
 struct Judged {
     refusal: u8,
     head: usize,

@@ -5,6 +5,8 @@
 //
 //   stored.rt  whether there is a machine in the rows
 //   rounds.rt  the rounds of refinement
+#![tactic(auto)]
+
 mod rounds;
 mod stored;
 

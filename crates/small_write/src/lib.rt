@@ -5,6 +5,8 @@
 // buffer.
 //
 //   rows.rt  the classes' bytes
+#![tactic(auto)]
+
 mod rows;
 
 ghost use Rattle.std.specs.Prelude.{◌≡◌, true, [], ◌∷◌, ◌++◌, ◌+◌, ◌≤◌, ◌/◌, ◌%◌, length};

@@ -3,6 +3,8 @@
 // In: any bytes. Out: a refusal number, 4 to 12, or the table as small arrays.
 //
 //   forms.rt  the form of the URNs: 7
+#![tactic(auto)]
+
 mod forms;
 
 ghost use Rattle.std.specs.Prelude.{◌≡◌};
@@ -18,7 +20,7 @@ use table_sections::Counts;
 
 // A decoded table: its refusal number, its categories' names, its nodes and the places of its signals. Node k stands at k - 1; its path
 // shares some bytes with the one before it in its category, and an inner node has nodes under it.
-#[derive(Drop)]
+#[derive(Clone, Copy)]
 pub struct Decoded {
     pub refusal: u8,
     pub categories: usize,

@@ -20,7 +20,7 @@ use table_decode::Decoded;
 // A refusal number; 1 if the table keeps the mark, else 0; the signal that the list rings; the list's length; and the list, by the
 // numbers of its nodes, with zeros after it.
 #[repr(C)]
-#[derive(Drop)]
+#[derive(Clone, Copy)]
 pub struct Kept {
     pub refusal: u8,
     pub kept: u8,

@@ -12,6 +12,8 @@
 //   marks.rt   which nodes may be given, and the signal after each
 //   search.rt  the signals that nodes lead to, breadth first, and the first of them at which a node is lost
 //   way.rt     the nodes that lead to one of them, as few as possible
+#![tactic(auto)]
+
 pub mod kept;
 mod marks;
 pub mod rung;

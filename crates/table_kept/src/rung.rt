@@ -18,7 +18,7 @@ use table_decode::Decoded;
 // A refusal number; 1 if some list rings the signal, else 0; the length of a shortest one; and that list, by the numbers of its nodes,
 // with zeros after it.
 #[repr(C)]
-#[derive(Drop)]
+#[derive(Clone, Copy)]
 pub struct Rung {
     pub refusal: u8,
     pub rings: u8,

@@ -10,7 +10,7 @@ use crate::marks::{target, with_node};
 use base_numbers::MOST_SIGNALS;
 
 // Signals, numbered in the order in which they are found.
-#[derive(Drop)]
+#[derive(Clone, Copy)]
 pub(crate) struct Found {
     pub count: usize,
     pub signals: [u8; MOST_SIGNALS],

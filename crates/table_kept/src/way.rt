@@ -10,14 +10,14 @@ use crate::search::{Found, signal_at};
 use base_numbers::MOST_SIGNALS;
 
 // The numbers of nodes, at the end of the array.
-#[derive(Drop)]
+#[derive(Clone, Copy)]
 pub(crate) struct Way {
     pub len: usize,
     pub nodes: [u8; MOST_SIGNALS],
 }
 
 // The signal before one on the way, by its number, and the nodes from it on.
-#[derive(Drop)]
+#[derive(Clone, Copy)]
 pub(crate) struct Back {
     pub at: usize,
     pub way: Way,

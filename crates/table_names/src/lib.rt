@@ -1,6 +1,8 @@
 // The names of a table's categories: their form, that none is listed twice, and the category of each URN.
 //
 // In: the names and the URNs as places in the bytes. Out: 7 and 8 as two tests, and each URN's category.
+#![tactic(auto)]
+
 ghost use Rattle.std.specs.Prelude.{◌≡◌, true, ◌≤◌, ◌<◌, ◌+◌, length, get_or, eqb};
 ghost use Rattle.base_numbers.specs.Numbers.{most_table_urns};
 ghost use Rattle.base_lists.specs.Tests.{all, any, no_two};

@@ -1,6 +1,8 @@
 // The nodes of a table, from the categories and paths of its URNs: each one's category, parent and path, and the node of every URN.
 //
 // In: the URNs' categories and paths as places in the bytes. Out: the nodes in their order, in arrays, or that there are over 64.
+#![tactic(auto)]
+
 ghost use Rattle.std.specs.Prelude.{◌≡◌, true, false, ◌||◌, ◌≤◌, ◌<◌, eqb};
 ghost use Rattle.base_numbers.specs.Numbers.{most_nodes, most_table_urns};
 ghost use Rattle.base_lists.specs.Lists.{tabulate};
@@ -82,7 +84,7 @@ fn find_unless(
 }
 
 // A node's number, 0 if there is no room, how many nodes there are, and whether it is new among them.
-#[derive(Drop)]
+#[derive(Clone, Copy)]
 pub struct Added {
     pub node: usize,
     pub count: usize,

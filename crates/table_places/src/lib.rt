@@ -4,6 +4,8 @@
 //
 //   places.rt   each signal's places by the nodes of its URNs, and whether two signals have the same
 //   signals.rt  which URN each signal has in each category, for a table with too many nodes; signal 0 without a URN
+#![tactic(auto)]
+
 use base_numbers::{
     MOST_CATEGORIES, MOST_SIGNALS, MOST_TABLE_URNS, TABLE_BAD_DEFAULT, TABLE_SAME_PLACES,
     TABLE_TWO_OF_CATEGORY,

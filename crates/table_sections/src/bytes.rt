@@ -7,7 +7,7 @@ use base_bytes::numbers::wide;
 use base_numbers::{TABLE_OUT_OF_RANGE, TABLE_WRONG_END};
 
 // A fault's number, or a value with the position after it.
-#[derive(Drop)]
+#[derive(Clone, Copy)]
 pub enum Reading {
     Fault(u8),
     Got(usize, usize),

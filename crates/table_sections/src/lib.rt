@@ -5,6 +5,8 @@
 //   bytes.rt       bytes, and positions in them
 //   categories.rt  the section of the categories
 //   signals.rt     the section of the signals
+#![tactic(auto)]
+
 pub mod bytes;
 pub mod categories;
 mod signals;
@@ -20,7 +22,7 @@ use base_numbers::{
 };
 
 // The fault met, 4 to 6; or how many categories, signals and URNs there are.
-#[derive(Drop)]
+#[derive(Clone, Copy)]
 pub struct Counts {
     pub ok: bool,
     pub fault: u8,

@@ -9,6 +9,8 @@
 //
 // The kit's borrow checker does not cover a reference to a struct, so `tally_value` and `records::add`, which have the lent
 // records, are proved by walks of their MIR by hand. Both are thin: all decisions are made in functions that it covers.
+#![tactic(auto)]
+
 mod judge;
 pub mod month;
 mod records;
@@ -19,7 +21,7 @@ use resolve_run::Resolution;
 
 // One signal: how many values chose it, and what these used and skipped in all.
 #[repr(C)]
-#[derive(Drop)]
+#[derive(Clone, Copy)]
 pub struct Tally {
     pub chosen: u32,
     pub used: u32,

@@ -8,7 +8,7 @@ use base_numbers::MOST_SIGNALS;
 use resolve_run::Resolution;
 
 // The answer to a value, and the records after it. A well-formed table has at most 32 signals.
-#[derive(Drop)]
+#[derive(Clone, Copy)]
 pub struct Counted {
     pub answer: Resolution,
     pub records: [Tally; MOST_SIGNALS],

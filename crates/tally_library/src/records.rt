@@ -8,7 +8,7 @@ use base_numbers::MOST_COUNT;
 use resolve_run::Resolution;
 
 // A record after a resolution, and the answer.
-#[derive(Drop)]
+#[derive(Clone, Copy)]
 pub struct Added {
     pub answer: Resolution,
     pub after: Tally,

@@ -4,6 +4,8 @@
 //
 //   put.rt       a byte, a text
 //   sections.rt  counts, and the names of the categories
+#![tactic(auto)]
+
 pub mod put;
 pub mod sections;
 

@@ -3,6 +3,8 @@
 // In: any bytes. Out: a refusal number, or the tree as small arrays.
 //
 //   sizes.rt  how long each node's URN is: 6 and 7
+#![tactic(auto)]
+
 mod sizes;
 
 ghost use Rattle.std.specs.Prelude.{◌≡◌, length};
@@ -18,7 +20,7 @@ use base_numbers::{
 use tree_sections::{Counts, Sections};
 
 // A decoded tree: its refusal number, its sections, and for each node how many bytes its URN has with its category, and how many parts.
-#[derive(Drop)]
+#[derive(Clone, Copy)]
 pub struct Decoded {
     pub refusal: u8,
     pub sections: Sections,

@@ -4,6 +4,8 @@
 //
 //   nodes.rt    the nodes, each with its last name
 //   signals.rt  the signals' node numbers
+#![tactic(auto)]
+
 mod nodes;
 mod signals;
 

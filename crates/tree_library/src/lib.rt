@@ -3,6 +3,8 @@
 // In: a table or a tree, any bytes, and a buffer. Out: a refusal number or the form's length, and the whole buffer.
 //
 //   c.rt  all of it for C
+#![tactic(auto)]
+
 pub mod c;
 
 ghost use Rattle.std.specs.Prelude.{◌≡◌, length};

@@ -6,6 +6,8 @@
 //   parents.rt  categories and parents
 //   repeats.rt  no node stands twice
 //   order.rt    every node is used, in its order
+#![tactic(auto)]
+
 use base_numbers::{MOST_NODES, MOST_TABLE_URNS};
 
 mod order;

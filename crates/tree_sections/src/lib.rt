@@ -5,6 +5,8 @@
 //
 //   nodes.rt    the section of the nodes
 //   signals.rt  the section of the signals
+#![tactic(auto)]
+
 mod nodes;
 mod signals;
 
@@ -21,7 +23,7 @@ use table_sections::bytes::{Reading, byte_in};
 use table_sections::categories::read_categories;
 
 // The fault met, 4 to 6; or how many categories, nodes, signals and numbers of nodes there are.
-#[derive(Drop)]
+#[derive(Clone, Copy)]
 pub struct Counts {
     pub ok: bool,
     pub fault: u8,
@@ -129,7 +131,7 @@ fn read_tree(
 }
 
 // What was read: node k stands at k - 1, and each node number with its signal.
-#[derive(Drop)]
+#[derive(Clone, Copy)]
 pub struct Sections {
     pub counts: Counts,
     pub name_at: [u16; MOST_CATEGORIES],

@@ -11,7 +11,7 @@ use base_numbers::{MOST_NAME_BYTES, MOST_NODES};
 use table_sections::bytes::{Reading, byte_in, read_text};
 
 // A fault's number; or a node's category and parent, the length of its last name, and the position after it.
-#[derive(Drop)]
+#[derive(Clone, Copy)]
 pub enum NodeReading {
     Fault(u8),
     Node(u8, u8, usize, usize),

@@ -4,6 +4,8 @@
 //
 //   paths.rt  a node's path, from its ancestors' last names
 //   urns.rt   the URNs of the signals
+#![tactic(auto)]
+
 mod paths;
 mod urns;
 

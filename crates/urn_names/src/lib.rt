@@ -5,6 +5,8 @@
 //   names.rt   labels and names
 //   urn.rt     alert URNs in a value, without regard to letter case
 //   stored.rt  names and URNs as a table stores them
+#![tactic(auto)]
+
 mod names;
 mod stored;
 pub mod urn;

@@ -8,14 +8,14 @@ use crate::cursor::{Cursor, Passed};
 
 // A part of the value: the position of its first byte, and its length.
 #[repr(C)]
-#[derive(Drop)]
+#[derive(Clone, Copy)]
 pub struct Span {
     pub start: usize,
     pub len: usize,
 }
 
 // What stands at a cursor: the value's last entry, an entry with the cursor at the next one, or no entry.
-#[derive(Drop)]
+#[derive(Clone, Copy)]
 pub enum Found {
     Last(Span),
     More(Span, Cursor),
@@ -24,7 +24,7 @@ pub enum Found {
 
 // What follows an entry's URI or one of its parameters: nothing more, a comma, one more parameter, or what may not
 // stand there. The cursor is after it.
-#[derive(Drop)]
+#[derive(Clone, Copy)]
 pub enum Following {
     Nothing,
     Comma(Cursor),
@@ -33,7 +33,7 @@ pub enum Following {
 }
 
 // What follows all parameters of an entry: the end of the value, or the next entry.
-#[derive(Drop)]
+#[derive(Clone, Copy)]
 pub enum Ending {
     ValueEnd,
     NextEntry(Cursor),

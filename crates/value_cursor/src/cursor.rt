@@ -7,20 +7,20 @@ ghost use Rattle.value_cursor.specs.Parts.{fold_length, white_at, token_at, esca
 use crate::classes::{BLANK, ESCAPABLE, TEXT, TOKEN, has, have};
 
 // A position in a value. Its methods hand back the cursor after what they pass.
-#[derive(Drop)]
+#[derive(Clone, Copy)]
 pub struct Cursor {
     pub at: usize,
 }
 
 // What passing a token, a quoted string or a parameter gives.
-#[derive(Drop)]
+#[derive(Clone, Copy)]
 pub enum Passed {
     Next(Cursor),
     Refused,
 }
 
 // What passing text of a quoted string gives: its closing quote is passed, or an escaped byte, or neither follows.
-#[derive(Drop)]
+#[derive(Clone, Copy)]
 pub enum Quote {
     Closed(Cursor),
     Escaped(Cursor),

@@ -8,6 +8,8 @@
 //   cursor.rt       a position in the value, and passing white space, a token or a quoted string
 //   alert_param.rt  passing a parameter and an entry, which RFC 3261 calls alert-param
 //   pass.rt         a pass over the whole value, from entry to entry
+#![tactic(auto)]
+
 mod alert_param;
 mod classes;
 mod cursor;

@@ -8,7 +8,7 @@ use crate::classes::table;
 use crate::cursor::Cursor;
 
 // A pass over a value: whether it fits, its entries so far, and where the URI of entry k lies (0 and 0 before it is met).
-#[derive(Drop)]
+#[derive(Clone, Copy)]
 pub struct Scan {
     pub fits: bool,
     pub entries: usize,

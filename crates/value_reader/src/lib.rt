@@ -6,6 +6,8 @@
 //   lib.rt    the four questions
 //   value.rt  what is answered about a value, from one pass of the crate value_cursor over it
 //   c.rt      the four questions for C
+#![tactic(auto)]
+
 mod c;
 mod value;
 

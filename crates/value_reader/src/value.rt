@@ -9,7 +9,7 @@ use value_cursor::{Span, scan_value};
 
 // What is answered: the value's refusal number, its entries (0 if refused), and where the URI of entry k lies (0 and 0
 // where there is none).
-#[derive(Drop)]
+#[derive(Clone, Copy)]
 pub struct Judged {
     pub refusal: u8,
     pub entries: usize,

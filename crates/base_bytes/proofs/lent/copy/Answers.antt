@@ -1,0 +1,22 @@
+use Prim.Native.Nat.{◌≤◌, ◌-◌}
+use mathlib.Core.Path.{◌≡◌, refl, ◌∙◌}
+use lib.ListN.{length, take, length-set}
+use native.Mathlib.Omega.{arith}
+use Rattle.base_lists.specs.Lists.{laid}
+use Rattle.base_lists.proofs.Over.{laid_nil, laid-copy, laid_done}
+use borrow.Author.Rules.{rules}
+use Rattle.base_bytes.proofs.lent.copy.Goals as goal
+
+pub loop-i-init : goal.loop-i-init
+loop-i-init c = (omega arith, refl, laid_nil _)
+
+pub loop-i-preserved : goal.loop-i-preserved
+loop-i-preserved c = let at = c.loop-i in
+    (omega arith, length-set at.part at.i _ ∙ at.invariant.1, laid-copy _ _ at.part at.i _ at.invariant.2 (omega arith) (omega arith) refl)
+
+pub shape_of-part : goal.shape_of-part
+shape_of-part c = c.loop-i.invariant.1
+
+pub returns : goal.returns
+returns c = let at = c.loop-i in
+    at.invariant.2 ∙ laid_done _ _ at.i (omega arith) (omega arith)

@@ -1,0 +1,14 @@
+use native.Mathlib.Omega.{arith}
+use Prim.Native.Nat.{◌+◌, ◌-◌}
+use mathlib.Core.Path.{◌≡◌, refl}
+use lib.ListN.{length, drop}
+use Rattle.base_text.specs.Text.{common}
+use Rattle.base_text.proofs.Turns.{common-more, common-less, common-end}
+use borrow.Author.Rules.{rules}
+use Rattle.base_text.proofs.compare.common_bytes.Given as goal
+
+abbrev pub invariant-loop-i : goal.invariant-loop-i
+invariant-loop-i l = l.from + common (drop l.from l.p) (drop l.from l.w) ≡ l.i + common (drop l.i l.p) (drop l.i l.w)
+
+abbrev pub decreases-loop-i : goal.decreases-loop-i
+decreases-loop-i l = length l.p - l.i

@@ -1,0 +1,15 @@
+use native.Mathlib.Omega.{arith}
+use Prim.Native.Nat.{◌+◌, ◌-◌}
+use mathlib.Core.Path.{◌≡◌, refl, sym, ◌∙◌}
+use lib.ListN.{drop}
+use Rattle.base_text.specs.Text.{common, lowered}
+use Rattle.base_text.proofs.Turns.{commons-more, common-end}
+use Rattle.base_text.proofs.Cases.{lowered-length, lowered-below}
+use borrow.Author.Rules.{rules}
+use Rattle.base_text.proofs.letter_case.common_lowered_from.Given as goal
+
+abbrev pub invariant-loop-i : goal.invariant-loop-i
+invariant-loop-i l = l.from + common (drop l.from l.p) (drop l.from (lowered l.w)) ≡ l.i + common (drop l.i l.p) (drop l.i (lowered l.w))
+
+abbrev pub decreases-loop-i : goal.decreases-loop-i
+decreases-loop-i l = l.n - l.i

@@ -1,0 +1,15 @@
+use mathlib.Core.Path.{◌≡◌, refl, sym, ◌∙◌}
+use Prim.Native.Nat.{◌-◌}
+use lib.ListN.{length}
+use native.Mathlib.Omega.{arith}
+use borrow.Author.Rules.{rules}
+use Rattle.value_cursor.specs.Parts.{white_at}
+use Rattle.value_cursor.proofs.WhiteLaws.{white-above, white-space, white-tab, white-other, white-broken, white-fold}
+use Rattle.value_cursor.proofs.WhiteLaws.{white-past-end}
+use Rattle.value_cursor.proofs.cursor.Cursor.blanks.Given as goal
+
+abbrev pub invariant-loop-at : goal.invariant-loop-at
+invariant-loop-at l = white_at l.s l.initial.at ≡ white_at l.s l.at
+
+abbrev pub decreases-loop-at : goal.decreases-loop-at
+decreases-loop-at l = length l.s - l.at

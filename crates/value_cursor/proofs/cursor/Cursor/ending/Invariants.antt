@@ -1,0 +1,14 @@
+use mathlib.Core.Path.{◌≡◌, refl, sym, ◌∙◌}
+use Prim.Native.Nat.{◌-◌}
+use lib.ListN.{length}
+use native.Mathlib.Omega.{arith}
+use borrow.Author.Rules.{rules}
+use Rattle.value_cursor.specs.Parts.{ending_at}
+use Rattle.value_cursor.proofs.PartLaws.{ending-halt, ending-more}
+use Rattle.value_cursor.proofs.cursor.Cursor.ending.Given as goal
+
+abbrev pub invariant-loop-n : goal.invariant-loop-n
+invariant-loop-n l = ending_at l.s l.initial.at ≡ ending_at l.s l.at
+
+abbrev pub decreases-loop-n : goal.decreases-loop-n
+decreases-loop-n l = length l.s - l.at

@@ -1,0 +1,15 @@
+use mathlib.Core.Path.{◌≡◌, refl, sym, ◌∙◌}
+use Prim.Native.Nat.{◌-◌}
+use lib.ListN.{length}
+use native.Mathlib.Omega.{arith}
+use Rattle.value_cursor.specs.Parts.{quoted_from}
+use Rattle.value_cursor.proofs.RunLaws.{peeked}
+use Rattle.value_cursor.proofs.QuoteLaws.{opened, unopened, quoted-halt, quoted-more}
+use borrow.Author.Rules.{rules}
+use Rattle.value_cursor.proofs.cursor.Cursor.quoted.Given as goal
+
+abbrev pub invariant-loop-n : goal.invariant-loop-n
+invariant-loop-n l = quoted_from l.s l.initial.at ≡ quoted_from l.s l.at
+
+abbrev pub decreases-loop-n : goal.decreases-loop-n
+decreases-loop-n l = length l.s - l.at

@@ -1,0 +1,15 @@
+use mathlib.Core.Path.{◌≡◌, refl, sym, ◌∙◌}
+use Prim.Native.Nat.{◌-◌}
+use lib.ListN.{length}
+use borrow.Author.Tests.{not-true, not-false}
+use Rattle.value_cursor.specs.Bytes.{in_class}
+use Rattle.value_cursor.specs.Walk.{run_at}
+use Rattle.value_cursor.proofs.RunLaws.{run_step, run-stop, run_end}
+use borrow.Author.Rules.{rules}
+use Rattle.value_cursor.proofs.cursor.Cursor.run.Given as goal
+
+abbrev pub invariant-loop-at : goal.invariant-loop-at
+invariant-loop-at l = run_at (in_class l.class) l.s l.initial.at ≡ run_at (in_class l.class) l.s l.at
+
+abbrev pub decreases-loop-at : goal.decreases-loop-at
+decreases-loop-at l = length l.s - l.at

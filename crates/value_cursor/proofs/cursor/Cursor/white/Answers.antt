@@ -1,0 +1,10 @@
+use mathlib.Core.Path.{sym}
+use borrow.Author.Rules.{rules}
+use Rattle.value_cursor.proofs.WhiteLaws.{white-above}
+use Rattle.value_cursor.proofs.cursor.Cursor.white.Goals as goal
+
+pub returns-then-s-at-gt32 : goal.returns-then-s-at-gt32
+returns-then-s-at-gt32 c = sym (white-above c.args.s.now c.args.self.at c.if-s-at-gt32.true)
+
+pub returns : goal.returns
+returns c = c.blanks.ensures

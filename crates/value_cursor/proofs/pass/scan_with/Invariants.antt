@@ -1,0 +1,17 @@
+use mathlib.Core.Path.{◌≡◌, refl, sym, ap, ◌∙◌}
+use Prim.Native.Nat.{◌+◌, ◌-◌, ◌≤◌}
+use lib.ListN.{length}
+use native.Mathlib.Omega.{arith}
+use borrow.Author.Rules.{rules}
+use Rattle.value_cursor.specs.Reading.{reading_from, reading_of}
+use Rattle.value_cursor.specs.Pass.{summary, scan_of}
+use Rattle.value_cursor.specs.declared.pass.Scan.{Scan}
+use Rattle.value_cursor.proofs.PassLaws.{scan-more, summary-last}
+use Rattle.value_cursor.proofs.ReadingLaws.{reading-last, reading-more, reading-none}
+use Rattle.value_cursor.proofs.pass.scan_with.Given as goal
+
+abbrev pub invariant-loop-span : goal.invariant-loop-span
+invariant-loop-span l = (scan_of l.v l.k ≡ summary l.k l.t (reading_from l.v l.at)) × (l.t.entries ≤ l.at) × (l.at ≤ length l.v)
+
+abbrev pub decreases-loop-span : goal.decreases-loop-span
+decreases-loop-span l = length l.v - l.at
