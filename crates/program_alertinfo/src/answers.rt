@@ -1,225 +1,257 @@
 // The commands' answers, each for a table that was read and the words after it.
+use crate::system::System;
 use crate::{fields, files, month, report, signals, words};
-use libc::{STDERR_FILENO, STDOUT_FILENO};
+use std::io;
+use std::rt::Runtime;
 
 // A form or an image goes to the file that word 3 names.
-fn written(call: usize, refusal: u8, n: usize, bytes: &[u8]) {
+fn written<R: Runtime>(
+    system: &System<R>,
+    call: usize,
+    refusal: u8,
+    n: usize,
+    bytes: &[u8],
+) -> io::Result<()> {
     if refusal != 0 {
-        words::refused(refusal);
-        return;
+        return words::refused(&system.rt, refusal);
     }
-    if files::write(files::word(call, 3), bytes, n) {
-        words::count(n as u64, b" bytes written\n");
+    if files::write(system, files::word(call, 3), bytes, n)? {
+        words::count(&system.rt, n as u64, " bytes written\n")?;
     }
+    Ok(())
 }
 
-pub fn build(call: usize, t: &[u8]) {
-    let mut image = io::large_buffer();
+pub fn build<R: Runtime>(system: &System<R>, call: usize, t: &[u8]) -> io::Result<()> {
+    let mut image = files::room();
     let b = machine_library::build(t, &mut image);
-    written(call, b.refusal, b.len, &image);
+    written(system, call, b.refusal, b.len, &image)
 }
 
 // The table with its tree written once.
-pub fn tree(call: usize, t: &[u8]) {
-    let mut form = io::large_buffer();
+pub fn tree<R: Runtime>(system: &System<R>, call: usize, t: &[u8]) -> io::Result<()> {
+    let mut form = files::room();
     let c = tree_library::from_signal_table(t, &mut form);
-    written(call, c.refusal, c.len, &form);
+    written(system, call, c.refusal, c.len, &form)
 }
 
 // The table of such a tree.
-pub fn untree(call: usize, t: &[u8]) {
-    let mut form = io::large_buffer();
+pub fn untree<R: Runtime>(system: &System<R>, call: usize, t: &[u8]) -> io::Result<()> {
+    let mut form = files::room();
     let c = tree_library::to_signal_table(t, &mut form);
-    written(call, c.refusal, c.len, &form);
+    written(system, call, c.refusal, c.len, &form)
 }
 
-pub fn check(call: usize, t: &[u8]) {
-    let mut image = io::large_buffer();
-    let m = files::file(files::word(call, 3), &mut image);
+pub fn check<R: Runtime>(system: &System<R>, call: usize, t: &[u8]) -> io::Result<()> {
+    let mut image = files::room();
+    let m = files::file(system, files::word(call, 3), &mut image)?;
     if !m.ok {
-        return;
+        return Ok(());
     }
     let n = m.n;
     let r = machine_library::check(t, &image[..n]);
     if r != 0 {
-        words::refused(r);
-        return;
+        return words::refused(&system.rt, r);
     }
-    io::write_all(STDOUT_FILENO, b"accepted\n");
+    system.rt.print("accepted\n")
 }
 
 // The plain resolver's answer, with its tries.
-pub fn plain(t: &[u8], v: &[u8]) {
+pub fn plain(out: &impl Print, t: &[u8], v: &[u8]) -> io::Result<()> {
     let r = resolve_library::plain(t, v);
     if r.refusal != 0 {
-        words::refused(r.refusal);
-        return;
+        return words::refused(out, r.refusal);
     }
-    words::resolved(r.signal, r.used as usize, r.skipped as usize);
-    io::write_all(STDOUT_FILENO, b", ");
-    words::counted(r.tries as u64, b" try\n", b" tries\n");
+    words::resolved(out, r.signal, r.used as usize, r.skipped as usize)?;
+    out.print(", ")?;
+    words::counted(out, r.tries as u64, " try\n", " tries\n")
 }
 
-fn resolution(refusal: u8, signal: u8, used: usize, skipped: usize) {
+fn resolution(
+    out: &impl Print,
+    refusal: u8,
+    signal: u8,
+    used: usize,
+    skipped: usize,
+) -> io::Result<()> {
     if refusal != 0 {
-        words::refused(refusal);
-        return;
+        return words::refused(out, refusal);
     }
-    words::resolved(signal, used, skipped);
-    io::write_all(STDOUT_FILENO, b"\n");
+    words::resolved(out, signal, used, skipped)?;
+    out.print("\n")
 }
 
 // By the machine that word 4 names.
-pub fn walk(call: usize, t: &[u8], v: &[u8]) {
-    let mut image = io::large_buffer();
-    let m = files::file(files::word(call, 4), &mut image);
+pub fn walk<R: Runtime>(system: &System<R>, call: usize, t: &[u8], v: &[u8]) -> io::Result<()> {
+    let mut image = files::room();
+    let m = files::file(system, files::word(call, 4), &mut image)?;
     if !m.ok {
-        return;
+        return Ok(());
     }
     let n = m.n;
     let r = resolve_library::machine(t, &image[..n], v);
-    resolution(r.refusal, r.signal, r.used as usize, r.skipped as usize);
+    resolution(
+        &system.rt,
+        r.refusal,
+        r.signal,
+        r.used as usize,
+        r.skipped as usize,
+    )
 }
 
 // By the small machine that word 3 names.
-pub fn small(call: usize, t: &[u8], v: &[u8]) {
-    let mut image = io::large_buffer();
-    let m = files::file(files::word(call, 3), &mut image);
+pub fn small<R: Runtime>(system: &System<R>, call: usize, t: &[u8], v: &[u8]) -> io::Result<()> {
+    let mut image = files::room();
+    let m = files::file(system, files::word(call, 3), &mut image)?;
     if !m.ok {
-        return;
+        return Ok(());
     }
     let n = m.n;
     let r = resolve_small::resolve(t, &image[..n], v);
-    resolution(r.refusal, r.signal, r.used as usize, r.skipped as usize);
+    resolution(
+        &system.rt,
+        r.refusal,
+        r.signal,
+        r.used as usize,
+        r.skipped as usize,
+    )
 }
 
 // With only the signals that word 3 lists.
-pub fn available(call: usize, t: &[u8], v: &[u8]) {
-    let mut text = io::buffer();
-    let n = os::arg(files::word(call, 3), &mut text);
+pub fn available<R: Runtime>(
+    system: &System<R>,
+    call: usize,
+    t: &[u8],
+    v: &[u8],
+) -> io::Result<()> {
+    let mut text = files::path_room();
+    let n = system.arg(files::word(call, 3), &mut text);
     let s = signals::read(&text[..n]);
     if !s.ok {
-        io::write_all(
-            STDERR_FILENO,
-            b"SIGNALS are numbers from 0 to 31 with commas between\n",
-        );
-        return;
+        return system
+            .err
+            .print("SIGNALS are numbers from 0 to 31 with commas between\n");
     }
     let r = resolve_available::resolve(t, s.bits, v);
-    resolution(r.refusal, r.signal, r.used as usize, r.skipped as usize);
+    resolution(
+        &system.rt,
+        r.refusal,
+        r.signal,
+        r.used as usize,
+        r.skipped as usize,
+    )
 }
 
 // A ring by this table, and a lamp by the one that word 3 names.
-pub fn pair(call: usize, t: &[u8], v: &[u8]) {
-    let mut lamps = io::large_buffer();
-    let l = files::file(files::word(call, 3), &mut lamps);
+pub fn pair<R: Runtime>(system: &System<R>, call: usize, t: &[u8], v: &[u8]) -> io::Result<()> {
+    let mut lamps = files::room();
+    let l = files::file(system, files::word(call, 3), &mut lamps)?;
     if !l.ok {
-        return;
+        return Ok(());
     }
     let n = l.n;
     let r = resolve_pair::resolve(t, &lamps[..n], v);
     if r.refusal != 0 {
-        words::refused(r.refusal);
-        return;
+        return words::refused(&system.rt, r.refusal);
     }
-    io::write_all(STDOUT_FILENO, b"ring ");
-    words::count(r.ring as u64, b", lamp ");
-    words::count(r.lamp as u64, b"\n");
+    system.rt.print("ring ")?;
+    words::count(&system.rt, r.ring as u64, ", lamp ")?;
+    words::count(&system.rt, r.lamp as u64, "\n")
 }
 
 // The signal, and how many entries it needed.
-pub fn early(t: &[u8], v: &[u8]) {
+pub fn early(out: &impl Print, t: &[u8], v: &[u8]) -> io::Result<()> {
     let r = resolve_early::resolve(t, v);
     if r.refusal != 0 {
-        words::refused(r.refusal);
-        return;
+        return words::refused(out, r.refusal);
     }
-    io::write_all(STDOUT_FILENO, b"signal ");
-    words::count(r.signal as u64, b" after ");
-    words::counted(r.entries as u64, b" entry\n", b" entries\n");
+    out.print("signal ")?;
+    words::count(out, r.signal as u64, " after ")?;
+    words::counted(out, r.entries as u64, " entry\n", " entries\n")
 }
 
-fn found(m: machine_library::Match) {
-    io::write_all(STDOUT_FILENO, b"category ");
-    words::count(m.category as u64, b", node ");
+fn found(out: &impl Print, m: machine_library::Match) -> io::Result<()> {
+    out.print("category ")?;
+    words::count(out, m.category as u64, ", node ")?;
     if m.whole == 1 {
-        words::count(m.node as u64, b", whole, ");
+        words::count(out, m.node as u64, ", whole, ")?;
     } else {
-        words::count(m.node as u64, b", not whole, ");
+        words::count(out, m.node as u64, ", not whole, ")?;
     }
-    words::counted(m.compared as u64, b" byte compared\n", b" bytes compared\n");
+    words::counted(
+        out,
+        m.compared as u64,
+        " byte compared\n",
+        " bytes compared\n",
+    )
 }
 
 // What the URI that word 3 is means to the table.
-pub fn match_uri(call: usize, t: &[u8]) {
-    let mut uri = io::large_buffer();
-    let n = os::arg(files::word(call, 3), &mut uri);
+pub fn match_uri<R: Runtime>(system: &System<R>, call: usize, t: &[u8]) -> io::Result<()> {
+    let mut uri = files::room();
+    let n = system.arg(files::word(call, 3), &mut uri);
     let m = machine_library::match_urn(t, &uri[..n]);
     if m.refusal != 0 {
-        words::refused(m.refusal);
-        return;
+        return words::refused(&system.rt, m.refusal);
     }
     if m.used == 0 {
-        io::write_all(STDOUT_FILENO, b"skipped\n");
-        return;
+        return system.rt.print("skipped\n");
     }
-    found(m);
+    found(&system.rt, m)
 }
 
 // The values of one message, from word 3 on: the signal at the end and the counts of all, or the last refusal if no
 // value is accepted.
-pub fn feed(call: usize, t: &[u8], n: usize) {
-    let m = fields::all_of(call, t, n);
+pub fn feed<R: Runtime>(system: &System<R>, call: usize, t: &[u8], n: usize) -> io::Result<()> {
+    let m = fields::all_of(system, call, t, n)?;
     if !m.ok {
-        return;
+        return Ok(());
     }
     if !m.accepted {
-        words::refused(m.refusal);
-        return;
+        return words::refused(&system.rt, m.refusal);
     }
     let end = m.carried;
-    resolution(0, end.signal, m.used, m.skipped);
+    resolution(&system.rt, 0, end.signal, m.used, m.skipped)
 }
 
 // The month of the values in the file that word 3 names, one a line.
-pub fn tally_file(call: usize, t: &[u8]) {
+pub fn tally_file<R: Runtime>(system: &System<R>, call: usize, t: &[u8]) -> io::Result<()> {
     let k = machine_library::refusal(t);
     if k != 0 {
-        words::refused(k);
-        return;
+        return words::refused(&system.rt, k);
     }
-    let fd = files::opened(files::word(call, 3));
-    if fd < 0 {
-        return;
-    }
-    let r = month::of_file(fd, t);
-    libc::close(fd);
+    let Some(mut from) = files::opened(system, files::word(call, 3))? else {
+        return Ok(());
+    };
+    let r = month::of_file(&mut from, t);
     if r.failed {
-        files::failed(files::word(call, 3));
-        return;
+        return files::failed(system, files::word(call, 3));
     }
     let m = r.month;
-    report::month(m, tally_library::month::needed(t));
+    report::month(&system.rt, m, tally_library::month::needed(t))
 }
 
 // Whether each call of the log that word 3 names has the right answer.
-pub fn log(call: usize, t: &[u8]) {
-    let mut calls = io::large_buffer();
-    let l = files::file(files::word(call, 3), &mut calls);
+pub fn log<R: Runtime>(system: &System<R>, call: usize, t: &[u8]) -> io::Result<()> {
+    let mut calls = files::room();
+    let l = files::file(system, files::word(call, 3), &mut calls)?;
     if !l.ok {
-        return;
+        return Ok(());
     }
     let n = l.n;
     let r = log_library::check(t, &calls[..n]);
     if r.refusal != 0 {
-        words::refused(r.refusal);
-        return;
+        return words::refused(&system.rt, r.refusal);
     }
     if r.agrees == 1 {
-        io::write_all(STDOUT_FILENO, b"agrees\n");
-        return;
+        return system.rt.print("agrees\n");
     }
-    io::write_all(STDOUT_FILENO, b"call ");
-    words::count(r.call as u64, b" does not agree: right is ");
-    resolution(0, r.signal, r.used as usize, r.skipped as usize);
+    system.rt.print("call ")?;
+    words::count(&system.rt, r.call as u64, " does not agree: right is ")?;
+    resolution(
+        &system.rt,
+        0,
+        r.signal,
+        r.used as usize,
+        r.skipped as usize,
+    )
 }

@@ -1,8 +1,10 @@
 // The values of one message, fed one after another.
+use crate::system::System;
 use crate::{files, words};
-use libc::STDERR_FILENO;
 use resolve_record::Carried;
 use resolve_run::Resolution;
+use std::io;
+use std::rt::Runtime;
 
 // What is known after some values: whether all could be read, what is carried, whether one was accepted, the counts of
 // all, and the number of the last that was refused.
@@ -68,44 +70,61 @@ fn with(m: Message, a: Resolution, carried: Carried) -> Message {
 }
 
 // A refused value is told on standard error: the message may be answered all the same.
-fn tell(number: usize, k: u8) {
+fn tell(err: &impl Print, number: usize, k: u8) -> io::Result<()> {
     if k == 0 {
-        return;
+        return Ok(());
     }
-    io::write_all(STDERR_FILENO, b"value ");
-    io::print_decimal(STDERR_FILENO, number as u64);
-    io::write_all(STDERR_FILENO, b": ");
-    words::refusal(STDERR_FILENO, k);
+    print!(err; "value {number}: ")?;
+    words::refused(err, k)
 }
 
 // One value more: word i.
-fn fed(call: usize, t: &[u8], m: Message, i: usize, number: usize) -> Message {
-    let mut value = io::large_buffer();
-    let v = files::value(files::word(call, i), &mut value);
+fn fed<R: Runtime>(
+    system: &System<R>,
+    call: usize,
+    t: &[u8],
+    m: Message,
+    i: usize,
+    number: usize,
+) -> io::Result<Message> {
+    let mut value = files::room();
+    let v = files::value(system, files::word(call, i), &mut value)?;
     if !v.ok {
-        return unread(m);
+        return Ok(unread(m));
     }
     let n = v.n;
     let carried = m.carried;
     let f = resolve_library::feed(t, carried, &value[..n]);
     let a = f.answer;
     let after = f.carried;
-    tell(number, a.refusal);
-    with(m, a, after)
+    tell(&system.err, number, a.refusal)?;
+    Ok(with(m, a, after))
 }
 
-fn next(call: usize, t: &[u8], m: Message, i: usize, number: usize) -> Message {
+fn next<R: Runtime>(
+    system: &System<R>,
+    call: usize,
+    t: &[u8],
+    m: Message,
+    i: usize,
+    number: usize,
+) -> io::Result<Message> {
     if m.ok {
-        return fed(call, t, m, i, number);
+        return fed(system, call, t, m, i, number);
     }
-    m
+    Ok(m)
 }
 
 // The message whose values are the words from 3 up to n.
-pub fn all_of(call: usize, t: &[u8], n: usize) -> Message {
+pub fn all_of<R: Runtime>(
+    system: &System<R>,
+    call: usize,
+    t: &[u8],
+    n: usize,
+) -> io::Result<Message> {
     let mut m = nothing();
     for i in 3..n {
-        m = next(call, t, m, i, i - 2);
+        m = next(system, call, t, m, i, i - 2)?;
     }
-    m
+    Ok(m)
 }

@@ -1,13 +1,34 @@
 // The program's arguments, and the files that they name. `-` names standard input.
-ghost use Rattle.io.specs.Counts.{IsPrefixLen};
+ghost use Rattle.std.specs.Prelude.{◌≡◌, length, IfOk};
+ghost use Rattle.std.specs.Io.{ReadsAtMost};
+ghost use Rattle.program_alertinfo.specs.Counts.{IsPrefixLen};
 
-use libc::{STDERR_FILENO, STDIN_FILENO};
+use crate::system::{Source, System};
+use std::fs;
+use std::io;
+use std::io::{ErrorKind, Read, Write};
+use std::rt::Runtime;
+use std::str;
 
 // How much of a buffer was filled; or that it could not be.
 #[derive(Clone, Copy)]
 pub struct Got {
     pub ok: bool,
     pub n: usize,
+}
+
+// 65,536 zeros: room for the start of a file.
+pub fn room() -> [u8; 65536]
+    ensures { 65536 ≡ length result }
+{
+    [0; 65536]
+}
+
+// 4,096 zeros, which hold any path.
+pub fn path_room() -> [u8; 4096]
+    ensures { 4096 ≡ length result }
+{
+    [0; 4096]
 }
 
 // Which argument word i of a call is. Several calls may stand in one; each begins after the argument `call`.
@@ -21,97 +42,135 @@ pub fn word(call: usize, i: usize) -> usize {
 }
 
 // Argument i is this word.
-pub fn is(i: usize, word: &[u8]) -> bool {
+pub fn is<R: Runtime>(system: &System<R>, i: usize, word: &str) -> bool {
     let mut buf = [0u8; 16];
-    let n = os::arg(i, &mut buf);
-    check::same(&buf[..n], word)
+    let n = system.arg(i, &mut buf);
+    &buf[..n] == word.as_bytes()
 }
 
-// A descriptor of which nothing was read cannot be read, as that of a folder: the file is not merely empty.
-fn unreadable(fd: i32) -> bool {
-    let mut probe = [0u8; 1];
-    libc::read(fd, &mut probe) < 0
+// A path as the text that the system's files are named by.
+fn path_text(path: &[u8]) -> io::Result<&str> {
+    match str::from_utf8(path) {
+        Ok(text) => Ok(text),
+        Err(_) => Err(io::Error::from(ErrorKind::InvalidFilename)),
+    }
 }
 
 // The file with this name, opened; `-` is standard input.
-fn open(path: &[u8]) -> i32 {
-    if check::same(path, b"-") {
-        return STDIN_FILENO;
+fn open<R: Runtime>(system: &System<R>, path: &[u8]) -> io::Result<Source<R::Reader, R::File>> {
+    if path == b"-".as_slice() {
+        return Ok(system.input());
     }
-    os::open_read(path)
+    Ok(Source::File(fs::open(&system.rt, path_text(path)?)?))
+}
+
+// The start of what is read, as much as fits. It is an error if the first read fails, as that of a folder: the file is
+// not merely empty.
+fn read_full(from: &mut impl Read, buf: &mut [u8]) -> io::Result<usize>
+    ensures { ReadsAtMost result buf.new }
+{
+    let mut done = 0;
+    while done < buf.len() {
+        match from.read(&mut buf[done..]) {
+            Ok(0) => break,
+            Ok(n) => done += n,
+            Err(error) => {
+                if done == 0 {
+                    return Err(error);
+                }
+                break;
+            }
+        }
+    }
+    Ok(done)
 }
 
 // The start of the file with this name, as much as fits.
-fn read(path: &[u8], buf: &mut [u8]) -> Got
-    ensures { IsPrefixLen result.n buf.new }
+fn read<R: Runtime>(system: &System<R>, path: &[u8], buf: &mut [u8]) -> io::Result<usize>
+    ensures { ReadsAtMost result buf.new }
 {
-    let fd = open(path);
-    if fd < 0 {
-        return Got { ok: false, n: 0 };
-    }
-    let n = io::read_full(fd, buf);
-    if n == 0 {
-        if unreadable(fd) {
-            libc::close(fd);
-            return Got { ok: false, n: 0 };
-        }
-    }
-    libc::close(fd);
-    Got { ok: true, n }
+    let mut from = open(system, path)?;
+    read_full(&mut from, buf)
 }
 
 // The start of the file that argument i names. A file that cannot be read is named on standard error, with the system's
-// reason, which the next call of the system would replace.
-pub fn file(i: usize, buf: &mut [u8]) -> Got
-    ensures { IsPrefixLen result.n buf.new }
+// reason.
+pub fn file<R: Runtime>(system: &System<R>, i: usize, buf: &mut [u8]) -> io::Result<Got>
+    ensures { IfOk result (λ got. IsPrefixLen got.n buf.new) }
 {
-    let mut name = io::buffer();
-    let n = os::arg(i, &mut name);
-    let got = read(&name[..n], buf);
-    if !got.ok {
-        os::fail(&name[..n]);
+    let mut name = path_room();
+    let n = system.arg(i, &mut name);
+    match read(system, &name[..n], buf) {
+        Ok(n) => Ok(Got { ok: true, n }),
+        Err(error) => {
+            fail(system, &name[..n], error)?;
+            Ok(Got { ok: false, n: 0 })
+        }
     }
-    got
+}
+
+// What an error says, without the system's number for it.
+fn without_number(text: &str) -> &str {
+    match text.split_once(" (os error ") {
+        Some((reason, _)) => reason,
+        None => text,
+    }
+}
+
+// What could not be done with the file of this name is told on standard error, with the system's reason.
+fn fail<R: Runtime>(system: &System<R>, name: &[u8], error: io::Error) -> io::Result<()> {
+    let text = format!(in system.rt.alloc(); "{error}")?;
+    Print::write_all(&system.err, name)?;
+    system.err.print(": ")?;
+    system.err.println(without_number(text.as_str()))
 }
 
 // The file that argument i names is told on standard error, with a reason of our own.
-fn complain(i: usize, reason: &[u8]) {
-    let mut name = io::buffer();
-    let n = os::arg(i, &mut name);
-    io::write_all(STDERR_FILENO, &name[..n]);
-    io::write_all(STDERR_FILENO, reason);
+fn complain<R: Runtime>(system: &System<R>, i: usize, reason: &str) -> io::Result<()> {
+    let mut name = path_room();
+    let n = system.arg(i, &mut name);
+    Print::write_all(&system.err, &name[..n])?;
+    system.err.print(reason)
 }
 
 // The file that argument i names, opened. One that cannot be is named on standard error.
-pub fn opened(i: usize) -> i32 {
-    let mut name = io::buffer();
-    let n = os::arg(i, &mut name);
-    let fd = open(&name[..n]);
-    if fd < 0 {
-        os::fail(&name[..n]);
+pub fn opened<R: Runtime>(
+    system: &System<R>,
+    i: usize,
+) -> io::Result<Option<Source<R::Reader, R::File>>> {
+    let mut name = path_room();
+    let n = system.arg(i, &mut name);
+    match open(system, &name[..n]) {
+        Ok(from) => Ok(Some(from)),
+        Err(error) => {
+            fail(system, &name[..n], error)?;
+            Ok(None)
+        }
     }
-    fd
 }
 
 // The file that argument i names could not be read to its end.
-pub fn failed(i: usize) {
-    complain(i, b": it cannot be read to its end\n");
+pub fn failed<R: Runtime>(system: &System<R>, i: usize) -> io::Result<()> {
+    complain(system, i, ": it cannot be read to its end\n")
 }
 
 // The start of the file that argument i names, which may also be a value, and is none.
-fn file_for_value(i: usize, buf: &mut [u8]) -> Got
-    ensures { IsPrefixLen result.n buf.new }
+fn file_for_value<R: Runtime>(system: &System<R>, i: usize, buf: &mut [u8]) -> io::Result<Got>
+    ensures { IfOk result (λ got. IsPrefixLen got.n buf.new) }
 {
-    let mut name = io::buffer();
-    let n = os::arg(i, &mut name);
-    let got = read(&name[..n], buf);
-    if !got.ok {
-        complain(
-            i,
-            b": neither a file that can be read nor a value, which begins with '<'\n",
-        );
+    let mut name = path_room();
+    let n = system.arg(i, &mut name);
+    match read(system, &name[..n], buf) {
+        Ok(n) => Ok(Got { ok: true, n }),
+        Err(_) => {
+            complain(
+                system,
+                i,
+                ": neither a file that can be read nor a value, which begins with '<'\n",
+            )?;
+            Ok(Got { ok: false, n: 0 })
+        }
     }
-    got
 }
 
 // How many bytes there are without a line end, LF or CR LF, behind them.
@@ -138,51 +197,55 @@ fn without_line_end(text: &[u8]) -> usize
 
 // The value that argument i is, if it begins with `<`; else the value in the file that it names, folded
 // lines as they stand, without a line end behind it.
-pub fn value(i: usize, buf: &mut [u8]) -> Got
-    ensures { IsPrefixLen result.n buf.new }
+pub fn value<R: Runtime>(system: &System<R>, i: usize, buf: &mut [u8]) -> io::Result<Got>
+    ensures { IfOk result (λ got. IsPrefixLen got.n buf.new) }
 {
-    let n = os::arg(i, buf);
+    let n = system.arg(i, buf);
     if 0 < n {
         if buf[0] == b'<' {
-            return Got { ok: true, n };
+            return Ok(Got { ok: true, n });
         }
     }
-    let got = file_for_value(i, buf);
+    let got = file_for_value(system, i, buf)?;
     let m = got.n;
     let k = without_line_end(&buf[..m]);
-    Got { ok: got.ok, n: k }
+    Ok(Got { ok: got.ok, n: k })
+}
+
+// The file with this name, made or emptied.
+fn made<R: Runtime>(system: &System<R>, path: &[u8]) -> io::Result<R::File> {
+    fs::create(&system.rt, path_text(path)?)
 }
 
 // The file that argument i names, made or emptied. One that cannot be is named on standard error.
-fn overwritten(i: usize) -> i32 {
-    let mut name = io::buffer();
-    let n = os::arg(i, &mut name);
-    let fd = os::open_overwrite(&name[..n]);
-    if fd < 0 {
-        os::fail(&name[..n]);
+fn overwritten<R: Runtime>(system: &System<R>, i: usize) -> io::Result<Option<R::File>> {
+    let mut name = path_room();
+    let n = system.arg(i, &mut name);
+    match made(system, &name[..n]) {
+        Ok(file) => Ok(Some(file)),
+        Err(error) => {
+            fail(system, &name[..n], error)?;
+            Ok(None)
+        }
     }
-    fd
 }
 
 // The bytes go to the file that argument i names.
-fn write_all(i: usize, bytes: &[u8]) -> bool {
-    let fd = overwritten(i);
-    if fd < 0 {
-        return false;
-    }
-    let ok = io::write_all(fd, bytes);
-    libc::close(fd);
+fn write_all<R: Runtime>(system: &System<R>, i: usize, bytes: &[u8]) -> io::Result<bool> {
+    let Some(mut file) = overwritten(system, i)? else {
+        return Ok(false);
+    };
+    let ok = file.write_all(bytes).is_ok();
     if !ok {
-        complain(i, b": it cannot be written to its end\n");
+        complain(system, i, ": it cannot be written to its end\n")?;
     }
-    ok
+    Ok(ok)
 }
 
 // The same of the first n bytes.
-pub fn write(i: usize, bytes: &[u8], n: usize) -> bool {
+pub fn write<R: Runtime>(system: &System<R>, i: usize, bytes: &[u8], n: usize) -> io::Result<bool> {
     if bytes.len() < n {
-        return false;
+        return Ok(false);
     }
-    let a = 0;
-    write_all(i, &bytes[a..n])
+    write_all(system, i, &bytes[..n])
 }

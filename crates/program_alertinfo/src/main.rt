@@ -10,9 +10,12 @@ mod report;
 mod samples;
 mod shrink;
 mod signals;
+mod system;
 mod words;
 
-use libc::{STDERR_FILENO, STDOUT_FILENO};
+use std::io;
+use std::rt::Runtime;
+use system::System;
 
 // What is asked of a table, which is word 2.
 #[derive(Clone, Copy)]
@@ -36,10 +39,9 @@ enum Command {
     None,
 }
 
-fn usage(to: i32) {
-    io::write_all(
-        to,
-        b"usage: alertinfo entries VALUE
+fn usage(to: &impl Print) -> io::Result<()> {
+    to.print(
+        "usage: alertinfo entries VALUE
        alertinfo build TABLE MACHINE
        alertinfo check TABLE MACHINE
        alertinfo shrink TABLE MACHINE SMALL
@@ -61,102 +63,100 @@ SEED is a number of at most 32 bits. COUNT values are made from it, one a line.
 A file that is read may be -, standard input. Several calls may stand in one, the word `then` between.
 Status: 0 an answer, 1 refused, 2 no answer; of several calls, the first one's.
 ",
-    );
+    )
 }
 
 // The URIs of a value, one a line after its number.
-fn list(v: &[u8]) {
+fn list(out: &impl Print, v: &[u8]) -> io::Result<()> {
     let n = value_reader::entries(v);
-    words::counted(n as u64, b" entry\n", b" entries\n");
-    let mut k = 0;
-    while k < n {
-        words::count(k as u64, b" ");
-        io::write_all(STDOUT_FILENO, value_reader::entry(v, k));
-        io::write_all(STDOUT_FILENO, b"\n");
-        k += 1;
+    words::counted(out, n as u64, " entry\n", " entries\n")?;
+    for k in 0..n {
+        words::count(out, k as u64, " ")?;
+        out.write_all(value_reader::entry(v, k))?;
+        out.print("\n")?;
     }
+    Ok(())
 }
 
-fn entries(call: usize) {
-    let mut value = io::large_buffer();
-    let v = files::value(files::word(call, 2), &mut value);
+fn entries<R: Runtime>(system: &System<R>, call: usize) -> io::Result<()> {
+    let mut value = files::room();
+    let v = files::value(system, files::word(call, 2), &mut value)?;
     if !v.ok {
-        return;
+        return Ok(());
     }
     let n = v.n;
     let r = value_reader::refusal(&value[..n]);
     if r != 0 {
-        words::refused(r);
-        return;
+        return words::refused(&system.rt, r);
     }
-    list(&value[..n]);
+    list(&system.rt, &value[..n])
 }
 
-fn command_is(call: usize, text: &[u8]) -> bool {
-    files::is(files::word(call, 1), text)
+fn command_is<R: Runtime>(system: &System<R>, call: usize, text: &str) -> bool {
+    files::is(system, files::word(call, 1), text)
 }
 
 // A command on a table and one more word.
-fn of_one_more(call: usize) -> Command {
-    if command_is(call, b"build") {
+fn of_one_more<R: Runtime>(system: &System<R>, call: usize) -> Command {
+    if command_is(system, call, "build") {
         return Command::Build;
     }
-    if command_is(call, b"check") {
+    if command_is(system, call, "check") {
         return Command::Check;
     }
-    if command_is(call, b"match") {
+    if command_is(system, call, "match") {
         return Command::Match;
     }
-    if command_is(call, b"tally") {
+    if command_is(system, call, "tally") {
         return Command::Tally;
     }
-    if command_is(call, b"log") {
+    if command_is(system, call, "log") {
         return Command::Log;
     }
-    if command_is(call, b"tree") {
+    if command_is(system, call, "tree") {
         return Command::Tree;
     }
-    if command_is(call, b"untree") {
+    if command_is(system, call, "untree") {
         return Command::Untree;
     }
-    if command_is(call, b"resolve") {
+    if command_is(system, call, "resolve") {
         return Command::Resolve;
     }
-    if command_is(call, b"early") {
+    if command_is(system, call, "early") {
         return Command::Early;
     }
     Command::None
 }
 
 // A command on a table and two more words.
-fn of_two_more(call: usize) -> Command {
-    if command_is(call, b"resolve") {
+fn of_two_more<R: Runtime>(system: &System<R>, call: usize) -> Command {
+    if command_is(system, call, "resolve") {
         return Command::Walk;
     }
-    if command_is(call, b"available") {
+    if command_is(system, call, "available") {
         return Command::Available;
     }
-    if command_is(call, b"pair") {
+    if command_is(system, call, "pair") {
         return Command::Pair;
     }
-    if command_is(call, b"sample") {
+    if command_is(system, call, "sample") {
         return Command::Sample;
     }
-    if command_is(call, b"small") {
+    if command_is(system, call, "small") {
         return Command::Small;
     }
-    if command_is(call, b"shrink") {
+    if command_is(system, call, "shrink") {
         return Command::Shrink;
     }
     Command::None
 }
 
-fn asked(call: usize, n: usize) -> Command {
+fn asked<R: Runtime>(system: &System<R>, call: usize, n: usize) -> Command {
     if n == 4 {
-        return of_one_more(call);
+        return of_one_more(system, call);
     }
     if n == 5 {
-        return of_two_more(call);
+        return of_two_more(system, call);
     }
     Command::None
 }
@@ -172,96 +172,95 @@ fn value_at(c: Command) -> usize {
 }
 
 // The commands with a value.
-fn by_value(call: usize, c: Command, t: &[u8]) {
-    let mut value = io::large_buffer();
-    let v = files::value(files::word(call, value_at(c)), &mut value);
+fn by_value<R: Runtime>(system: &System<R>, call: usize, c: Command, t: &[u8]) -> io::Result<()> {
+    let mut value = files::room();
+    let v = files::value(system, files::word(call, value_at(c)), &mut value)?;
     if !v.ok {
-        return;
+        return Ok(());
     }
     let n = v.n;
     match c {
-        Command::Walk => answers::walk(call, t, &value[..n]),
-        Command::Early => answers::early(t, &value[..n]),
-        Command::Available => answers::available(call, t, &value[..n]),
-        Command::Pair => answers::pair(call, t, &value[..n]),
-        Command::Small => answers::small(call, t, &value[..n]),
-        _ => answers::plain(t, &value[..n]),
+        Command::Walk => answers::walk(system, call, t, &value[..n]),
+        Command::Early => answers::early(&system.rt, t, &value[..n]),
+        Command::Available => answers::available(system, call, t, &value[..n]),
+        Command::Pair => answers::pair(system, call, t, &value[..n]),
+        Command::Small => answers::small(system, call, t, &value[..n]),
+        _ => answers::plain(&system.rt, t, &value[..n]),
     }
 }
 
-fn by_table(call: usize, c: Command, n: usize) {
-    let mut table = io::large_buffer();
-    let t = files::file(files::word(call, 2), &mut table);
+fn by_table<R: Runtime>(system: &System<R>, call: usize, c: Command, n: usize) -> io::Result<()> {
+    let mut table = files::room();
+    let t = files::file(system, files::word(call, 2), &mut table)?;
     if !t.ok {
-        return;
+        return Ok(());
     }
     let k = t.n;
     match c {
-        Command::Build => answers::build(call, &table[..k]),
-        Command::Check => answers::check(call, &table[..k]),
-        Command::Match => answers::match_uri(call, &table[..k]),
-        Command::Tally => answers::tally_file(call, &table[..k]),
-        Command::Log => answers::log(call, &table[..k]),
-        Command::Tree => answers::tree(call, &table[..k]),
-        Command::Untree => answers::untree(call, &table[..k]),
-        Command::Shrink => shrink::shrink(call, &table[..k]),
-        Command::Feed => answers::feed(call, &table[..k], n),
-        Command::Sample => samples::print(call, &table[..k]),
-        _ => by_value(call, c, &table[..k]),
+        Command::Build => answers::build(system, call, &table[..k]),
+        Command::Check => answers::check(system, call, &table[..k]),
+        Command::Match => answers::match_uri(system, call, &table[..k]),
+        Command::Tally => answers::tally_file(system, call, &table[..k]),
+        Command::Log => answers::log(system, call, &table[..k]),
+        Command::Tree => answers::tree(system, call, &table[..k]),
+        Command::Untree => answers::untree(system, call, &table[..k]),
+        Command::Shrink => shrink::shrink(system, call, &table[..k]),
+        Command::Feed => answers::feed(system, call, &table[..k], n),
+        Command::Sample => samples::print(system, call, &table[..k]),
+        _ => by_value(system, call, c, &table[..k]),
     }
 }
 
 // A call that asks nothing of a table.
-fn without_table(call: usize, n: usize) {
+fn without_table<R: Runtime>(system: &System<R>, call: usize, n: usize) -> io::Result<()> {
     if n == 3 {
-        if command_is(call, b"entries") {
-            entries(call);
-            return;
+        if command_is(system, call, "entries") {
+            return entries(system, call);
         }
     }
-    if command_is(call, b"--help") {
-        usage(STDOUT_FILENO);
-        return;
+    if command_is(system, call, "--help") {
+        return usage(&system.rt);
     }
-    usage(STDERR_FILENO);
+    usage(&system.err)
 }
 
 // A call of n words, of which the first stands before the command.
-fn answer(call: usize, n: usize) {
+fn answer<R: Runtime>(system: &System<R>, call: usize, n: usize) -> io::Result<()> {
     if 3 < n {
-        if command_is(call, b"feed") {
-            by_table(call, Command::Feed, n);
-            return;
+        if command_is(system, call, "feed") {
+            return by_table(system, call, Command::Feed, n);
         }
     }
-    let c = asked(call, n);
+    let c = asked(system, call, n);
     match c {
-        Command::None => without_table(call, n),
-        _ => by_table(call, c, n),
+        Command::None => without_table(system, call, n),
+        _ => by_table(system, call, c, n),
     }
 }
 
 // The call that begins after argument `call`, if it ends before argument i; where the next one begins.
-fn until(call: usize, i: usize, ends: bool) -> usize {
+fn until<R: Runtime>(system: &System<R>, call: usize, i: usize, ends: bool) -> io::Result<usize> {
     if ends {
         if call < i {
-            answer(call, i - call);
+            answer(system, call, i - call)?;
         }
-        return i;
+        return Ok(i);
     }
-    call
+    Ok(call)
 }
 
 // The same where the word `then` ends a call.
-fn past(call: usize, i: usize) -> usize {
-    until(call, i, files::is(i, b"then"))
+fn past<R: Runtime>(system: &System<R>, call: usize, i: usize) -> io::Result<usize> {
+    until(system, call, i, files::is(system, i, "then"))
 }
 
-fn main() {
-    let n = os::arg_count();
+fn main(rt: HostRuntime) -> io::Result<()> {
+    let system = System::new(rt, rt.stderr());
+    let n = system.arg_count();
     let mut call = 0;
     for i in 1..n {
-        call = past(call, i);
+        call = past(&system, call, i)?;
     }
-    until(call, n, true);
+    until(&system, call, n, true)?;
+    Ok(())
 }

@@ -1,8 +1,10 @@
 // The month of a file with one value a line: it is read piece by piece, and its values are tallied.
 //
 // A line ends with LF or CR LF, and a last line without an end counts. An empty line is no value.
-ghost use Rattle.io.specs.Counts.{IsPrefixLen};
+ghost use Rattle.program_alertinfo.specs.Counts.{IsPrefixLen};
 
+use crate::files;
+use std::io::Read;
 use tally_library::Tally;
 
 // What is kept from piece to piece: the tally, how many bytes of the present line are held, and how many values were not counted.
@@ -116,10 +118,8 @@ fn put(line: &mut [u8], n: usize, b: u8) -> usize {
 // More of the line, of which n bytes are held.
 fn append(line: &mut [u8], n: usize, part: &[u8]) -> usize {
     let mut held = n;
-    let mut i = 0;
-    while i < part.len() {
-        held = put(line, held, part[i]);
-        i += 1;
+    for b in part {
+        held = put(line, held, *b);
     }
     held
 }
@@ -128,14 +128,12 @@ fn append(line: &mut [u8], n: usize, part: &[u8]) -> usize {
 fn before_end(s: &[u8]) -> usize
     ensures { IsPrefixLen result s.now }
 {
-    let mut i = 0;
-    while i < s.len() {
-        if s[i] == b'\n' {
+    for (i, b) in s.iter().enumerate() {
+        if *b == b'\n' {
             return i;
         }
-        i += 1;
     }
-    i
+    s.len()
 }
 
 // A part of a line, and whether it is the last.
@@ -164,16 +162,18 @@ fn piece(t: &[u8], month: Month, line: &mut [u8], bytes: &[u8]) -> Month {
 }
 
 // The next piece is read.
-fn read(fd: i32, t: &[u8], month: Month, line: &mut [u8]) -> After {
-    let mut buf = io::large_buffer();
-    let got = libc::read(fd, &mut buf);
-    if got < 0 {
-        return After {
-            month,
-            more: false,
-            failed: true,
-        };
-    }
+fn read(from: &mut impl Read, t: &[u8], month: Month, line: &mut [u8]) -> After {
+    let mut buf = files::room();
+    let got = match from.read(&mut buf) {
+        Ok(n) => n,
+        Err(_) => {
+            return After {
+                month,
+                more: false,
+                failed: true,
+            };
+        }
+    };
     if got == 0 {
         return After {
             month,
@@ -181,8 +181,7 @@ fn read(fd: i32, t: &[u8], month: Month, line: &mut [u8]) -> After {
             failed: false,
         };
     }
-    let n = io::count(got, &buf);
-    let after = piece(t, month, line, &buf[..n]);
+    let after = piece(t, month, line, &buf[..got]);
     After {
         month: after,
         more: true,
@@ -190,29 +189,27 @@ fn read(fd: i32, t: &[u8], month: Month, line: &mut [u8]) -> After {
     }
 }
 
-// The whole file. The loop counts down from a number of pieces that no file has, since nothing says that a file ends.
-fn read_all(fd: i32, t: &[u8], line: &mut [u8]) -> After {
+// The whole file, in at most a number of pieces that no file has, since nothing says that a file ends.
+fn read_all(from: &mut impl Read, t: &[u8], line: &mut [u8]) -> After {
     let mut now = After {
         month: cleared(),
         more: true,
         failed: false,
     };
-    let mut turns = 18446744073709551615u64;
-    while 0 < turns {
+    for _ in 0..u64::MAX {
         if !now.more {
             return now;
         }
         let month = now.month;
-        now = read(fd, t, month, line);
-        turns -= 1;
+        now = read(from, t, month, line);
     }
     now
 }
 
 // The month of the values in the file, and whether it could be read to its end.
-pub fn of_file(fd: i32, t: &[u8]) -> After {
+pub fn of_file(from: &mut impl Read, t: &[u8]) -> After {
     let mut line = [0u8; 4098];
-    let r = read_all(fd, t, &mut line);
+    let r = read_all(from, t, &mut line);
     let month = r.month;
     let after = end(t, month, &line);
     After {

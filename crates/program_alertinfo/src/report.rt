@@ -1,7 +1,7 @@
 // A month as text: a line for each signal, one for each refusal number that occurred, and the total.
 use crate::month::Month;
 use crate::words;
-use libc::STDOUT_FILENO;
+use std::io;
 use tally_library::Tally;
 
 // A sum that no month comes near to is not raised further.
@@ -41,71 +41,68 @@ fn tenths(n: u32, all: u64) -> u64 {
 }
 
 // How often something occurred, and its share of all.
-fn times(n: u32, all: u64) {
-    words::counted(n as u64, b" time, ", b" times, ");
+fn times(out: &impl Print, n: u32, all: u64) -> io::Result<()> {
+    words::counted(out, n as u64, " time, ", " times, ")?;
     let share = tenths(n, all);
-    words::count(share / 10, b".");
-    words::count(share % 10, b"%");
+    words::count(out, share / 10, ".")?;
+    words::count(out, share % 10, "%")
 }
 
-fn signal(records: [Tally; 32], i: usize, all: u64) {
+fn signal(out: &impl Print, records: [Tally; 32], i: usize, all: u64) -> io::Result<()> {
     if 32 <= i {
-        return;
+        return Ok(());
     }
     let r = records[i];
-    io::write_all(STDOUT_FILENO, b"signal ");
-    words::count(i as u64, b": ");
-    times(r.chosen, all);
-    io::write_all(STDOUT_FILENO, b", ");
-    words::used_skipped(r.used as u64, r.skipped as u64);
-    io::write_all(STDOUT_FILENO, b"\n");
+    print!(out; "signal {i}: ")?;
+    times(out, r.chosen, all)?;
+    out.print(", ")?;
+    words::used_skipped(out, r.used as u64, r.skipped as u64)?;
+    out.print("\n")
 }
 
-fn signals(records: [Tally; 32], n: usize, all: u64) {
-    let mut i = 0;
-    while i < n {
-        signal(records, i, all);
-        i += 1;
+fn signals(out: &impl Print, records: [Tally; 32], n: usize, all: u64) -> io::Result<()> {
+    for i in 0..n {
+        signal(out, records, i, all)?;
     }
+    Ok(())
 }
 
 // The refusal number i + 1.
-fn refusal(refusals: [u32; 12], i: usize, all: u64) {
+fn refusal(out: &impl Print, refusals: [u32; 12], i: usize, all: u64) -> io::Result<()> {
     if 12 <= i {
-        return;
+        return Ok(());
     }
     let n = refusals[i];
     if n == 0 {
-        return;
+        return Ok(());
     }
     let k = i as u8 + 1;
-    io::write_all(STDOUT_FILENO, b"refused ");
-    words::count(k as u64, b": ");
-    times(n, all);
-    io::write_all(STDOUT_FILENO, b", ");
-    words::reason(STDOUT_FILENO, k);
-    io::write_all(STDOUT_FILENO, b"\n");
+    print!(out; "refused {k}: ")?;
+    times(out, n, all)?;
+    out.print(", ")?;
+    words::reason(out, k)?;
+    out.print("\n")
 }
 
-fn numbers(refusals: [u32; 12], all: u64) {
-    let mut i = 0;
-    while i < 12 {
-        refusal(refusals, i, all);
-        i += 1;
+fn numbers(out: &impl Print, refusals: [u32; 12], all: u64) -> io::Result<()> {
+    for i in 0..12 {
+        refusal(out, refusals, i, all)?;
     }
+    Ok(())
 }
 
 // A month by a table of n signals.
-pub fn month(m: Month, n: usize) {
+pub fn month(out: &impl Print, m: Month, n: usize) -> io::Result<()> {
     let records = m.records;
     let refusals = m.refusals;
     let left_out = m.left_out;
     let all = refused(refusals, chosen(records));
-    signals(records, n, all);
-    numbers(refusals, all);
-    words::counted(all, b" value\n", b" values\n");
+    signals(out, records, n, all)?;
+    numbers(out, refusals, all)?;
+    words::counted(out, all, " value\n", " values\n")?;
     if 0 < left_out {
-        words::counted(left_out, b" more value, ", b" more values, ");
-        io::write_all(STDOUT_FILENO, b"not counted: a count was full\n");
+        words::counted(out, left_out, " more value, ", " more values, ")?;
+        out.print("not counted: a count was full\n")?;
     }
+    Ok(())
 }

@@ -1,7 +1,9 @@
 // Sample values by a table, one a line.
+use crate::system::System;
 use crate::{files, words};
-use libc::{STDERR_FILENO, STDOUT_FILENO};
 use sample_library::Made;
+use std::io;
+use std::rt::Runtime;
 
 // What was read of a number: what its digits say, and whether they are digits.
 #[derive(Clone, Copy)]
@@ -34,18 +36,16 @@ fn with(r: Digits, b: u8) -> Digits {
 fn read(text: &[u8]) -> Digits {
     let some = 0 < text.len();
     let mut r = Digits { n: 0, ok: some };
-    let mut i = 0;
-    while i < text.len() {
-        r = with(r, text[i]);
-        i += 1;
+    for b in text {
+        r = with(r, *b);
     }
     r
 }
 
 // The number that word i is, of at most 32 bits; 0 if it is none.
-fn number(call: usize, i: usize) -> Digits {
-    let mut text = io::buffer();
-    let n = os::arg(files::word(call, i), &mut text);
+fn number<R: Runtime>(system: &System<R>, call: usize, i: usize) -> Digits {
+    let mut text = files::path_room();
+    let n = system.arg(files::word(call, i), &mut text);
     let r = read(&text[..n]);
     if r.ok {
         if r.n <= 4294967295 {
@@ -63,50 +63,45 @@ fn narrow(n: u64) -> u32 {
 }
 
 // A value that was made, with a line end.
-fn line(made: Made, buf: &[u8]) {
+fn line(out: &impl Print, made: Made, buf: &[u8]) -> io::Result<()> {
     let n = made.len;
     if buf.len() < n {
-        return;
+        return Ok(());
     }
-    let from = 0;
-    io::write_all(STDOUT_FILENO, &buf[from..n]);
-    io::write_all(STDOUT_FILENO, b"\n");
+    out.write_all(&buf[..n])?;
+    out.print("\n")
 }
 
 // The next value from the seed x, and the seed after it.
-fn next(t: &[u8], x: u32) -> u32 {
+fn next(out: &impl Print, t: &[u8], x: u32) -> io::Result<u32> {
     let mut buf = [0u8; 4096];
     let made = sample_library::make_from(t, x, &mut buf);
     let after = made.seed;
-    line(made, &buf);
-    after
+    line(out, made, &buf)?;
+    Ok(after)
 }
 
-fn values(t: &[u8], x: u32, count: u64) {
+fn values(out: &impl Print, t: &[u8], x: u32, count: u64) -> io::Result<()> {
     let mut seed = x;
-    let mut k: u64 = 0;
-    while k < count {
-        seed = next(t, seed);
-        k += 1;
+    for _ in 0..count {
+        seed = next(out, t, seed)?;
     }
+    Ok(())
 }
 
 // As many values as word 4 says, from the seed that word 3 is.
-pub fn print(call: usize, t: &[u8]) {
+pub fn print<R: Runtime>(system: &System<R>, call: usize, t: &[u8]) -> io::Result<()> {
     let refusal = machine_library::refusal(t);
     if refusal != 0 {
-        words::refused(refusal);
-        return;
+        return words::refused(&system.rt, refusal);
     }
-    let seed = number(call, 3);
-    let count = number(call, 4);
+    let seed = number(system, call, 3);
+    let count = number(system, call, 4);
     if !seed.ok {
-        io::write_all(STDERR_FILENO, b"SEED is a number from 0 to 4294967295\n");
-        return;
+        return system.err.print("SEED is a number from 0 to 4294967295\n");
     }
     if count.n == 0 {
-        io::write_all(STDERR_FILENO, b"COUNT is a number from 1 to 4294967295\n");
-        return;
+        return system.err.print("COUNT is a number from 1 to 4294967295\n");
     }
-    values(t, narrow(seed.n), count.n);
+    values(&system.rt, t, narrow(seed.n), count.n)
 }

@@ -17,7 +17,7 @@ fn with_bit(bits: u32, s: usize) -> u32 {
     if (bits >> s) % 2 == 1 {
         return bits;
     }
-    std::num::wrapping_add_u32(bits, 1 << s)
+    bits.wrapping_add(1 << s)
 }
 
 // The number that was being read is one of the set.
@@ -75,10 +75,8 @@ pub fn read(text: &[u8]) -> Listed {
         begun: false,
         ok: true,
     };
-    let mut i = 0;
-    while i < text.len() {
-        r = with(r, text[i]);
-        i += 1;
+    for b in text {
+        r = with(r, *b);
     }
     ended(r)
 }

@@ -1,49 +1,39 @@
 // Answers as text.
-use libc::STDOUT_FILENO;
+use std::io;
 
 // A number and what follows it.
-pub fn count(n: u64, after: &[u8]) {
-    io::print_decimal(STDOUT_FILENO, n);
-    io::write_all(STDOUT_FILENO, after);
+pub fn count(out: &impl Print, n: u64, after: &str) -> io::Result<()> {
+    print!(out; "{n}{after}")
 }
 
 // A number and the word for one, or for another number.
-pub fn counted(n: u64, one: &[u8], many: &[u8]) {
+pub fn counted(out: &impl Print, n: u64, one: &str, many: &str) -> io::Result<()> {
     if n == 1 {
-        count(n, one);
+        count(out, n, one)
     } else {
-        count(n, many);
+        count(out, n, many)
     }
 }
 
 // A resolution without the line's end.
-pub fn resolved(signal: u8, used: usize, skipped: usize) {
-    io::write_all(STDOUT_FILENO, b"signal ");
-    count(signal as u64, b", ");
-    used_skipped(used as u64, skipped as u64);
+pub fn resolved(out: &impl Print, signal: u8, used: usize, skipped: usize) -> io::Result<()> {
+    print!(out; "signal {signal}, ")?;
+    used_skipped(out, used as u64, skipped as u64)
 }
 
-pub fn used_skipped(used: u64, skipped: u64) {
-    count(used, b" used, ");
-    count(skipped, b" skipped");
+pub fn used_skipped(out: &impl Print, used: u64, skipped: u64) -> io::Result<()> {
+    print!(out; "{used} used, {skipped} skipped")
 }
 
-// A refusal number with what it says.
-pub fn refused(k: u8) {
-    refusal(STDOUT_FILENO, k);
-}
-
-// The same, to any descriptor.
-pub fn refusal(to: i32, k: u8) {
-    io::write_all(to, b"refused ");
-    io::print_decimal(to, k as u64);
-    io::write_all(to, b": ");
-    reason(to, k);
-    io::write_all(to, b"\n");
+// A refusal number with what it says, to standard output or to standard error.
+pub fn refused(to: &impl Print, k: u8) -> io::Result<()> {
+    print!(to; "refused {k}: ")?;
+    reason(to, k)?;
+    to.print("\n")
 }
 
 // What a refusal number says: its line of these, counted from 0.
-pub fn reason(to: i32, k: u8) {
+pub fn reason(to: &impl Print, k: u8) -> io::Result<()> {
     let lines = b"nothing is wrong
 the value is longer than 4,096 bytes
 the value is not of the field's form
@@ -73,5 +63,5 @@ the log is longer than 32,768 bytes, stops early, or goes on after its last call
 the buffer is shorter than 4,096 bytes
 the classes do not make a smaller machine of this one, or none do
 ";
-    io::write_all(to, program_lines::part(lines, b'\n', k as usize));
+    to.write_all(program_lines::part(lines, b'\n', k as usize))
 }
