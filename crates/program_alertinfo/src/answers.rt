@@ -1,6 +1,6 @@
 // The commands' answers, each for a table that was read and the words after it.
-use crate::system::System;
 use crate::{fields, files, month, report, signals, words};
+use program_system::{System, path_room, room};
 use std::io;
 use std::rt::Runtime;
 
@@ -22,27 +22,27 @@ fn written<R: Runtime>(
 }
 
 pub fn build<R: Runtime>(system: &System<R>, call: usize, t: &[u8]) -> io::Result<()> {
-    let mut image = files::room();
+    let mut image = room();
     let b = machine_library::build(t, &mut image);
     written(system, call, b.refusal, b.len, &image)
 }
 
 // The table with its tree written once.
 pub fn tree<R: Runtime>(system: &System<R>, call: usize, t: &[u8]) -> io::Result<()> {
-    let mut form = files::room();
+    let mut form = room();
     let c = tree_library::from_signal_table(t, &mut form);
     written(system, call, c.refusal, c.len, &form)
 }
 
 // The table of such a tree.
 pub fn untree<R: Runtime>(system: &System<R>, call: usize, t: &[u8]) -> io::Result<()> {
-    let mut form = files::room();
+    let mut form = room();
     let c = tree_library::to_signal_table(t, &mut form);
     written(system, call, c.refusal, c.len, &form)
 }
 
 pub fn check<R: Runtime>(system: &System<R>, call: usize, t: &[u8]) -> io::Result<()> {
-    let mut image = files::room();
+    let mut image = room();
     let m = files::file(system, files::word(call, 3), &mut image)?;
     if !m.ok {
         return Ok(());
@@ -82,7 +82,7 @@ fn resolution(
 
 // By the machine that word 4 names.
 pub fn walk<R: Runtime>(system: &System<R>, call: usize, t: &[u8], v: &[u8]) -> io::Result<()> {
-    let mut image = files::room();
+    let mut image = room();
     let m = files::file(system, files::word(call, 4), &mut image)?;
     if !m.ok {
         return Ok(());
@@ -100,7 +100,7 @@ pub fn walk<R: Runtime>(system: &System<R>, call: usize, t: &[u8], v: &[u8]) -> 
 
 // By the small machine that word 3 names.
 pub fn small<R: Runtime>(system: &System<R>, call: usize, t: &[u8], v: &[u8]) -> io::Result<()> {
-    let mut image = files::room();
+    let mut image = room();
     let m = files::file(system, files::word(call, 3), &mut image)?;
     if !m.ok {
         return Ok(());
@@ -123,7 +123,7 @@ pub fn available<R: Runtime>(
     t: &[u8],
     v: &[u8],
 ) -> io::Result<()> {
-    let mut text = files::path_room();
+    let mut text = path_room();
     let n = system.arg(files::word(call, 3), &mut text);
     let s = signals::read(&text[..n]);
     if !s.ok {
@@ -143,7 +143,7 @@ pub fn available<R: Runtime>(
 
 // A ring by this table, and a lamp by the one that word 3 names.
 pub fn pair<R: Runtime>(system: &System<R>, call: usize, t: &[u8], v: &[u8]) -> io::Result<()> {
-    let mut lamps = files::room();
+    let mut lamps = room();
     let l = files::file(system, files::word(call, 3), &mut lamps)?;
     if !l.ok {
         return Ok(());
@@ -187,7 +187,7 @@ fn found(out: &impl Print, m: machine_library::Match) -> io::Result<()> {
 
 // What the URI that word 3 is means to the table.
 pub fn match_uri<R: Runtime>(system: &System<R>, call: usize, t: &[u8]) -> io::Result<()> {
-    let mut uri = files::room();
+    let mut uri = room();
     let n = system.arg(files::word(call, 3), &mut uri);
     let m = machine_library::match_urn(t, &uri[..n]);
     if m.refusal != 0 {
@@ -232,7 +232,7 @@ pub fn tally_file<R: Runtime>(system: &System<R>, call: usize, t: &[u8]) -> io::
 
 // Whether each call of the log that word 3 names has the right answer.
 pub fn log<R: Runtime>(system: &System<R>, call: usize, t: &[u8]) -> io::Result<()> {
-    let mut calls = files::room();
+    let mut calls = room();
     let l = files::file(system, files::word(call, 3), &mut calls)?;
     if !l.ok {
         return Ok(());
@@ -247,11 +247,5 @@ pub fn log<R: Runtime>(system: &System<R>, call: usize, t: &[u8]) -> io::Result<
     }
     system.rt.print("call ")?;
     words::count(&system.rt, r.call as u64, " does not agree: right is ")?;
-    resolution(
-        &system.rt,
-        0,
-        r.signal,
-        r.used as usize,
-        r.skipped as usize,
-    )
+    resolution(&system.rt, 0, r.signal, r.used as usize, r.skipped as usize)
 }

@@ -1,6 +1,6 @@
 // The values of one message, fed one after another.
-use crate::system::System;
 use crate::{files, words};
+use program_system::{System, room};
 use resolve_record::Carried;
 use resolve_run::Resolution;
 use std::io;
@@ -87,7 +87,7 @@ fn fed<R: Runtime>(
     i: usize,
     number: usize,
 ) -> io::Result<Message> {
-    let mut value = files::room();
+    let mut value = room();
     let v = files::value(system, files::word(call, i), &mut value)?;
     if !v.ok {
         return Ok(unread(m));

@@ -1,34 +1,18 @@
 // The program's arguments, and the files that they name. `-` names standard input.
-ghost use Rattle.std.specs.Prelude.{◌≡◌, length, IfOk};
+ghost use Rattle.std.specs.Prelude.{IfOk};
 ghost use Rattle.std.specs.Io.{ReadsAtMost};
-ghost use Rattle.program_alertinfo.specs.Counts.{IsPrefixLen};
+ghost use Rattle.program_system.specs.Counts.{IsPrefixLen};
 
-use crate::system::{Source, System};
-use std::fs;
+use program_system::{Source, System, path_room, read_full};
 use std::io;
-use std::io::{ErrorKind, Read, Write};
+use std::io::Write;
 use std::rt::Runtime;
-use std::str;
 
 // How much of a buffer was filled; or that it could not be.
 #[derive(Clone, Copy)]
 pub struct Got {
     pub ok: bool,
     pub n: usize,
-}
-
-// 65,536 zeros: room for the start of a file.
-pub fn room() -> [u8; 65536]
-    ensures { 65536 ≡ length result }
-{
-    [0; 65536]
-}
-
-// 4,096 zeros, which hold any path.
-pub fn path_room() -> [u8; 4096]
-    ensures { 4096 ≡ length result }
-{
-    [0; 4096]
 }
 
 // Which argument word i of a call is. Several calls may stand in one; each begins after the argument `call`.
@@ -48,41 +32,12 @@ pub fn is<R: Runtime>(system: &System<R>, i: usize, word: &str) -> bool {
     &buf[..n] == word.as_bytes()
 }
 
-// A path as the text that the system's files are named by.
-fn path_text(path: &[u8]) -> io::Result<&str> {
-    match str::from_utf8(path) {
-        Ok(text) => Ok(text),
-        Err(_) => Err(io::Error::from(ErrorKind::InvalidFilename)),
-    }
-}
-
 // The file with this name, opened; `-` is standard input.
 fn open<R: Runtime>(system: &System<R>, path: &[u8]) -> io::Result<Source<R::Reader, R::File>> {
     if path == b"-".as_slice() {
         return Ok(system.input());
     }
-    Ok(Source::File(fs::open(&system.rt, path_text(path)?)?))
-}
-
-// The start of what is read, as much as fits. It is an error if the first read fails, as that of a folder: the file is
-// not merely empty.
-fn read_full(from: &mut impl Read, buf: &mut [u8]) -> io::Result<usize>
-    ensures { ReadsAtMost result buf.new }
-{
-    let mut done = 0;
-    while done < buf.len() {
-        match from.read(&mut buf[done..]) {
-            Ok(0) => break,
-            Ok(n) => done += n,
-            Err(error) => {
-                if done == 0 {
-                    return Err(error);
-                }
-                break;
-            }
-        }
-    }
-    Ok(done)
+    Ok(Source::File(system.open(path)?))
 }
 
 // The start of the file with this name, as much as fits.
@@ -103,26 +58,10 @@ pub fn file<R: Runtime>(system: &System<R>, i: usize, buf: &mut [u8]) -> io::Res
     match read(system, &name[..n], buf) {
         Ok(n) => Ok(Got { ok: true, n }),
         Err(error) => {
-            fail(system, &name[..n], error)?;
+            system.fail(&name[..n], error)?;
             Ok(Got { ok: false, n: 0 })
         }
     }
-}
-
-// What an error says, without the system's number for it.
-fn without_number(text: &str) -> &str {
-    match text.split_once(" (os error ") {
-        Some((reason, _)) => reason,
-        None => text,
-    }
-}
-
-// What could not be done with the file of this name is told on standard error, with the system's reason.
-fn fail<R: Runtime>(system: &System<R>, name: &[u8], error: io::Error) -> io::Result<()> {
-    let text = format!(in system.rt.alloc(); "{error}")?;
-    Print::write_all(&system.err, name)?;
-    system.err.print(": ")?;
-    system.err.println(without_number(text.as_str()))
 }
 
 // The file that argument i names is told on standard error, with a reason of our own.
@@ -143,7 +82,7 @@ pub fn opened<R: Runtime>(
     match open(system, &name[..n]) {
         Ok(from) => Ok(Some(from)),
         Err(error) => {
-            fail(system, &name[..n], error)?;
+            system.fail(&name[..n], error)?;
             Ok(None)
         }
     }
@@ -212,19 +151,14 @@ pub fn value<R: Runtime>(system: &System<R>, i: usize, buf: &mut [u8]) -> io::Re
     Ok(Got { ok: got.ok, n: k })
 }
 
-// The file with this name, made or emptied.
-fn made<R: Runtime>(system: &System<R>, path: &[u8]) -> io::Result<R::File> {
-    fs::create(&system.rt, path_text(path)?)
-}
-
 // The file that argument i names, made or emptied. One that cannot be is named on standard error.
 fn overwritten<R: Runtime>(system: &System<R>, i: usize) -> io::Result<Option<R::File>> {
     let mut name = path_room();
     let n = system.arg(i, &mut name);
-    match made(system, &name[..n]) {
+    match system.create(&name[..n]) {
         Ok(file) => Ok(Some(file)),
         Err(error) => {
-            fail(system, &name[..n], error)?;
+            system.fail(&name[..n], error)?;
             Ok(None)
         }
     }

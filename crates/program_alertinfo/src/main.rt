@@ -10,12 +10,11 @@ mod report;
 mod samples;
 mod shrink;
 mod signals;
-mod system;
 mod words;
 
+use program_system::{System, room};
 use std::io;
 use std::rt::Runtime;
-use system::System;
 
 // What is asked of a table, which is word 2.
 #[derive(Clone, Copy)]
@@ -79,7 +78,7 @@ fn list(out: &impl Print, v: &[u8]) -> io::Result<()> {
 }
 
 fn entries<R: Runtime>(system: &System<R>, call: usize) -> io::Result<()> {
-    let mut value = files::room();
+    let mut value = room();
     let v = files::value(system, files::word(call, 2), &mut value)?;
     if !v.ok {
         return Ok(());
@@ -173,7 +172,7 @@ fn value_at(c: Command) -> usize {
 
 // The commands with a value.
 fn by_value<R: Runtime>(system: &System<R>, call: usize, c: Command, t: &[u8]) -> io::Result<()> {
-    let mut value = files::room();
+    let mut value = room();
     let v = files::value(system, files::word(call, value_at(c)), &mut value)?;
     if !v.ok {
         return Ok(());
@@ -190,7 +189,7 @@ fn by_value<R: Runtime>(system: &System<R>, call: usize, c: Command, t: &[u8]) -
 }
 
 fn by_table<R: Runtime>(system: &System<R>, call: usize, c: Command, n: usize) -> io::Result<()> {
-    let mut table = files::room();
+    let mut table = room();
     let t = files::file(system, files::word(call, 2), &mut table)?;
     if !t.ok {
         return Ok(());

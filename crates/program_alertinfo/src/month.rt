@@ -1,9 +1,9 @@
 // The month of a file with one value a line: it is read piece by piece, and its values are tallied.
 //
 // A line ends with LF or CR LF, and a last line without an end counts. An empty line is no value.
-ghost use Rattle.program_alertinfo.specs.Counts.{IsPrefixLen};
+ghost use Rattle.program_system.specs.Counts.{IsPrefixLen};
 
-use crate::files;
+use program_system::room;
 use std::io::Read;
 use tally_library::Tally;
 
@@ -163,7 +163,7 @@ fn piece(t: &[u8], month: Month, line: &mut [u8], bytes: &[u8]) -> Month {
 
 // The next piece is read.
 fn read(from: &mut impl Read, t: &[u8], month: Month, line: &mut [u8]) -> After {
-    let mut buf = files::room();
+    let mut buf = room();
     let got = match from.read(&mut buf) {
         Ok(n) => n,
         Err(_) => {

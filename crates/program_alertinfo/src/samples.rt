@@ -1,6 +1,6 @@
 // Sample values by a table, one a line.
-use crate::system::System;
 use crate::{files, words};
+use program_system::{System, path_room};
 use sample_library::Made;
 use std::io;
 use std::rt::Runtime;
@@ -44,7 +44,7 @@ fn read(text: &[u8]) -> Digits {
 
 // The number that word i is, of at most 32 bits; 0 if it is none.
 fn number<R: Runtime>(system: &System<R>, call: usize, i: usize) -> Digits {
-    let mut text = files::path_room();
+    let mut text = path_room();
     let n = system.arg(files::word(call, i), &mut text);
     let r = read(&text[..n]);
     if r.ok {

@@ -1,6 +1,6 @@
 // The smallest machine that does the same as an image.
-use crate::system::System;
 use crate::{files, words};
+use program_system::{System, room};
 use std::io;
 use std::rt::Runtime;
 
@@ -34,7 +34,7 @@ fn write<R: Runtime>(
     m: &[u8],
     p: &[u8],
 ) -> io::Result<()> {
-    let mut image = files::room();
+    let mut image = room();
     let b = small_library::write(t, m, p, &mut image);
     if b.refusal != 0 {
         return words::refused(&system.rt, b.refusal);
@@ -68,7 +68,7 @@ fn proposed<R: Runtime>(
 
 // The machine of word 3 for this table, as small as it can be.
 pub fn shrink<R: Runtime>(system: &System<R>, call: usize, t: &[u8]) -> io::Result<()> {
-    let mut image = files::room();
+    let mut image = room();
     let m = files::file(system, files::word(call, 3), &mut image)?;
     if !m.ok {
         return Ok(());
