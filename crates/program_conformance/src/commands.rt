@@ -22,94 +22,96 @@ use crate::{numbers, print};
 use machine_library::Match;
 use resolve_run::Resolution;
 use sample_library::Made;
+use std::io;
 use value_cursor::{Cursor, Found, Span};
 
-fn span(p: Span) {
-    print::next(p.start);
-    print::text(b":");
-    print::number(p.len);
+fn span(out: &impl Print, p: Span) -> io::Result<()> {
+    print::next(out, p.start)?;
+    print::text(out, ":")?;
+    print::number(out, p.len)
 }
 
 // The entry at the cursor, and the cursor after it.
-fn entry_at(v: &[u8], c: Cursor) -> Cursor {
+fn entry_at(out: &impl Print, v: &[u8], c: Cursor) -> io::Result<Cursor> {
     let found = c.entry(v);
     match found {
         Found::More(p, next) => {
-            span(p);
-            next
+            span(out, p)?;
+            Ok(next)
         }
         Found::Last(p) => {
-            span(p);
-            c
+            span(out, p)?;
+            Ok(c)
         }
-        Found::None => c,
+        Found::None => Ok(c),
     }
 }
 
-fn entries_of(v: &[u8]) {
+fn entries_of(out: &impl Print, v: &[u8]) -> io::Result<()> {
     let n = value_reader::entries(v);
-    print::number(value_reader::refusal(v) as usize);
-    print::next(n);
+    print::number(out, value_reader::refusal(v) as usize)?;
+    print::next(out, n)?;
     let mut c = Cursor { at: 0 };
     for _ in 0..n {
-        c = entry_at(v, c);
+        c = entry_at(out, v, c)?;
     }
+    Ok(())
 }
 
-pub fn value(v: &[u8]) {
-    entries_of(v);
+pub fn value(out: &impl Print, v: &[u8]) -> io::Result<()> {
+    entries_of(out, v)
 }
 
-pub fn entry(line: &[u8], v: &[u8]) {
+pub fn entry(out: &impl Print, line: &[u8], v: &[u8]) -> io::Result<()> {
     let k = program_lines::number(program_lines::word(line, 2));
-    print::number(value_reader::entry_refusal(v, k) as usize);
-    print::bytes(value_reader::entry(v, k));
+    print::number(out, value_reader::entry_refusal(v, k) as usize)?;
+    print::bytes(out, value_reader::entry(v, k))
 }
 
-pub fn table(t: &[u8]) {
-    print::number(machine_library::refusal(t) as usize);
+pub fn table(out: &impl Print, t: &[u8]) -> io::Result<()> {
+    print::number(out, machine_library::refusal(t) as usize)
 }
 
-pub fn tree(t: &[u8]) {
-    print::number(tree_library::refusal(t) as usize);
+pub fn tree(out: &impl Print, t: &[u8]) -> io::Result<()> {
+    print::number(out, tree_library::refusal(t) as usize)
 }
 
-fn matched(m: Match) {
-    print::number(m.refusal as usize);
+fn matched(out: &impl Print, m: Match) -> io::Result<()> {
+    print::number(out, m.refusal as usize)?;
     if m.used == 0 {
-        print::text(b" -1");
+        print::text(out, " -1")?;
     } else {
-        print::next(m.category as usize);
+        print::next(out, m.category as usize)?;
     }
-    print::next(m.node as usize);
-    print::next(m.whole as usize);
-    print::next(m.compared as usize);
+    print::next(out, m.node as usize)?;
+    print::next(out, m.whole as usize)?;
+    print::next(out, m.compared as usize)
 }
 
-pub fn match_urn(t: &[u8], uri: &[u8]) {
-    matched(machine_library::match_urn(t, uri));
+pub fn match_urn(out: &impl Print, t: &[u8], uri: &[u8]) -> io::Result<()> {
+    matched(out, machine_library::match_urn(t, uri))
 }
 
-pub fn resolution(r: Resolution) {
-    print::three(r.refusal, r.signal, r.used);
-    print::next(r.skipped as usize);
+pub fn resolution(out: &impl Print, r: Resolution) -> io::Result<()> {
+    print::three(out, r.refusal, r.signal, r.used)?;
+    print::next(out, r.skipped as usize)
 }
 
-pub fn plain(t: &[u8], v: &[u8]) {
+pub fn plain(out: &impl Print, t: &[u8], v: &[u8]) -> io::Result<()> {
     let r = resolve_library::plain(t, v);
-    print::three(r.refusal, r.signal, r.used);
-    print::next(r.skipped as usize);
-    print::next(r.tries as usize);
+    print::three(out, r.refusal, r.signal, r.used)?;
+    print::next(out, r.skipped as usize)?;
+    print::next(out, r.tries as usize)
 }
 
-pub fn early(t: &[u8], v: &[u8]) {
+pub fn early(out: &impl Print, t: &[u8], v: &[u8]) -> io::Result<()> {
     let r = resolve_early::resolve(t, v);
-    print::three(r.refusal, r.signal, r.entries);
+    print::three(out, r.refusal, r.signal, r.entries)
 }
 
-pub fn available(line: &[u8], t: &[u8], v: &[u8]) {
+pub fn available(out: &impl Print, line: &[u8], t: &[u8], v: &[u8]) -> io::Result<()> {
     let set = numbers::number(program_lines::word(line, 2));
-    resolution(resolve_available::resolve(t, set, v));
+    resolution(out, resolve_available::resolve(t, set, v))
 }
 
 // The number that a word says, at most 255.
@@ -117,73 +119,66 @@ fn small_number(line: &[u8], i: usize) -> u8 {
     (program_lines::number(program_lines::word(line, i)) % 256) as u8
 }
 
-pub fn keeps(line: &[u8], t: &[u8]) {
+pub fn keeps(out: &impl Print, line: &[u8], t: &[u8]) -> io::Result<()> {
     let set = numbers::number(program_lines::word(line, 2));
     let r = table_kept::kept::keeps(t, set, small_number(line, 3));
-    print::three(r.refusal, r.kept, r.rings);
+    print::three(out, r.refusal, r.kept, r.rings)?;
     let marks = r.marks;
-    print::bytes(base_text::cut::part(&marks, 0, r.len as usize));
+    print::bytes(out, base_text::cut::part(&marks, 0, r.len as usize))
 }
 
-pub fn rings(line: &[u8], t: &[u8]) {
+pub fn rings(out: &impl Print, line: &[u8], t: &[u8]) -> io::Result<()> {
     let set = numbers::number(program_lines::word(line, 2));
     let r = table_kept::rung::rings(t, set, small_number(line, 3));
-    print::number(r.refusal as usize);
-    print::next(r.rings as usize);
+    print::number(out, r.refusal as usize)?;
+    print::next(out, r.rings as usize)?;
     let marks = r.marks;
-    print::bytes(base_text::cut::part(&marks, 0, r.len as usize));
+    print::bytes(out, base_text::cut::part(&marks, 0, r.len as usize))
 }
 
-pub fn pair(rings: &[u8], lamps: &[u8], v: &[u8]) {
+pub fn pair(out: &impl Print, rings: &[u8], lamps: &[u8], v: &[u8]) -> io::Result<()> {
     let r = resolve_pair::resolve(rings, lamps, v);
-    print::three(r.refusal, r.ring, r.lamp);
+    print::three(out, r.refusal, r.ring, r.lamp)
 }
 
-pub fn log(t: &[u8], calls: &[u8]) {
+pub fn log(out: &impl Print, t: &[u8], calls: &[u8]) -> io::Result<()> {
     let r = log_library::check(t, calls);
-    print::number(r.refusal as usize);
-    print::next(r.agrees as usize);
-    print::next(r.call as usize);
-    print::next(r.signal as usize);
-    print::next(r.used as usize);
-    print::next(r.skipped as usize);
+    print::number(out, r.refusal as usize)?;
+    print::next(out, r.agrees as usize)?;
+    print::next(out, r.call as usize)?;
+    print::next(out, r.signal as usize)?;
+    print::next(out, r.used as usize)?;
+    print::next(out, r.skipped as usize)
 }
 
-pub fn walk(t: &[u8], m: &[u8], v: &[u8]) {
-    resolution(resolve_library::machine(t, m, v));
+pub fn walk(out: &impl Print, t: &[u8], m: &[u8], v: &[u8]) -> io::Result<()> {
+    resolution(out, resolve_library::machine(t, m, v))
 }
 
-pub fn small_walk(t: &[u8], m: &[u8], v: &[u8]) {
-    resolution(resolve_small::resolve(t, m, v));
+pub fn small_walk(out: &impl Print, t: &[u8], m: &[u8], v: &[u8]) -> io::Result<()> {
+    resolution(out, resolve_small::resolve(t, m, v))
 }
 
-pub fn check(t: &[u8], m: &[u8]) {
-    print::number(machine_library::check(t, m) as usize);
+pub fn check(out: &impl Print, t: &[u8], m: &[u8]) -> io::Result<()> {
+    print::number(out, machine_library::check(t, m) as usize)
 }
 
 fn all_zero(s: &[u8]) -> bool {
-    for i in 0..s.len() {
-        if s[i] != 0 {
-            return false;
-        }
-    }
-    true
+    s.iter().all(|b| *b == 0)
 }
 
 // What was written to a buffer: the refusal number, the length, so many bytes, and whether the others are 0.
-pub fn written(refusal: u8, n: usize, buf: &[u8]) {
-    print::number(refusal as usize);
-    print::next(n);
+pub fn written(out: &impl Print, refusal: u8, n: usize, buf: &[u8]) -> io::Result<()> {
+    print::number(out, refusal as usize)?;
+    print::next(out, n)?;
     if buf.len() < n {
-        print::text(b" longer than the buffer");
-        return;
+        return print::text(out, " longer than the buffer");
     }
-    let a = 0;
-    let end = buf.len();
-    print::bytes(&buf[a..n]);
-    if !all_zero(&buf[n..end]) {
-        print::text(b" and then not 0");
+    print::bytes(out, &buf[..n])?;
+    if !all_zero(&buf[n..]) {
+        print::text(out, " and then not 0")?;
     }
+    Ok(())
 }
 
 // Room for any form or image, and not zero before.
@@ -191,84 +186,73 @@ pub fn room() -> [u8; 70000] {
     [170u8; 70000]
 }
 
-fn built(t: &[u8], buf: &mut [u8]) {
+fn built(out: &impl Print, t: &[u8], buf: &mut [u8]) -> io::Result<()> {
     let b = machine_library::build(t, buf);
-    written(b.refusal, b.len, buf);
+    written(out, b.refusal, b.len, buf)
 }
 
-fn in_tree_form(t: &[u8], buf: &mut [u8]) {
+fn in_tree_form(out: &impl Print, t: &[u8], buf: &mut [u8]) -> io::Result<()> {
     let c = tree_library::from_signal_table(t, buf);
-    written(c.refusal, c.len, buf);
+    written(out, c.refusal, c.len, buf)
 }
 
-fn in_old_form(t: &[u8], buf: &mut [u8]) {
+fn in_old_form(out: &impl Print, t: &[u8], buf: &mut [u8]) -> io::Result<()> {
     let c = tree_library::to_signal_table(t, buf);
-    written(c.refusal, c.len, buf);
+    written(out, c.refusal, c.len, buf)
 }
 
 // A build, or a conversion to the new form or the old one, by its letter.
-fn filled(t: &[u8], buf: &mut [u8], what: u8) {
+fn filled(out: &impl Print, t: &[u8], buf: &mut [u8], what: u8) -> io::Result<()> {
     match what {
-        b'b' => built(t, buf),
-        b'n' => in_tree_form(t, buf),
-        _ => in_old_form(t, buf),
+        b'b' => built(out, t, buf),
+        b'n' => in_tree_form(out, t, buf),
+        _ => in_old_form(out, t, buf),
     }
 }
 
 // The same into a buffer with so much room as the line's word 2 says.
-pub fn fill(line: &[u8], t: &[u8], what: u8) {
+pub fn fill(out: &impl Print, line: &[u8], t: &[u8], what: u8) -> io::Result<()> {
     let mut buf = room();
     let n = program_lines::number(program_lines::word(line, 2));
     if 70000 < n {
-        print::text(b"no such room");
-        return;
+        return print::text(out, "no such room");
     }
-    let a = 0;
-    filled(t, &mut buf[a..n], what);
+    filled(out, t, &mut buf[..n], what)
 }
 
 // Every byte is as it was in the room.
 fn as_before(s: &[u8]) -> bool {
-    for i in 0..s.len() {
-        if s[i] != 170 {
-            return false;
-        }
-    }
-    true
+    s.iter().all(|b| *b == 170)
 }
 
 // A value that was made in a buffer: the refusal number, the length, the seed, so many bytes, and whether the others stayed.
-fn sampled(m: Made, buf: &[u8]) {
+fn sampled(out: &impl Print, m: Made, buf: &[u8]) -> io::Result<()> {
     let n = m.len;
-    print::number(m.refusal as usize);
-    print::next(n);
-    print::next(m.seed as usize);
+    print::number(out, m.refusal as usize)?;
+    print::next(out, n)?;
+    print::next(out, m.seed as usize)?;
     if buf.len() < n {
-        print::text(b" longer than the buffer");
-        return;
+        return print::text(out, " longer than the buffer");
     }
-    let a = 0;
-    let end = buf.len();
-    print::bytes(&buf[a..n]);
-    if !as_before(&buf[n..end]) {
-        print::text(b" and then changed");
+    print::bytes(out, &buf[..n])?;
+    if !as_before(&buf[n..]) {
+        print::text(out, " and then changed")?;
     }
+    Ok(())
 }
 
-fn sample_in(t: &[u8], x: u32, buf: &mut [u8]) {
+fn sample_in(out: &impl Print, t: &[u8], x: u32, buf: &mut [u8]) -> io::Result<()> {
     let m = sample_library::make_from(t, x, buf);
-    sampled(m, buf);
+    sampled(out, m, buf)
 }
 
 // From the seed that the line's word 2 is, with so much room as its word 3 says.
-pub fn sample(line: &[u8], t: &[u8]) {
+pub fn sample(out: &impl Print, line: &[u8], t: &[u8]) -> io::Result<()> {
     let x = numbers::number(program_lines::word(line, 2));
     let n = program_lines::number(program_lines::word(line, 3));
     let mut buf = room();
     if 70000 < n {
-        print::text(b"no such room");
-        return;
+        return print::text(out, "no such room");
     }
-    let a = 0;
-    sample_in(t, x, &mut buf[a..n]);
+    sample_in(out, t, x, &mut buf[..n])
 }

@@ -2,6 +2,7 @@
 // `signal/status/values`, its 8 statuses with commas between.
 use crate::{commands, print};
 use resolve_record::Carried;
+use std::io;
 
 fn byte(s: &[u8]) -> u8 {
     let n = program_lines::number(s);
@@ -42,27 +43,27 @@ fn record(word: &[u8]) -> Carried {
 }
 
 // What stands before status c: a comma between statuses.
-fn between(c: usize) {
+fn between(out: &impl Print, c: usize) -> io::Result<()> {
     if c == 0 {
-        print::text(b"/");
+        print::text(out, "/")
     } else {
-        print::text(b",");
+        print::text(out, ",")
     }
 }
 
-fn print_record(r: Carried) {
-    print::next(r.signal as usize);
+fn print_record(out: &impl Print, r: Carried) -> io::Result<()> {
+    print::next(out, r.signal as usize)?;
     let status = r.status;
     for c in 0..8 {
-        between(c);
-        print::number(status[c] as usize);
+        between(out, c)?;
+        print::number(out, status[c] as usize)?;
     }
-    print::text(b"/");
-    print::number(r.values as usize);
+    print::text(out, "/")?;
+    print::number(out, r.values as usize)
 }
 
-pub fn feed(line: &[u8], t: &[u8], v: &[u8]) {
+pub fn feed(out: &impl Print, line: &[u8], t: &[u8], v: &[u8]) -> io::Result<()> {
     let f = resolve_library::feed(t, record(program_lines::word(line, 2)), v);
-    commands::resolution(f.answer);
-    print_record(f.carried);
+    commands::resolution(out, f.answer)?;
+    print_record(out, f.carried)
 }

@@ -10,143 +10,145 @@ mod print;
 mod smaller;
 mod tally_cases;
 
+use program_system::{System, path_room, read_full, room};
+use std::io;
+use std::rt::Runtime;
+
 // `table` and `tally_library` begin alike.
-fn table_or_tally(line: &[u8], a: &[u8]) {
+fn table_or_tally(out: &impl Print, line: &[u8], a: &[u8]) -> io::Result<()> {
     let third = program_lines::first(program_lines::after(line, b'a'));
     if third == b'l' {
-        tally_cases::tally(line, a);
-        return;
+        return tally_cases::tally(out, line, a);
     }
-    commands::table(a);
+    commands::table(out, a)
 }
 
 // So do `tonew` and `toold`.
-fn with_t(line: &[u8], a: &[u8]) {
+fn with_t(out: &impl Print, line: &[u8], a: &[u8]) -> io::Result<()> {
     let second = program_lines::first(program_lines::after(line, b't'));
     if second == b'o' {
-        commands::fill(
+        return commands::fill(
+            out,
             line,
             a,
             program_lines::first(program_lines::after(line, b'o')),
         );
-        return;
     }
-    table_or_tally(line, a);
+    table_or_tally(out, line, a)
 }
 
 // `entry` and `resolve_early` begin alike.
-fn entry_or_early(line: &[u8], a: &[u8], b: &[u8]) {
+fn entry_or_early(out: &impl Print, line: &[u8], a: &[u8], b: &[u8]) -> io::Result<()> {
     let second = program_lines::first(program_lines::after(line, b'e'));
     if second == b'a' {
-        commands::early(a, b);
-        return;
+        return commands::early(out, a, b);
     }
-    commands::entry(line, a);
+    commands::entry(out, line, a)
 }
 
 // `plain`, `resolve_pair` and `propose` begin alike.
-fn with_p(line: &[u8], a: &[u8], b: &[u8], c: &[u8]) {
+fn with_p(out: &impl Print, line: &[u8], a: &[u8], b: &[u8], c: &[u8]) -> io::Result<()> {
     let second = program_lines::first(program_lines::after(line, b'p'));
     match second {
-        b'a' => commands::pair(a, b, c),
-        b'r' => smaller::propose(line, a, b),
-        _ => commands::plain(a, b),
+        b'a' => commands::pair(out, a, b, c),
+        b'r' => smaller::propose(out, line, a, b),
+        _ => commands::plain(out, a, b),
     }
 }
 
 // `check` and `classes` begin alike.
-fn check_or_classes(line: &[u8], a: &[u8], b: &[u8], c: &[u8]) {
+fn check_or_classes(out: &impl Print, line: &[u8], a: &[u8], b: &[u8], c: &[u8]) -> io::Result<()> {
     let second = program_lines::first(program_lines::after(line, b'c'));
     if second == b'l' {
-        smaller::classes(a, b, c);
-        return;
+        return smaller::classes(out, a, b, c);
     }
-    commands::check(a, b);
+    commands::check(out, a, b)
 }
 
 // `sample`, `small` and `smallwalk` begin alike.
-fn with_s(line: &[u8], a: &[u8], b: &[u8], c: &[u8]) {
+fn with_s(out: &impl Print, line: &[u8], a: &[u8], b: &[u8], c: &[u8]) -> io::Result<()> {
     let second = program_lines::first(program_lines::after(line, b's'));
     if second == b'a' {
-        commands::sample(line, a);
-        return;
+        return commands::sample(out, line, a);
     }
     let sixth = program_lines::first(program_lines::after(program_lines::after(line, b'l'), b'l'));
     if sixth == b'w' {
-        commands::small_walk(a, b, c);
-        return;
+        return commands::small_walk(out, a, b, c);
     }
-    smaller::small(line, a, b, c);
+    smaller::small(out, line, a, b, c)
 }
 
 // The answer to one line, whose words after the first are these bytes where they are bytes.
-fn answer(line: &[u8], a: &[u8], b: &[u8], c: &[u8]) {
+fn answer(out: &impl Print, line: &[u8], a: &[u8], b: &[u8], c: &[u8]) -> io::Result<()> {
     let letter = program_lines::first(line);
     match letter {
-        b'v' => commands::value(a),
-        b'e' => entry_or_early(line, a, b),
-        b't' => with_t(line, a),
-        b'p' => with_p(line, a, b, c),
-        b'b' => commands::fill(line, a, b'b'),
-        b'n' => commands::tree(a),
-        b'c' => check_or_classes(line, a, b, c),
-        b'w' => commands::walk(a, b, c),
-        b'm' => commands::match_urn(a, b),
-        b'l' => commands::log(a, b),
-        b'a' => commands::available(line, a, c),
-        b'f' => fields::feed(line, a, c),
-        b'k' => commands::keeps(line, a),
-        b'r' => commands::rings(line, a),
-        b's' => with_s(line, a, b, c),
-        _ => return,
+        b'v' => commands::value(out, a)?,
+        b'e' => entry_or_early(out, line, a, b)?,
+        b't' => with_t(out, line, a)?,
+        b'p' => with_p(out, line, a, b, c)?,
+        b'b' => commands::fill(out, line, a, b'b')?,
+        b'n' => commands::tree(out, a)?,
+        b'c' => check_or_classes(out, line, a, b, c)?,
+        b'w' => commands::walk(out, a, b, c)?,
+        b'm' => commands::match_urn(out, a, b)?,
+        b'l' => commands::log(out, a, b)?,
+        b'a' => commands::available(out, line, a, c)?,
+        b'f' => fields::feed(out, line, a, c)?,
+        b'k' => commands::keeps(out, line, a)?,
+        b'r' => commands::rings(out, line, a)?,
+        b's' => with_s(out, line, a, b, c)?,
+        _ => return Ok(()),
     }
-    print::text(b"\n");
+    print::text(out, "\n")
 }
 
-fn decoded(line: &[u8]) {
-    let mut a = io::large_buffer();
+fn decoded(out: &impl Print, line: &[u8]) -> io::Result<()> {
+    let mut a = room();
     let n = program_lines::decode(program_lines::word(line, 1), &mut a);
-    let mut b = io::large_buffer();
+    let mut b = room();
     let k = program_lines::decode(program_lines::word(line, 2), &mut b);
-    let mut c = io::large_buffer();
+    let mut c = room();
     let m = program_lines::decode(program_lines::word(line, 3), &mut c);
-    answer(line, &a[..n], &b[..k], &c[..m]);
+    answer(out, line, &a[..n], &b[..k], &c[..m])
 }
 
 // The answers to all lines of a text.
-fn answer_all(text: &[u8]) {
+fn answer_all(out: &impl Print, text: &[u8]) -> io::Result<()> {
     let end = text.len();
     let mut at = 0;
     while at < end {
         let line = program_lines::before(&text[at..end], b'\n');
-        decoded(line);
+        decoded(out, line)?;
         at = at + line.len() + 1;
     }
+    Ok(())
 }
 
 // Room for the longest file.
-fn room() -> [u8; 524288] {
+fn file_room() -> [u8; 524288] {
     [0u8; 524288]
 }
 
-// The file that argument i names.
-fn answer_file(i: usize) {
-    let mut name = io::buffer();
-    let k = os::arg(i, &mut name);
-    let fd = os::open_read(&name[..k]);
-    if fd < 0 {
-        os::fail(&name[..k]);
-        return;
+// The file that argument i names. One that cannot be read has no cases.
+fn answer_file<R: Runtime>(system: &System<R>, i: usize) -> io::Result<()> {
+    let mut name = path_room();
+    let k = system.arg(i, &mut name);
+    let mut file = match system.open(&name[..k]) {
+        Ok(file) => file,
+        Err(error) => return system.fail(&name[..k], error),
+    };
+    let mut text = file_room();
+    match read_full(&mut file, &mut text) {
+        Ok(n) => answer_all(&system.rt, &text[..n]),
+        Err(_) => Ok(()),
     }
-    let mut text = room();
-    let n = io::read_full(fd, &mut text);
-    libc::close(fd);
-    answer_all(&text[..n]);
 }
 
-fn main() {
-    let n = os::arg_count();
+fn main(rt: HostRuntime) -> io::Result<()> {
+    let system = System::new(rt, rt.stderr());
+    let n = system.arg_count();
     for i in 1..n {
-        answer_file(i);
+        answer_file(&system, i)?;
     }
+    Ok(())
 }

@@ -17,10 +17,8 @@ fn more(n: u64, b: u8) -> u64 {
 
 pub fn number(s: &[u8]) -> u32 {
     let mut n = 0;
-    let mut i = 0;
-    while i < s.len() {
-        n = more(n, s[i]);
-        i += 1;
+    for b in s {
+        n = more(n, *b);
     }
     if 4294967295 < n {
         return 0;

@@ -1,38 +1,36 @@
 // Answers as text on standard output.
-use libc::STDOUT_FILENO;
+use std::io;
 
-pub fn text(s: &[u8]) {
-    io::write_all(STDOUT_FILENO, s);
+pub fn text(out: &impl Print, s: &str) -> io::Result<()> {
+    out.print(s)
 }
 
-pub fn number(n: usize) {
-    io::print_decimal(STDOUT_FILENO, n as u64);
+pub fn number(out: &impl Print, n: usize) -> io::Result<()> {
+    print!(out; "{n}")
 }
 
 // A number after a space.
-pub fn next(n: usize) {
-    text(b" ");
-    number(n);
+pub fn next(out: &impl Print, n: usize) -> io::Result<()> {
+    print!(out; " {n}")
 }
 
 // Three numbers with spaces between.
-pub fn three(a: u8, b: u8, c: u8) {
-    number(a as usize);
-    next(b as usize);
-    next(c as usize);
+pub fn three(out: &impl Print, a: u8, b: u8, c: u8) -> io::Result<()> {
+    print!(out; "{a} {b} {c}")
 }
 
-fn byte(b: u8) {
-    io::print_hex(STDOUT_FILENO, b as u64, 2);
+fn byte(out: &impl Print, b: u8) -> io::Result<()> {
+    print!(out; "{b:02x}")
 }
 
 // Bytes in hex after a space, `-` for none.
-pub fn bytes(s: &[u8]) {
-    text(b" ");
+pub fn bytes(out: &impl Print, s: &[u8]) -> io::Result<()> {
+    text(out, " ")?;
     if s.len() == 0 {
-        text(b"-");
+        text(out, "-")?;
     }
-    for i in 0..s.len() {
-        byte(s[i]);
+    for b in s {
+        byte(out, *b)?;
     }
+    Ok(())
 }

@@ -4,40 +4,37 @@
 //   propose T M ROOM  refusal number, length, classes; the same
 use crate::commands::{room, written};
 use crate::print;
+use std::io;
 
-pub fn classes(t: &[u8], m: &[u8], p: &[u8]) {
-    print::number(small_library::check(t, m, p) as usize);
+pub fn classes(out: &impl Print, t: &[u8], m: &[u8], p: &[u8]) -> io::Result<()> {
+    print::number(out, small_library::check(t, m, p) as usize)
 }
 
-fn small_in(t: &[u8], m: &[u8], p: &[u8], buf: &mut [u8]) {
+fn small_in(out: &impl Print, t: &[u8], m: &[u8], p: &[u8], buf: &mut [u8]) -> io::Result<()> {
     let b = small_library::write(t, m, p, buf);
-    written(b.refusal, b.len, buf);
+    written(out, b.refusal, b.len, buf)
 }
 
-fn propose_in(t: &[u8], m: &[u8], buf: &mut [u8]) {
+fn propose_in(out: &impl Print, t: &[u8], m: &[u8], buf: &mut [u8]) -> io::Result<()> {
     let b = small_library::propose(t, m, buf);
-    written(b.refusal, b.len, buf);
+    written(out, b.refusal, b.len, buf)
 }
 
 // Both with so much room as the line's last word says.
-pub fn small(line: &[u8], t: &[u8], m: &[u8], p: &[u8]) {
+pub fn small(out: &impl Print, line: &[u8], t: &[u8], m: &[u8], p: &[u8]) -> io::Result<()> {
     let mut buf = room();
     let n = program_lines::number(program_lines::word(line, 4));
     if 70000 < n {
-        print::text(b"no such room");
-        return;
+        return print::text(out, "no such room");
     }
-    let a = 0;
-    small_in(t, m, p, &mut buf[a..n]);
+    small_in(out, t, m, p, &mut buf[..n])
 }
 
-pub fn propose(line: &[u8], t: &[u8], m: &[u8]) {
+pub fn propose(out: &impl Print, line: &[u8], t: &[u8], m: &[u8]) -> io::Result<()> {
     let mut buf = room();
     let n = program_lines::number(program_lines::word(line, 3));
     if 70000 < n {
-        print::text(b"no such room");
-        return;
+        return print::text(out, "no such room");
     }
-    let a = 0;
-    propose_in(t, m, &mut buf[a..n]);
+    propose_in(out, t, m, &mut buf[..n])
 }

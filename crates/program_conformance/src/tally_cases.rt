@@ -1,6 +1,8 @@
 // The command `tally T RECORDS REFUSALS V`: refusal number, and the records and refusal counts after the value. A record is
 // `chosen:used:skipped`; `;` stands between records and between counts, `-` for none.
 use crate::{numbers, print};
+use program_system::room;
+use std::io;
 use tally_library::Tally;
 
 // At most 32 records.
@@ -84,74 +86,71 @@ fn counts(text: &[u8], out: &mut [u32]) -> usize {
 }
 
 // What stands before element i: a semicolon between elements.
-fn between(i: usize) {
+fn between(out: &impl Print, i: usize) -> io::Result<()> {
     if i == 0 {
-        print::text(b" ");
+        print::text(out, " ")
     } else {
-        print::text(b";");
+        print::text(out, ";")
     }
 }
 
-fn print_record(items: [Tally; 32], i: usize) {
+fn print_record(out: &impl Print, items: [Tally; 32], i: usize) -> io::Result<()> {
     if 32 <= i {
-        return;
+        return Ok(());
     }
-    between(i);
+    between(out, i)?;
     let x = items[i];
-    print::number(x.chosen as usize);
-    print::text(b":");
-    print::number(x.used as usize);
-    print::text(b":");
-    print::number(x.skipped as usize);
+    print::number(out, x.chosen as usize)?;
+    print::text(out, ":")?;
+    print::number(out, x.used as usize)?;
+    print::text(out, ":")?;
+    print::number(out, x.skipped as usize)
 }
 
-fn print_records(items: [Tally; 32], n: usize) {
+fn print_records(out: &impl Print, items: [Tally; 32], n: usize) -> io::Result<()> {
     if n == 0 {
-        print::text(b" -");
+        print::text(out, " -")?;
     }
-    let mut i = 0;
-    while i < n {
-        print_record(items, i);
-        i += 1;
+    for i in 0..n {
+        print_record(out, items, i)?;
     }
+    Ok(())
 }
 
-fn print_count(x: u32, i: usize) {
-    between(i);
-    print::number(x as usize);
+fn print_count(out: &impl Print, x: u32, i: usize) -> io::Result<()> {
+    between(out, i)?;
+    print::number(out, x as usize)
 }
 
-fn print_counts(counts: &[u32]) {
+fn print_counts(out: &impl Print, counts: &[u32]) -> io::Result<()> {
     if counts.len() == 0 {
-        print::text(b" -");
+        print::text(out, " -")?;
     }
-    let mut i = 0;
-    while i < counts.len() {
-        print_count(counts[i], i);
-        i += 1;
+    for (i, x) in counts.iter().enumerate() {
+        print_count(out, *x, i)?;
     }
+    Ok(())
 }
 
-fn answer(t: &[u8], r: Sheet, counts: &mut [u32], v: &[u8]) {
+fn answer(out: &impl Print, t: &[u8], r: Sheet, counts: &mut [u32], v: &[u8]) -> io::Result<()> {
     let n = r.n;
     let items = r.items;
     let c = tally_library::month::value(t, items, n, counts, v);
     let a = c.answer;
     let after = c.records;
-    print::number(a.refusal as usize);
-    print_records(after, n);
-    print_counts(counts);
+    print::number(out, a.refusal as usize)?;
+    print_records(out, after, n)?;
+    print_counts(out, counts)
 }
 
-pub fn tally(line: &[u8], t: &[u8]) {
+pub fn tally(out: &impl Print, line: &[u8], t: &[u8]) -> io::Result<()> {
     let r = records(program_lines::word(line, 2));
     let mut c = [0u32; 16];
     let m = counts(program_lines::word(line, 3), &mut c);
     if 16 < m {
-        return;
+        return Ok(());
     }
-    let mut v = io::large_buffer();
+    let mut v = room();
     let k = program_lines::decode(program_lines::word(line, 4), &mut v);
-    let a = 0;
-    answer(t, r, &mut c[a..m], &v[..k]);
+    answer(out, t, r, &mut c[..m], &v[..k])
 }
