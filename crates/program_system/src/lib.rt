@@ -3,9 +3,9 @@
 // In: the runtime that `main` is given. Out: what it reads, at the start of a buffer, and why it cannot.
 #![tactic(auto)]
 
-ghost use Rattle.std.specs.Prelude.{◌≡◌, length, take, OnErr, IfOk};
+ghost use Rattle.std.specs.Prelude.{◌≡◌, ◌<◌, length, take, OnErr, IfOk};
 ghost use Rattle.std.specs.Io.{ReadsAtMost};
-ghost use Rattle.std.specs.Io.KnownBytes.{Consumes, Keeps};
+ghost use Rattle.std.specs.Io.KnownBytes.{Consumes, IsAtEnd, Keeps};
 ghost use Rattle.program_system.specs.Counts.{IsPrefixLen};
 
 use std::cell::Cell;
@@ -36,6 +36,10 @@ pub enum Source<I, F> {
 const NOT_OPEN: i32 = 9;
 
 impl<I: Read, F: Read> Read for Source<I, F> {
+    ghost use Rattle.program_system.specs.Sources.{source_remaining};
+
+    ghost remaining = { source_remaining I.remaining F.remaining };
+
     fn read(&mut self, buf: &mut [u8]) -> io::Result<usize> {
         match self {
             Source::Input(input) => input.read(buf),
@@ -122,6 +126,7 @@ fn without_number(text: &str) -> &str {
 pub fn read_full<F: Read>(from: &mut F, buf: &mut [u8]) -> io::Result<usize>
     ensures bound { ReadsAtMost result buf.new }
     ensures ok { IfOk result (λ n. Consumes (F.remaining from.old) (F.remaining from.new) (take n buf.new)) }
+    ensures empty { IfOk result (λ n. n ≡ 0 → 0 < length buf.old → IsAtEnd (F.remaining from.new)) }
     ensures err { OnErr result (Keeps (F.remaining from.old) (F.remaining from.new)) }
 {
     let mut done = 0;
@@ -152,4 +157,50 @@ pub fn path_room() -> [u8; 4096]
     ensures { 4096 ≡ length result }
 {
     [0; 4096]
+}
+
+#[cfg(test)]
+mod tests {
+    use super::*;
+    use std::test::Fail;
+
+    // Gives a byte at a time, so many, and then fails.
+    #[derive(Drop)]
+    struct Failing {
+        left: u8,
+    }
+
+    impl Read for Failing {
+        fn read(&mut self, buf: &mut [u8]) -> io::Result<usize> {
+            if self.left == 0 {
+                return Err(io::Error::from(ErrorKind::BrokenPipe));
+            }
+            if buf.len() == 0 {
+                return Ok(0);
+            }
+            self.left -= 1;
+            buf[0] = self.left;
+            Ok(1)
+        }
+    }
+
+    #[test]
+    fn what_was_read_before_a_failure_counts(rt: HostRuntime) -> Result<(), Fail> {
+        let mut buf = [9u8; 4];
+        let n = read_full(&mut Failing { left: 2 }, &mut buf)?;
+        assert_eq!(rt; n, 2);
+        assert_eq!(rt; buf, [1, 0, 9, 9]);
+        let none = read_full(&mut Failing { left: 0 }, &mut buf);
+        assert!(rt; none.is_err());
+        Ok(())
+    }
+
+    #[test]
+    fn a_reason_has_no_number(rt: HostRuntime) {
+        assert_eq!(rt;
+            without_number("Is a directory (os error 21)"),
+            "Is a directory"
+        );
+        assert_eq!(rt; without_number("invalid filename"), "invalid filename");
+    }
 }

@@ -7,5 +7,5 @@ loop-done-preserved g c = record {
   same_length = search rules;
   within = search rules;
   filled = Consumes-filled _ _ _ c.loop-done.done _ c.in-Ok.n c.loop-done.buf c.read.new.buf c.loop-done.invariant.within
-    c.in-Ok.ensures.bound.0 c.loop-done.invariant.filled c.in-Ok.ensures.bytes.0;
+      c.in-Ok.ensures.bound.0 c.loop-done.invariant.filled c.in-Ok.ensures.bytes.0;
 }
