@@ -1,0 +1,14 @@
+use Prim.Native.Nat.{◌≤◌, ◌-◌}
+use mathlib.Core.Path.{◌≡◌, sym, ◌∙◌}
+use lib.ListN.{length, length-set}
+use native.Mathlib.Omega.{arith}
+use Rattle.base_lists.proofs.Filled.{Filled, filled_none, filled_more, filled-all}
+use Rattle.theory_minimal.specs.Refine.{leader, same_class}
+use borrow.Author.Rules.{rules}
+use Rattle.small_classes.proofs.numbers.first_states.Given as goal
+
+abbrev pub invariant-loop-i : goal.invariant-loop-i
+invariant-loop-i l = (l.i ≤ l.n) × (length l.q ≡ l.n) × Filled (leader (same_class l.p)) l.q l.i
+
+abbrev pub decreases-loop-i : goal.decreases-loop-i
+decreases-loop-i l = l.n - l.i
