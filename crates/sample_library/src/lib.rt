@@ -4,9 +4,6 @@
 // seed has gone on once for each choice.
 //
 //   entry.rt  one entry written
-//
-// The kit's borrow checker does not cover a reference to a struct, so `sample_value_make`, which has the lent seed, is proved
-// by a walk of its MIR by hand. It is thin: all decisions are made in `make_from`.
 #![tactic(auto)]
 
 mod entry;

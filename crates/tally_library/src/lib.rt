@@ -6,9 +6,6 @@
 //   judge.rt     a value's resolution, with a refusal counted
 //   records.rt   an accepted resolution is added to its signal's record
 //   month.rt     the same on records that are handed over by value
-//
-// The kit's borrow checker does not cover a reference to a struct, so `tally_value` and `records::add`, which have the lent
-// records, are proved by walks of their MIR by hand. Both are thin: all decisions are made in functions that it covers.
 #![tactic(auto)]
 
 mod judge;

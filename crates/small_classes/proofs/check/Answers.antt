@@ -1,7 +1,6 @@
 use lib.ListN.{length-take}
 use native.Mathlib.Omega.{arith}
 use Rattle.small_classes.proofs.CheckLaws.{many-fits, long-fits}
-use borrow.Author.Rules.{rules}
 use Rattle.small_classes.proofs.check.Goals as goal
 
 pub returns-then-n-gt-MOST_STATES : goal.returns-then-n-gt-MOST_STATES

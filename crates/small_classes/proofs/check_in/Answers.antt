@@ -1,11 +1,9 @@
 use mathlib.Core.Path.{◌∙◌}
 use lib.ListN.{length}
-use borrow.Author.Tests.{not-true, not-false}
 use Rattle.theory_minimal.specs.Refine.{blocks}
 use Rattle.small_rounds.specs.Stored.{stored_machine, is_stored}
 use Rattle.small_rounds.proofs.TestLaws.{stored_of}
 use Rattle.small_classes.proofs.CheckLaws.{rows-fits, fits-yes, alike_is, taken}
-use borrow.Author.Rules.{rules}
 use Rattle.small_classes.proofs.check_in.Goals as goal
 
 pub returns-then-not-first_alike : goal.returns-then-not-first_alike
@@ -26,4 +24,4 @@ fits-requires c = let rows = c.args.rows.now in let n = c.args.n in let head = c
 pub returns : goal.returns
 returns c = let rows = c.args.rows.now in let n = c.args.n in let head = c.args.head in let k = c.args.k in
     fits-yes rows n head k c.args.p.now _ (alike_is (is_stored rows n head k) _ _ (length c.args.x.now) (length c.args.y.now) n c.requires.1
-    c.requires.2 c.first_alike.ensures.value c.if-not-first_alike.false) c.fits2.ensures
+    c.requires.2 c.first_alike.ensures.value c.if-not-first_alike.false) c.fits.ensures

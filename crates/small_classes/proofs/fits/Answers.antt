@@ -1,13 +1,11 @@
 use mathlib.Core.Path.{sym, ap, ◌∙◌}
 use lib.ListN.{length}
-use borrow.Author.Tests.{not-true, not-false}
 use native.Mathlib.Omega.{arith}
 use Rattle.base_lists.proofs.Tabulated.{tabulate-length}
 use Rattle.theory_minimal.specs.Refine.{leader, same_class}
 use Rattle.small_rounds.specs.Stored.{stored_machine}
 use Rattle.small_rounds.proofs.RoundLaws.{refined-length}
 use Rattle.small_classes.proofs.CheckLaws.{start-no, blocks-no, fits-rest}
-use borrow.Author.Rules.{rules}
 use Rattle.small_classes.proofs.fits.Goals as goal
 
 pub returns-then-p-ne0 : goal.returns-then-p-ne0
@@ -19,10 +17,10 @@ returns-then-not-same c = blocks-no (stored_machine c.args.rows.now c.args.n c.a
 
 pub discover-count-requires : goal.discover-count-requires
 discover-count-requires c = let n = c.args.n in (
-      c.requires.0,
-      ap length c.requires.2 ∙ refined-length (stored_machine c.args.rows.now n c.args.head c.args.k) n,
-      ap length c.first_states.ensures ∙ tabulate-length (leader (same_class c.args.p.now)) n,
-    )
+  c.requires.0,
+  ap length c.requires.2 ∙ refined-length (stored_machine c.args.rows.now n c.args.head c.args.k) n,
+  ap length c.first_states.ensures ∙ tabulate-length (leader (same_class c.args.p.now)) n,
+)
 
 pub all_found-requires : goal.all_found-requires
 all_found-requires c = let discover = c.discover-count.ensures in

@@ -6,16 +6,15 @@ use Rattle.theory_minimal.specs.Refine.{block_number}
 use Rattle.small_rounds.specs.Stored.{stored_machine}
 use Rattle.small_rounds.proofs.RoundLaws.{refined-length}
 use Rattle.small_classes.proofs.CheckLaws.{firsts-of, proposal-is}
-use borrow.Author.Rules.{rules}
 use Rattle.small_classes.proofs.number.Goals as goal
 
 pub number-requires : goal.number-requires
 number-requires c = let n = c.args.n in (
-      c.requires.0.few,
-      ap length c.requires.2 ∙ refined-length (stored_machine c.args.rows.now n c.args.head c.args.k) n,
-      c.requires.1,
-      firsts-of (stored_machine c.args.rows.now n c.args.head c.args.k) c.requires.0.formed c.args.x.now c.requires.2,
-    )
+  c.requires.0.few,
+  ap length c.requires.2 ∙ refined-length (stored_machine c.args.rows.now n c.args.head c.args.k) n,
+  c.requires.1,
+  firsts-of (stored_machine c.args.rows.now n c.args.head c.args.k) c.requires.0.formed c.args.x.now c.requires.2,
+)
 
 pub discover-count-requires : goal.discover-count-requires
 discover-count-requires c = (c.requires.0, ap length c.requires.2 ∙ refined-length (stored_machine c.args.rows.now c.args.n c.args.head c.args.k) c.args.n, c.requires.3)

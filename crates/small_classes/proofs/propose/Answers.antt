@@ -1,7 +1,6 @@
 use lib.ListN.{length-take}
 use native.Mathlib.Omega.{arith}
 use Rattle.small_classes.proofs.CheckLaws.{many-proposed, other-proposed}
-use borrow.Author.Rules.{rules}
 use Rattle.small_classes.proofs.propose.Goals as goal
 
 pub returns-then-n-gt-MOST_STATES : goal.returns-then-n-gt-MOST_STATES

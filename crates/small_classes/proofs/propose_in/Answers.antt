@@ -1,11 +1,9 @@
 use mathlib.Core.Path.{◌∙◌}
 use lib.ListN.{length}
-use borrow.Author.Tests.{not-true, not-false}
 use Rattle.theory_minimal.specs.Refine.{blocks}
 use Rattle.small_rounds.specs.Stored.{stored_machine, is_stored}
 use Rattle.small_rounds.proofs.TestLaws.{stored_of}
 use Rattle.small_classes.proofs.CheckLaws.{rows-proposed, proposed-yes, alike_is, taken}
-use borrow.Author.Rules.{rules}
 use Rattle.small_classes.proofs.propose_in.Goals as goal
 
 pub returns-then-not-first_alike : goal.returns-then-not-first_alike

@@ -1,12 +1,9 @@
-use native.Mathlib.Omega.{arith}
 use Prim.Native.Nat.{ℕ, ◌+◌, ◌-◌, ◌≤◌, ◌<◌}
-use mathlib.Core.Path.{◌≡◌, ap, ◌∙◌}
+use mathlib.Core.Path.{◌≡◌}
 use mathlib.Core.Bool.{false, not}
 use lib.ListN.{length, get_or}
 use Rattle.base_numbers.specs.Numbers.{most_nodes}
 use Rattle.node_search.specs.Arrays.{childless}
-use Rattle.node_search.proofs.MarkLaws.{marks-start, marks-more}
-use borrow.Author.Rules.{rules}
 use Rattle.node_search.proofs.marks.mark_parents.Given as goal
 
 abbrev pub invariant-loop-i : goal.invariant-loop-i

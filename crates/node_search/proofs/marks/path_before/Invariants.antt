@@ -1,10 +1,6 @@
-use native.Mathlib.Omega.{arith}
 use Prim.Native.Nat.{◌≤◌}
-use mathlib.Core.Path.{◌≡◌, refl}
+use mathlib.Core.Path.{◌≡◌}
 use Rattle.node_search.specs.Arrays.{last_path}
-use Rattle.node_search.proofs.MarkLaws.{before-found, before_more, before-none}
-use Rattle.node_search.proofs.TextLaws.{text_in}
-use borrow.Author.Rules.{rules}
 use Rattle.node_search.proofs.marks.path_before.Given as goal
 
 abbrev pub invariant-loop-j : goal.invariant-loop-j

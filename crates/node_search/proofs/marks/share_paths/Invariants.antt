@@ -1,15 +1,8 @@
-use native.Mathlib.Omega.{arith}
 use Prim.Native.Nat.{ℕ, ◌-◌, ◌≤◌}
-use mathlib.Core.Path.{◌≡◌, ◌∙◌}
-use lib.ListN.{length, get_or, length-set}
-use lib.Seq.{get_or-set_other}
+use mathlib.Core.Path.{◌≡◌}
+use lib.ListN.{length, get_or}
 use Rattle.base_numbers.specs.Numbers.{most_nodes}
-use Rattle.base_lists.proofs.Numbers.{one_byte}
-use Rattle.base_text.proofs.Turns.{common-le}
 use Rattle.node_search.specs.Arrays.{SharedIn}
-use Rattle.node_search.proofs.MarkLaws.{shared-more}
-use Rattle.node_search.proofs.TextLaws.{text_in}
-use borrow.Author.Rules.{rules}
 use Rattle.node_search.proofs.marks.share_paths.Given as goal
 
 abbrev pub invariant-loop-i : goal.invariant-loop-i

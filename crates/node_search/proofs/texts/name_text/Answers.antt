@@ -1,5 +1,4 @@
 use Rattle.node_search.proofs.TextLaws.{text-there, text-past}
-use borrow.Author.Rules.{rules}
 use Rattle.node_search.proofs.texts.name_text.Goals as goal
 
 pub returns-then-i-lt-MOST_CATEGORIES : goal.returns-then-i-lt-MOST_CATEGORIES

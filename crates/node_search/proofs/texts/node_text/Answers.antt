@@ -1,6 +1,5 @@
 use Rattle.base_numbers.specs.Numbers.{most_nodes}
 use Rattle.node_search.proofs.TextLaws.{text-there, text-past}
-use borrow.Author.Rules.{rules}
 use Rattle.node_search.proofs.texts.node_text.Goals as goal
 
 pub returns-then-i-lt-MOST_NODES : goal.returns-then-i-lt-MOST_NODES

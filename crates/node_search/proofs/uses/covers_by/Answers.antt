@@ -1,5 +1,4 @@
 use Rattle.node_search.proofs.UseLaws.{covers_less, covers-all}
-use borrow.Author.Rules.{rules}
 use Rattle.node_search.proofs.uses.covers_by.Goals as goal
 
 pub returns-then-n-all : goal.returns-then-n-all

@@ -1,6 +1,5 @@
 use Rattle.base_text.specs.Text.{lowered}
 use Rattle.node_search.proofs.UseLaws.{departs-there, departs-not}
-use borrow.Author.Rules.{rules}
 use Rattle.node_search.proofs.uses.differs_after.Goals as goal
 
 pub returns-then-same-l : goal.returns-then-same-l

@@ -1,13 +1,7 @@
 use Rattle.base_text.specs.Text.{lowered}
-use native.Mathlib.Omega.{arith}
 use Prim.Native.Nat.{◌≤◌, ◌-◌}
-use mathlib.Core.Path.{◌≡◌, ap, sym, ◌∙◌}
-use native.Mathlib.Nat.{sub-zero}
-use Rattle.theory_resolution.specs.Names.{same_name}
+use mathlib.Core.Path.{◌≡◌}
 use Rattle.node_search.specs.Search.{find_name}
-use Rattle.node_search.proofs.UseLaws.{name-found, name-more, name-none}
-use Rattle.node_search.proofs.TextLaws.{text_in_lem}
-use borrow.Author.Rules.{rules}
 use Rattle.node_search.proofs.uses.find_name.Given as goal
 
 abbrev pub invariant-loop-i : goal.invariant-loop-i

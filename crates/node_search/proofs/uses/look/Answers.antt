@@ -6,26 +6,28 @@ use mathlib.Core.Path.{ap, ◌∙◌}
 use Rattle.node_search.specs.declared.uses.Search.{Search}
 use Rattle.node_search.proofs.UseLaws.{look-counted, look-departs, departs-same, look-met}
 use Rattle.node_search.proofs.TextLaws.{text_in_lem}
-use borrow.Author.Rules.{rules}
 use Rattle.node_search.proofs.uses.look.Goals as goal
 
 pub count_differing-requires : goal.count_differing-requires
 count_differing-requires c = (omega arith, omega arith)
 
 pub returns-then-s-l : goal.returns-then-s-l
-returns-then-s-l c = let if1 = c.if-s-l.true in record { value = look-counted c.args.t.now c.args.at.now c.args.len.now c.args.inner.now (lowered c.args.w.now) c.args.i c.args.l c.args.s if1
-          c.count_differing.ensures; compared_bound = omega (arith, if1, c.requires, ap (λ (s : Search). s.compared) c.count_differing.ensures) }
+returns-then-s-l c = let if1 = c.if-s-l.true in record {
+  value = look-counted c.args.t.now c.args.at.now c.args.len.now c.args.inner.now (lowered c.args.w.now) c.args.i c.args.l c.args.s if1
+      c.count_differing.ensures;
+  compared_bound = omega (arith, if1, c.requires, ap (λ (s : Search). s.compared) c.count_differing.ensures);
+}
 
 pub count_differing-requires-then-differs_after : goal.count_differing-requires-then-differs_after
 count_differing-requires-then-differs_after c = (
-      omega (
-        arith,
-        c.requires,
-        departs-same c.node_text-p.result.now (lowered c.args.w.now) c.args.s.same c.args.l
-            c.differs_after.ensures c.if-differs_after.true,
-      ),
-      omega (arith, c.requires),
-    )
+  omega (
+    arith,
+    c.requires,
+    departs-same c.node_text-p.result.now (lowered c.args.w.now) c.args.s.same c.args.l
+        c.differs_after.ensures c.if-differs_after.true,
+  ),
+  omega (arith, c.requires),
+)
 
 pub returns-then-differs_after : goal.returns-then-differs_after
 returns-then-differs_after c = let if1 = c.if-s-l.false in
@@ -36,6 +38,9 @@ returns-then-differs_after c = let if1 = c.if-s-l.false in
 pub returns : goal.returns
 returns c = let l = c.args.l in
     let s = c.args.s in let w = c.args.w.now in let node-text-result = c.node_text-p.result.now in
-    let if1 = c.if-s-l.false in record { value = look-met c.args.t.now c.args.at.now c.args.len.now c.args.inner.now (lowered w) c.args.i l s if1 (text_in_lem _ _ _ _ _ c.node_text-p.ensures.result_value c.requires.0)
+    let if1 = c.if-s-l.false in record {
+      value = look-met c.args.t.now c.args.at.now c.args.len.now c.args.inner.now (lowered w) c.args.i l s if1 (text_in_lem _ _ _ _ _ c.node_text-p.ensures.result_value c.requires.0)
           (c.common_lowered_next-n.ensures ∙ ap (λ u. common_next node-text-result u s.same l)
-          (taken-small w c.args.small c.requires.3)) c.meet.ensures.value; compared_bound = omega (arith, c.meet.ensures.compared_bound, c.requires) }
+          (taken-small w c.args.small c.requires.3)) c.meet.ensures.value;
+      compared_bound = omega (arith, c.meet.ensures.compared_bound, c.requires);
+    }

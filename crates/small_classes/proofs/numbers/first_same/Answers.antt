@@ -1,11 +1,7 @@
-use Prim.Native.Nat.{◌≤◌, ◌-◌}
-use mathlib.Core.Path.{◌≡◌}
 use native.Mathlib.Omega.{arith}
 use borrow.Author.Tests.{eq-eqb, ne_eqb}
 use Rattle.base_lists.proofs.Search.{seek-start, seek-more, seek_hit, seek-end}
-use Rattle.base_lists.specs.Search.{seek}
 use Rattle.theory_minimal.specs.Refine.{same_class}
-use borrow.Author.Rules.{rules}
 use Rattle.small_classes.proofs.numbers.first_same.Goals as goal
 
 pub loop-j-init : goal.loop-j-init

@@ -1,6 +1,5 @@
 use borrow.Author.Tests.{eq-eqb, ne_eqb}
 use native.Mathlib.Numerals.{add-one}
-use borrow.Author.Rules.{rules}
 use Rattle.small_classes.proofs.numbers.next_number.Goals as goal
 
 pub returns-then-f-i : goal.returns-then-f-i

@@ -1,12 +1,9 @@
-use Prim.Native.Nat.{◌≤◌, ◌-◌}
-use mathlib.Core.Path.{◌≡◌, sym, ◌∙◌}
-use lib.ListN.{length, length-set}
+use mathlib.Core.Path.{sym, ◌∙◌}
+use lib.ListN.{length-set}
 use native.Mathlib.Omega.{arith}
-use Rattle.base_lists.specs.Search.{count}
-use Rattle.base_lists.proofs.Filled.{Filled, filled_none, filled_more, filled-all}
-use Rattle.theory_minimal.specs.Refine.{is_first, block_number}
+use Rattle.base_lists.proofs.Filled.{filled_none, filled_more, filled-all}
+use Rattle.theory_minimal.specs.Refine.{block_number}
 use Rattle.small_classes.proofs.NumberLaws.{first_below, number-value, number-next, number_small, number-none}
-use borrow.Author.Rules.{rules}
 use Rattle.small_classes.proofs.numbers.number.Goals as goal
 
 pub loop-i-init : goal.loop-i-init
@@ -15,8 +12,7 @@ loop-i-init c = (omega arith, c.requires.2, number-none c.args.b.now, filled_non
 pub number_for-requires : goal.number_for-requires
 number_for-requires c = let b = c.args.b.now in let n = c.args.n in
     let loop-test = c.loop-i-test.true in let i = c.loop-i.i in
-    let inv = c.loop-i.invariant in let next = c.loop-i.next in
-    (
+    let inv = c.loop-i.invariant in let next = c.loop-i.next in (
       omega (arith, inv.1, first_below b n c.requires.3 i loop-test c.wide-f.result c.wide-f.ensures.0),
       number_small b n i next loop-test c.requires.0 inv.2,
     )
@@ -38,8 +34,7 @@ loop-i-preserved c = let b = c.args.b.now in
     let the-c = c.loop-i.c in
     let i = c.loop-i.i in
     let inv = c.loop-i.invariant in
-    let next = c.loop-i.next in
-    (
+    let next = c.loop-i.next in (
       omega (arith, loop-test),
       length-set the-c i _ ∙ inv.1,
       number-next b n c.requires.3 i loop-test wide-result wide.0 next c.next_number-next.result inv.2 c.next_number-next.ensures,

@@ -1,12 +1,9 @@
 use Prim.Native.Nat.{◌≤◌, ◌-◌}
-use mathlib.Core.Path.{◌≡◌, sym, ◌∙◌}
-use lib.ListN.{length, length-set}
-use native.Mathlib.Omega.{arith}
+use mathlib.Core.Path.{◌≡◌}
+use lib.ListN.{length}
 use Rattle.base_lists.specs.Search.{count}
-use Rattle.base_lists.proofs.Filled.{Filled, filled_none, filled_more, filled-all}
+use Rattle.base_lists.proofs.Filled.{Filled}
 use Rattle.theory_minimal.specs.Refine.{is_first, block_number}
-use Rattle.small_classes.proofs.NumberLaws.{first_below, number-value, number-next, number_small, number-none}
-use borrow.Author.Rules.{rules}
 use Rattle.small_classes.proofs.numbers.number.Given as goal
 
 abbrev pub invariant-loop-i : goal.invariant-loop-i

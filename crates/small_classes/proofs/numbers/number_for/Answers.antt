@@ -1,5 +1,4 @@
 use borrow.Author.Tests.{eq-eqb, ne_eqb}
-use borrow.Author.Rules.{rules}
 use Rattle.small_classes.proofs.numbers.number_for.Goals as goal
 
 pub returns-then-f-i : goal.returns-then-f-i

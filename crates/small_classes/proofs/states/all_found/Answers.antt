@@ -1,14 +1,10 @@
-use Prim.Native.Nat.{◌≤◌, ◌-◌, ◌+◌}
-use mathlib.Core.Path.{◌≡◌, refl, sym, ◌∙◌}
-use mathlib.Core.Bool.{true}
+use mathlib.Core.Path.{refl, sym, ◌∙◌}
 use lib.ListN.{take}
-use borrow.Author.Tests.{not-true, not-false}
 use native.Mathlib.Omega.{arith}
 use Rattle.base_lists.proofs.Below.{all-stop, all_more, all_done}
 use Rattle.base_lists.specs.Lists.{all_below}
 use Rattle.theory_minimal.specs.Proposal.{class_count}
 use Rattle.theory_minimal.specs.Test.{class_found}
-use borrow.Author.Rules.{rules}
 use Rattle.small_classes.proofs.states.all_found.Goals as goal
 
 pub loop-c-init : goal.loop-c-init
@@ -30,9 +26,9 @@ loop-c-smaller c = omega (arith, c.loop-c-test.true)
 
 pub loop-c-preserved : goal.loop-c-preserved
 loop-c-preserved c = let the-c = c.loop-c.c in let inv = c.loop-c.invariant in (
-      omega (arith, c.loop-c-test.true),
-      all_more (class_found c.args.p.now (take c.args.count c.args.list.now)) the-c inv.1 (sym c.class_found.ensures ∙ c.if-not-class_found.false),
-    )
+  omega (arith, c.loop-c-test.true),
+  all_more (class_found c.args.p.now (take c.args.count c.args.list.now)) the-c inv.1 (sym c.class_found.ensures ∙ c.if-not-class_found.false),
+)
 
 pub returns : goal.returns
 returns c = let p = c.args.p.now in let inv = c.loop-c.invariant in

@@ -1,14 +1,9 @@
 use Prim.Native.Nat.{◌≤◌, ◌-◌, ◌+◌}
-use mathlib.Core.Path.{◌≡◌, refl, sym, ◌∙◌}
+use mathlib.Core.Path.{◌≡◌}
 use mathlib.Core.Bool.{true}
 use lib.ListN.{take}
-use borrow.Author.Tests.{not-true, not-false}
-use native.Mathlib.Omega.{arith}
-use Rattle.base_lists.proofs.Below.{all-stop, all_more, all_done}
 use Rattle.base_lists.specs.Lists.{all_below}
-use Rattle.theory_minimal.specs.Proposal.{class_count}
 use Rattle.theory_minimal.specs.Test.{class_found}
-use borrow.Author.Rules.{rules}
 use Rattle.small_classes.proofs.states.all_found.Given as goal
 
 abbrev pub invariant-loop-c : goal.invariant-loop-c

@@ -1,12 +1,9 @@
-use Prim.Native.Nat.{◌≤◌, ◌-◌}
-use mathlib.Core.Path.{◌≡◌, sym, ◌∙◌}
+use mathlib.Core.Path.{sym, ◌∙◌}
 use lib.ListN.{take}
 use native.Mathlib.Omega.{arith}
 use Rattle.base_lists.proofs.Search.{seek-start, seek-more}
-use Rattle.base_lists.specs.Search.{seek}
 use Rattle.theory_minimal.specs.Test.{found_class}
 use Rattle.small_classes.proofs.FoundLaws.{class-hit, class-pass, class-miss}
-use borrow.Author.Rules.{rules}
 use Rattle.small_classes.proofs.states.class_found.Goals as goal
 
 pub loop-i-init : goal.loop-i-init
@@ -26,8 +23,7 @@ loop-i-preserved c = let the-c = c.args.c in
     let wide = c.wide-s.ensures in let wide-result = c.wide-s.result in
     let loop-test = c.loop-i-test.true in
     let i = c.loop-i.i in
-    let inv = c.loop-i.invariant in
-    (
+    let inv = c.loop-i.invariant in (
       omega (arith, loop-test),
       seek-more (found_class p (take count list) the-c) count i loop-test
           (class-pass p list count the-c c.requires.0 i wide-result loop-test wide.0 (λ q. c.if-wide-c.false (c.wide.ensures.0 ∙ q))) inv.1,

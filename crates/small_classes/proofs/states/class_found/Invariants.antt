@@ -1,12 +1,8 @@
 use Prim.Native.Nat.{◌≤◌, ◌-◌}
-use mathlib.Core.Path.{◌≡◌, sym, ◌∙◌}
+use mathlib.Core.Path.{◌≡◌}
 use lib.ListN.{take}
-use native.Mathlib.Omega.{arith}
-use Rattle.base_lists.proofs.Search.{seek-start, seek-more}
 use Rattle.base_lists.specs.Search.{seek}
 use Rattle.theory_minimal.specs.Test.{found_class}
-use Rattle.small_classes.proofs.FoundLaws.{class-hit, class-pass, class-miss}
-use borrow.Author.Rules.{rules}
 use Rattle.small_classes.proofs.states.class_found.Given as goal
 
 abbrev pub invariant-loop-i : goal.invariant-loop-i

@@ -1,10 +1,8 @@
-use Prim.Native.Nat.{◌≤◌, ◌-◌}
-use mathlib.Core.Path.{◌≡◌, refl, sym, ◌∙◌}
-use lib.ListN.{length, length-set}
+use mathlib.Core.Path.{refl, sym, ◌∙◌}
+use lib.ListN.{length-set}
 use native.Mathlib.Omega.{arith}
-use Rattle.base_lists.proofs.Filled.{Filled, filled_none, filled_more, filled-all}
+use Rattle.base_lists.proofs.Filled.{filled_none, filled_more, filled-all}
 use Rattle.small_classes.specs.Found.{zero_at}
-use borrow.Author.Rules.{rules}
 use Rattle.small_classes.proofs.states.clear.Goals as goal
 
 pub loop-i-init : goal.loop-i-init

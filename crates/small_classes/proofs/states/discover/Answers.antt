@@ -1,17 +1,12 @@
-use Prim.Native.Nat.{◌≤◌, ◌-◌}
-use mathlib.Core.Path.{◌≡◌, sym, ◌∙◌}
-use lib.ListN.{take}
+use mathlib.Core.Path.{sym, ◌∙◌}
 use native.Mathlib.Omega.{arith}
 use Rattle.small_rounds.specs.Stored.{stored_machine}
-use Rattle.small_classes.specs.Found.{Kept}
-use Rattle.small_classes.proofs.FoundLaws.{found_at, found-begin, kept-begin, kept-state, found-more, found-grows, found_all}
-use borrow.Author.Rules.{rules}
+use Rattle.small_classes.proofs.FoundLaws.{found-begin, kept-begin, kept-state, found-more, found-grows, found_all}
 use Rattle.small_classes.proofs.states.discover.Goals as goal
 
 pub loop-i-init : goal.loop-i-init
 loop-i-init c = let head = c.args.head in let k = c.args.k in
-    let list = c.args.list.now in let n = c.args.n in let rows = c.args.rows.now in
-    (
+    let list = c.args.list.now in let n = c.args.n in let rows = c.args.rows.now in (
       omega arith,
       kept-begin (stored_machine rows n head k) c.requires.0.formed.some-state list c.requires.1 c.clear.new.seen
           c.clear.ensures,

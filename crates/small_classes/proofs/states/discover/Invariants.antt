@@ -1,11 +1,9 @@
 use Prim.Native.Nat.{◌≤◌, ◌-◌}
-use mathlib.Core.Path.{◌≡◌, sym, ◌∙◌}
+use mathlib.Core.Path.{◌≡◌}
 use lib.ListN.{take}
-use native.Mathlib.Omega.{arith}
 use Rattle.small_rounds.specs.Stored.{stored_machine}
 use Rattle.small_classes.specs.Found.{Kept}
-use Rattle.small_classes.proofs.FoundLaws.{found_at, found-begin, kept-begin, kept-state, found-more, found-grows, found_all}
-use borrow.Author.Rules.{rules}
+use Rattle.small_classes.proofs.FoundLaws.{found_at}
 use Rattle.small_classes.proofs.states.discover.Given as goal
 
 abbrev pub invariant-loop-i : goal.invariant-loop-i

@@ -1,11 +1,8 @@
 use Prim.Native.Nat.{◌≤◌, ◌<◌, ◌-◌}
-use mathlib.Core.Path.{◌≡◌, ap, ◌∙◌}
+use mathlib.Core.Path.{◌≡◌}
 use lib.ListN.{length}
-use native.Mathlib.Omega.{arith}
-use Rattle.base_lists.proofs.Search.{highest-none, highest-more}
 use Rattle.base_lists.specs.Search.{highest}
 use Rattle.theory_minimal.specs.Proposal.{class_of}
-use borrow.Author.Rules.{rules}
 use Rattle.small_classes.proofs.states.highest_class.Given as goal
 
 abbrev pub invariant-loop-i : goal.invariant-loop-i

@@ -1,11 +1,8 @@
-use Prim.Native.Nat.{◌≤◌, ◌-◌}
 use mathlib.Core.Path.{refl, sym, ◌∙◌}
 use native.Mathlib.Omega.{arith}
 use Rattle.small_rounds.specs.Stored.{stored_machine}
-use Rattle.small_classes.specs.Found.{Turned}
 use Rattle.small_rounds.proofs.StoredLaws.{row-end, row_small}
 use Rattle.small_classes.proofs.FoundLaws.{turned_none, turned_more, turned-all}
-use borrow.Author.Rules.{rules}
 use Rattle.small_classes.proofs.states.turn.Goals as goal
 
 pub overflow_mul-a : goal.overflow_mul-a

@@ -1,11 +1,6 @@
 use Prim.Native.Nat.{◌≤◌, ◌-◌}
-use mathlib.Core.Path.{refl, sym, ◌∙◌}
-use native.Mathlib.Omega.{arith}
 use Rattle.small_rounds.specs.Stored.{stored_machine}
 use Rattle.small_classes.specs.Found.{Turned}
-use Rattle.small_rounds.proofs.StoredLaws.{row-end, row_small}
-use Rattle.small_classes.proofs.FoundLaws.{turned_none, turned_more, turned-all}
-use borrow.Author.Rules.{rules}
 use Rattle.small_classes.proofs.states.turn.Given as goal
 
 abbrev pub invariant-loop-s : goal.invariant-loop-s
