@@ -1,6 +1,5 @@
 use mathlib.Core.Path.{◌∙◌}
 use Rattle.machine_symbols.proofs.SymbolLaws.{entry_in, entry-out}
-use borrow.Author.Rules.{rules}
 use Rattle.machine_symbols.proofs.entry_at.Goals as goal
 
 pub returns-then-s-lt136 : goal.returns-then-s-lt136

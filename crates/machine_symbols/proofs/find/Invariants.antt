@@ -1,10 +1,6 @@
-use native.Mathlib.Omega.{arith}
-use native.Mathlib.Nat.{sub-zero}
 use Prim.Native.Nat.{◌≤◌, ◌-◌}
-use mathlib.Core.Path.{◌≡◌, ap, sym}
+use mathlib.Core.Path.{◌≡◌}
 use Rattle.machine_symbols.specs.Listed.{triple_index}
-use Rattle.machine_symbols.proofs.SymbolLaws.{index-found, index-more, index-end}
-use borrow.Author.Rules.{rules}
 use Rattle.machine_symbols.proofs.find.Given as goal
 
 abbrev pub invariant-loop-k : goal.invariant-loop-k

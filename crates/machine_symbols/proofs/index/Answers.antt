@@ -1,10 +1,6 @@
 use native.Mathlib.Omega.{arith}
-use Prim.Native.Nat.{◌-◌, ◌≤◌, min}
-use mathlib.Core.Path.{◌≡◌, refl}
-use Rattle.base_numbers.specs.Numbers.{most_symbols}
-use Rattle.machine_symbols.specs.Listed.{index_from}
+use mathlib.Core.Path.{refl}
 use Rattle.machine_symbols.proofs.SymbolLaws.{index-none, index-put, index-skip, index-all}
-use borrow.Author.Rules.{rules}
 use Rattle.machine_symbols.proofs.index.Goals as goal
 
 pub loop-k-init : goal.loop-k-init
@@ -16,10 +12,10 @@ loop-k-preserved-then-s-lt136 c = let i = c.loop-k.invariant in
 
 pub loop-k-preserved : goal.loop-k-preserved
 loop-k-preserved c = let i = c.loop-k.invariant in (
-      omega arith,
-      omega (arith, i.1),
-      index-skip _ _ _ i.2 (omega (arith, c.loop-k-test.true)) i.1 c.slot_at-s.ensures c.if-s-lt136.false,
-    )
+  omega arith,
+  omega (arith, i.1),
+  index-skip _ _ _ i.2 (omega (arith, c.loop-k-test.true)) i.1 c.slot_at-s.ensures c.if-s-lt136.false,
+)
 
 pub returns : goal.returns
 returns c = index-all _ _ _ c.loop-k.invariant.2 c.loop-k-test.false

@@ -1,10 +1,7 @@
-use native.Mathlib.Omega.{arith}
 use Prim.Native.Nat.{◌-◌, ◌≤◌, min}
-use mathlib.Core.Path.{◌≡◌, refl}
+use mathlib.Core.Path.{◌≡◌}
 use Rattle.base_numbers.specs.Numbers.{most_symbols}
 use Rattle.machine_symbols.specs.Listed.{index_from}
-use Rattle.machine_symbols.proofs.SymbolLaws.{index-none, index-put, index-skip, index-all}
-use borrow.Author.Rules.{rules}
 use Rattle.machine_symbols.proofs.index.Given as goal
 
 abbrev pub invariant-loop-k : goal.invariant-loop-k

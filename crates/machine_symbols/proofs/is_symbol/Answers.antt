@@ -1,7 +1,6 @@
 use mathlib.Core.Path.{sym, ap, ◌∙◌}
 use lib.Dec.{eqb}
 use Rattle.machine_symbols.proofs.SymbolLaws.{triple-category, triple-node, triple-kind}
-use borrow.Author.Rules.{rules}
 use Rattle.machine_symbols.proofs.is_symbol.Goals as goal
 
 pub returns-then-byte-c : goal.returns-then-byte-c

@@ -1,5 +1,4 @@
 use Rattle.machine_symbols.proofs.SymbolLaws.{kind-whole, kind-root, kind-leaf, kind-inner}
-use borrow.Author.Rules.{rules}
 use Rattle.machine_symbols.proofs.kind_for.Goals as goal
 
 pub returns-then-whole : goal.returns-then-whole

@@ -1,5 +1,4 @@
 use Rattle.machine_symbols.proofs.SymbolLaws.{lists-same}
-use borrow.Author.Rules.{rules}
 use Rattle.machine_symbols.proofs.list.Goals as goal
 
 pub returns : goal.returns

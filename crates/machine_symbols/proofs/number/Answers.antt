@@ -1,5 +1,4 @@
 use Rattle.machine_symbols.proofs.SymbolLaws.{number_is}
-use borrow.Author.Rules.{rules}
 use Rattle.machine_symbols.proofs.number.Goals as goal
 
 pub returns : goal.returns

@@ -1,6 +1,5 @@
 use native.Mathlib.Omega.{arith}
 use Rattle.machine_symbols.proofs.SymbolLaws.{listed-full, listed_more}
-use borrow.Author.Rules.{rules}
 use Rattle.machine_symbols.proofs.push.Goals as goal
 
 pub returns-then-n-ge-MOST_SYMBOLS : goal.returns-then-n-ge-MOST_SYMBOLS

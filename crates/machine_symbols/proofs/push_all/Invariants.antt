@@ -1,9 +1,6 @@
-use native.Mathlib.Omega.{arith}
 use Prim.Native.Nat.{◌≤◌, ◌-◌}
 use Rattle.base_numbers.specs.Numbers.{most_symbols}
 use Rattle.machine_symbols.specs.Listed.{Listed, triple_lists}
-use Rattle.machine_symbols.proofs.SymbolLaws.{lists-start, lists-more, lists-end}
-use borrow.Author.Rules.{rules}
 use Rattle.machine_symbols.proofs.push_all.Given as goal
 
 abbrev pub invariant-loop-c : goal.invariant-loop-c

@@ -1,10 +1,7 @@
-use native.Mathlib.Omega.{arith}
 use Prim.Native.Nat.{ℕ, ◌≤◌, ◌-◌}
 use mathlib.Core.List.{List, ◌++◌}
 use Rattle.base_numbers.specs.Numbers.{most_symbols}
 use Rattle.machine_symbols.specs.Listed.{Listed, nodes_triples}
-use Rattle.machine_symbols.proofs.SymbolLaws.{nodes-start, nodes-more, nodes-end}
-use borrow.Author.Rules.{rules}
 use Rattle.machine_symbols.proofs.push_category.Given as goal
 
 abbrev pub invariant-loop-i : goal.invariant-loop-i

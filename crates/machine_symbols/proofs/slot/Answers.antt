@@ -1,7 +1,6 @@
 use mathlib.Core.Path.{ap₂, ◌∙◌}
 use Prim.Native.Nat.{◌+◌, ◌*◌}
 use Rattle.machine_symbols.proofs.SymbolLaws.{slot-root, slot-node}
-use borrow.Author.Rules.{rules}
 use Rattle.machine_symbols.proofs.slot.Goals as goal
 
 pub returns-then-d-eq0 : goal.returns-then-d-eq0

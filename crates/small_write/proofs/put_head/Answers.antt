@@ -1,12 +1,9 @@
-use mathlib.Core.Path.{◌≡◌, refl}
-use mathlib.Core.List.{[], ◌++◌}
-use Prim.Native.Nat.{◌+◌, ◌-◌, ◌≤◌}
+use mathlib.Core.Path.{refl}
+use mathlib.Core.List.{[]}
 use native.Mathlib.Omega.{arith}
-use lib.ListN.{length, get_or, take, length-set}
+use lib.ListN.{get_or, length-set}
 use Rattle.base_lists.proofs.Over.{over-copy, over_none}
-use Rattle.base_lists.specs.Lists.{over}
 use Rattle.small_write.proofs.RowLaws.{head-written}
-use borrow.Author.Rules.{rules}
 use Rattle.small_write.proofs.put_head.Goals as goal
 
 pub loop-j-init : goal.loop-j-init

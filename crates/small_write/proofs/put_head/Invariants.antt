@@ -1,12 +1,8 @@
-use mathlib.Core.Path.{◌≡◌, refl}
+use mathlib.Core.Path.{◌≡◌}
 use mathlib.Core.List.{[], ◌++◌}
 use Prim.Native.Nat.{◌+◌, ◌-◌, ◌≤◌}
-use native.Mathlib.Omega.{arith}
-use lib.ListN.{length, get_or, take, length-set}
-use Rattle.base_lists.proofs.Over.{over-copy, over_none}
+use lib.ListN.{length, take}
 use Rattle.base_lists.specs.Lists.{over}
-use Rattle.small_write.proofs.RowLaws.{head-written}
-use borrow.Author.Rules.{rules}
 use Rattle.small_write.proofs.put_head.Given as goal
 
 abbrev pub invariant-loop-j : goal.invariant-loop-j

@@ -1,10 +1,8 @@
 use mathlib.Core.Path.{sym, ◌∙◌}
-use borrow.Author.Tests.{not-true, not-false}
 use lib.ListN.{length}
 use Rattle.small_rounds.specs.Stored.{stored_machine}
 use Rattle.small_write.specs.Written.{small_by}
 use Rattle.small_write.proofs.WriteLaws.{fit-no, fit-yes}
-use borrow.Author.Rules.{rules}
 use Rattle.small_write.proofs.write.Goals as goal
 
 pub returns-then-not-check : goal.returns-then-not-check

@@ -4,7 +4,6 @@ use lib.ListN.{length, length-append}
 use native.Mathlib.Omega.{arith}
 use Rattle.small_rounds.specs.Stored.{stored_machine}
 use Rattle.small_write.proofs.WriteLaws.{is-stored, fitting, first_below, rows-part, three-parts, small-short, small-done, size_small, one_more}
-use borrow.Author.Rules.{rules}
 use Rattle.small_write.proofs.write_small.Goals as goal
 
 pub overflow_add-size : goal.overflow_add-size

@@ -1,5 +1,4 @@
 use Rattle.machine_symbols.proofs.StepLaws.{next_past, next-is}
-use borrow.Author.Rules.{rules}
 use Rattle.machine_symbols.proofs.steps.next.Goals as goal
 
 pub returns-then-k-ge-MOST_SYMBOLS : goal.returns-then-k-ge-MOST_SYMBOLS

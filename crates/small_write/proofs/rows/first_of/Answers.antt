@@ -1,12 +1,9 @@
-use Prim.Native.Nat.{◌≤◌, ◌-◌}
-use mathlib.Core.Path.{◌≡◌, sym, ◌∙◌}
+use mathlib.Core.Path.{sym, ◌∙◌}
 use lib.ListN.{length}
 use borrow.Author.Tests.{eq-eqb, ne_eqb}
 use native.Mathlib.Omega.{arith}
 use Rattle.base_lists.proofs.Search.{seek-start, seek-more, seek_hit, seek-end}
-use Rattle.base_lists.specs.Search.{seek}
 use Rattle.theory_minimal.specs.Proposal.{has_class}
-use borrow.Author.Rules.{rules}
 use Rattle.small_write.proofs.rows.first_of.Goals as goal
 
 pub loop-j-init : goal.loop-j-init

@@ -1,12 +1,11 @@
-use Prim.Native.Nat.{◌≤◌, ◌-◌, ◌+◌}
-use mathlib.Core.Path.{◌≡◌, refl, sym, ◌∙◌}
-use lib.ListN.{length, length-set}
+use Prim.Native.Nat.{◌+◌}
+use mathlib.Core.Path.{refl, sym, ◌∙◌}
+use lib.ListN.{length-set}
 use native.Mathlib.Omega.{arith}
-use Rattle.base_lists.proofs.Filled.{Filled, filled_none, filled_more}
+use Rattle.base_lists.proofs.Filled.{filled_none, filled_more}
 use Rattle.small_rounds.specs.Stored.{stored_machine}
 use Rattle.small_rounds.proofs.StoredLaws.{row-end, row_small}
 use Rattle.small_write.proofs.RowLaws.{row_byte, row-byte, row_written}
-use borrow.Author.Rules.{rules}
 use Rattle.small_write.proofs.rows.put_row.Goals as goal
 
 pub overflow_mul-a : goal.overflow_mul-a
@@ -23,8 +22,7 @@ overflow_add-b c = omega (arith, row_small c.args.rows.now c.args.n c.args.head 
 
 pub loop-s-init : goal.loop-s-init
 loop-s-init c = let f = c.args.f in let head = c.args.head in let k = c.args.k in let n = c.args.n in
-    let p = c.args.p.now in let row = c.args.row.now in let rows = c.args.rows.now in
-    (
+    let p = c.args.p.now in let row = c.args.row.now in let rows = c.args.rows.now in (
       omega arith,
       length-set row 0 _ ∙ c.requires.2,
       filled_more (row_byte (stored_machine rows n head k) p f) row 0 _ (omega (arith, c.requires.2)) refl

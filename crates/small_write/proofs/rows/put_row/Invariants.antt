@@ -1,12 +1,9 @@
 use Prim.Native.Nat.{◌≤◌, ◌-◌, ◌+◌}
-use mathlib.Core.Path.{◌≡◌, refl, sym, ◌∙◌}
-use lib.ListN.{length, length-set}
-use native.Mathlib.Omega.{arith}
-use Rattle.base_lists.proofs.Filled.{Filled, filled_none, filled_more}
+use mathlib.Core.Path.{◌≡◌}
+use lib.ListN.{length}
+use Rattle.base_lists.proofs.Filled.{Filled}
 use Rattle.small_rounds.specs.Stored.{stored_machine}
-use Rattle.small_rounds.proofs.StoredLaws.{row-end, row_small}
-use Rattle.small_write.proofs.RowLaws.{row_byte, row-byte, row_written}
-use borrow.Author.Rules.{rules}
+use Rattle.small_write.proofs.RowLaws.{row_byte}
 use Rattle.small_write.proofs.rows.put_row.Given as goal
 
 abbrev pub invariant-loop-s : goal.invariant-loop-s

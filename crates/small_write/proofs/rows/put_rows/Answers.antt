@@ -1,16 +1,11 @@
-use Prim.Native.Nat.{◌≤◌, ◌-◌, ◌+◌, ◌*◌}
-use mathlib.Core.Path.{◌≡◌, sym, ap, ◌∙◌}
-use lib.ListN.{length}
+use Prim.Native.Nat.{◌+◌}
+use mathlib.Core.Path.{sym, ap, ◌∙◌}
 use native.Mathlib.Omega.{arith}
 use native.Mathlib.Nat.{mul-le-mul_right, zero-mul}
 use Rattle.base_lists.proofs.Numbers.{next_row}
-use Rattle.base_lists.specs.Lists.{over}
-use Rattle.theory_minimal.specs.Proposal.{small}
-use Rattle.small_image.specs.Small.{small_states}
 use Rattle.small_write.specs.Rows.{row_of}
 use Rattle.small_rounds.specs.Stored.{stored_machine}
 use Rattle.small_write.proofs.RowLaws.{part_length, rows_none, rows_next, rows-done, small-end}
-use borrow.Author.Rules.{rules}
 use Rattle.small_write.proofs.rows.put_rows.Goals as goal
 
 pub loop-c-init : goal.loop-c-init
@@ -38,8 +33,7 @@ slice_bounds-put_row-end c = let inv = c.loop-c.invariant in
 pub put_row-requires : goal.put_row-requires
 put_row-requires c = let k = c.args.k in
     let loop-test = c.loop-c-test.true in let the-c = c.loop-c.c in
-    let inv = c.loop-c.invariant in let out = c.loop-c.out in
-    (
+    let inv = c.loop-c.invariant in let out = c.loop-c.out in (
       c.requires.0,
       c.requires.1,
       part_length out c.loop-c.a (1 + k) (omega (

@@ -1,16 +1,10 @@
 use Prim.Native.Nat.{◌≤◌, ◌-◌, ◌+◌, ◌*◌}
-use mathlib.Core.Path.{◌≡◌, sym, ap, ◌∙◌}
+use mathlib.Core.Path.{◌≡◌}
 use lib.ListN.{length}
-use native.Mathlib.Omega.{arith}
-use native.Mathlib.Nat.{mul-le-mul_right, zero-mul}
-use Rattle.base_lists.proofs.Numbers.{next_row}
 use Rattle.base_lists.specs.Lists.{over}
 use Rattle.theory_minimal.specs.Proposal.{small}
 use Rattle.small_image.specs.Small.{small_states}
-use Rattle.small_write.specs.Rows.{row_of}
 use Rattle.small_rounds.specs.Stored.{stored_machine}
-use Rattle.small_write.proofs.RowLaws.{part_length, rows_none, rows_next, rows-done, small-end}
-use borrow.Author.Rules.{rules}
 use Rattle.small_write.proofs.rows.put_rows.Given as goal
 
 abbrev pub invariant-loop-c : goal.invariant-loop-c

@@ -1,0 +1,17 @@
+use native.Mathlib.Omega.{arith}
+use Prim.Native.Nat.{◌-◌, ◌≤◌}
+use mathlib.Core.Path.{◌≡◌, refl, ◌∙◌}
+use mathlib.Core.List.{[], ◌++◌}
+use lib.ListN.{length, take, get_or, length-set}
+use Rattle.base_lists.proofs.Over.{over-copy}
+use Rattle.base_lists.specs.Lists.{over}
+use Rattle.machine_build.proofs.TurnLaws.{row-start, row_done}
+use native.Mathlib.Nat.{zero-add}
+use borrow.Author.Rules.{rules}
+use Rattle.machine_build.proofs.states.write_row.Given as goal
+
+abbrev pub invariant-loop-k : goal.invariant-loop-k
+invariant-loop-k l = (l.k ≤ length l.initial.row) × (length l.row ≡ length l.initial.row) × (l.row ≡ over ([] ++ take l.k l.numbers) l.initial.row)
+
+abbrev pub decreases-loop-k : goal.decreases-loop-k
+decreases-loop-k l = length l.initial.row - l.k

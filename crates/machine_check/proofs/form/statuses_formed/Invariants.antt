@@ -1,0 +1,19 @@
+use native.Mathlib.Omega.{arith}
+use Prim.Native.Nat.{◌≤◌, ◌-◌}
+use mathlib.Core.Path.{◌≡◌, refl}
+use mathlib.Core.Bool.{true}
+use Rattle.base_lists.proofs.Below.{all_done}
+use Rattle.base_lists.specs.Lists.{all_below}
+use Rattle.node_step.specs.StatusByte.{fits_by}
+use borrow.Author.Tests.{not-true, not-false}
+use Rattle.machine_check.specs.Checks.{status_formed_by}
+use Rattle.machine_check.proofs.ImageLaws.{fits-no, fits-yes}
+use borrow.Author.Rules.{rules}
+use Rattle.machine_check.proofs.form.statuses_formed.Given as goal
+
+abbrev pub invariant-loop-c : goal.invariant-loop-c
+invariant-loop-c l = (l.c ≤ l.categories)
+    × (all_below l.c (status_formed_by (fits_by l.rows l.parents l.inner l.category l.nodes) l.categories l.im l.j) ≡ true)
+
+abbrev pub decreases-loop-c : goal.decreases-loop-c
+decreases-loop-c l = l.categories - l.c
