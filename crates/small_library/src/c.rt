@@ -12,12 +12,7 @@ pub fn machine_classes_check(table: &[u8], image: &[u8], classes: &[u8]) -> u8
 }
 
 // The small image of the classes, written to the buffer.
-pub fn machine_small_write(
-    table: &[u8],
-    image: &[u8],
-    classes: &[u8],
-    buf: &mut [u8],
-) -> Built
+pub fn machine_small_write(table: &[u8], image: &[u8], classes: &[u8], buf: &mut [u8]) -> Built
     ensures value { result ≡ small_from table.now image.now classes.now (length buf.old) }
     ensures buf_after { buf.new ≡ small_buffer table.now image.now classes.now (length buf.old) }
 {

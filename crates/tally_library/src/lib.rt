@@ -29,12 +29,7 @@ pub struct Tally {
 }
 
 // The value v resolved by the table t, and counted. The crate tally_library_c exports this for C.
-pub fn tally_value(
-    t: &[u8],
-    records: &mut [Tally],
-    refusals: &mut [u32],
-    v: &[u8],
-) -> Resolution
+pub fn tally_value(t: &[u8], records: &mut [Tally], refusals: &mut [u32], v: &[u8]) -> Resolution
     ensures { Tallied t.now records.old refusals.old v.now result records.new refusals.new }
 {
     let r = judge::judge(t, records.len(), refusals, v);
