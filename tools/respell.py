@@ -6,7 +6,7 @@ usage: tools/respell.py [PATH..]      (default: crates, README.md, docs)
 A part of a name that begins with a small letter and goes on with capitals turns: nodeStep to node_step. Types keep
 their capitals. Where two names would fall together, the table APART says what the one is called. In .rt and .antt
 files every word turns but in quotes; in .md files the words of code spans and code blocks. Functions of src/ and
-exported names have no capitals and stay. A second run changes nothing.
+exported names have no capitals and stay. Run it once, right after port.py.
 """
 import os
 import re
@@ -63,7 +63,7 @@ def files(paths):
         if os.path.isfile(p):
             yield p
         for folder, folders, names in os.walk(p):
-            folders[:] = sorted(f for f in folders if f not in ("out", "target"))
+            folders[:] = sorted(f for f in folders if f != "out")
             yield from (os.path.join(folder, n) for n in sorted(names))
 
 

@@ -2,7 +2,6 @@ use mathlib.Core.Path.{ap₂, ◌∙◌}
 use lib.ListN.{length}
 use Rattle.machine_symbols.specs.Steps.{next_state}
 use Rattle.machine_build.specs.States.{built_by, buffer_by}
-use borrow.Author.Rules.{rules}
 use Rattle.machine_build.proofs.build_by.Goals as goal
 
 pub returns : goal.returns

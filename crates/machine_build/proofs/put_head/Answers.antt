@@ -1,13 +1,12 @@
 use mathlib.Core.Path.{◌≡◌, refl, ap, ◌∙◌}
 use mathlib.Core.List.{List, [], ◌∷◌, ◌++◌, append_assoc}
-use Prim.Native.Nat.{ℕ, ◌+◌, ◌-◌, ◌*◌, ◌/◌, ◌%◌, ◌≤◌}
+use Prim.Native.Nat.{ℕ, ◌+◌, ◌*◌, ◌/◌, ◌%◌}
 use native.Mathlib.Omega.{arith}
 use lib.ListN.{length, set, get_or, length-set, length-append}
 use Rattle.base_lists.proofs.Over.{over-tabulate, over-one, over-set, over-all}
 use Rattle.base_lists.proofs.Tabulated.{tabulate-length}
 use Rattle.base_lists.specs.Lists.{tabulate, over}
 use Rattle.machine_build.specs.States.{symbol_byte}
-use borrow.Author.Rules.{rules}
 use Rattle.machine_build.proofs.put_head.Goals as goal
 
 pub loop-j-init : goal.loop-j-init

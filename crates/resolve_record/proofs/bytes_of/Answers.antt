@@ -1,8 +1,6 @@
-use Prim.Native.Nat.{◌-◌}
 use native.Mathlib.Omega.{arith}
 use Rattle.resolve_record.specs.Coded.{byte_at}
-use Rattle.resolve_record.proofs.StateLaws.{Filled, fill_none, fill_more, fill_done}
-use borrow.Author.Rules.{rules}
+use Rattle.resolve_record.proofs.StateLaws.{fill_none, fill_more, fill_done}
 use Rattle.resolve_record.proofs.bytes_of.Goals as goal
 
 pub loop-c-init : goal.loop-c-init

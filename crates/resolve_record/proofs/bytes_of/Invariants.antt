@@ -1,8 +1,6 @@
 use Prim.Native.Nat.{◌-◌}
-use native.Mathlib.Omega.{arith}
 use Rattle.resolve_record.specs.Coded.{byte_at}
-use Rattle.resolve_record.proofs.StateLaws.{Filled, fill_none, fill_more, fill_done}
-use borrow.Author.Rules.{rules}
+use Rattle.resolve_record.proofs.StateLaws.{Filled}
 use Rattle.resolve_record.proofs.bytes_of.Given as goal
 
 abbrev pub invariant-loop-c : goal.invariant-loop-c

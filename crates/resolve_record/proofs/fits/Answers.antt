@@ -9,5 +9,8 @@ pub returns-then-carried-gt-MOST_VALUES : goal.returns-then-carried-gt-MOST_VALU
 returns-then-carried-gt-MOST_VALUES c = record { says = fits-values _ _ _ _ _ _ _ c.args.carried c.if-signals-signal.false c.if-carried-gt-MOST_VALUES.true; wide = search rules }
 
 pub returns : goal.returns
-returns c = record { says = fits-rest _ _ _ _ _ _ _ c.args.carried
-      c.if-signals-signal.false c.if-carried-gt-MOST_VALUES.false c.statuses_fit.ensures; wide = search rules }
+returns c = record {
+  says = fits-rest _ _ _ _ _ _ _ c.args.carried
+      c.if-signals-signal.false c.if-carried-gt-MOST_VALUES.false c.statuses_fit.ensures;
+  wide = search rules;
+}

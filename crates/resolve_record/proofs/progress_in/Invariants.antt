@@ -1,12 +1,8 @@
 use Prim.Native.Nat.{◌-◌}
-use mathlib.Core.Path.{ap}
-use lib.ListN.{length-replicate}
-use native.Mathlib.Omega.{arith}
 use Rattle.node_step.specs.declared.Status.TheVariants.{Open}
 use Rattle.node_step.specs.declared.Progress.{Progress}
 use Rattle.resolve_record.specs.Coded.{progress_at}
-use Rattle.resolve_record.proofs.StateLaws.{Filled, fill_none, fill_more, fill_done}
-use borrow.Author.Rules.{rules}
+use Rattle.resolve_record.proofs.StateLaws.{Filled}
 use Rattle.resolve_record.proofs.progress_in.Given as goal
 
 abbrev pub blank : Progress

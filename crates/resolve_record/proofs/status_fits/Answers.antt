@@ -1,5 +1,4 @@
 use Rattle.resolve_record.proofs.FitLaws.{status-listed, status-lacking}
-use borrow.Author.Rules.{rules}
 use Rattle.resolve_record.proofs.status_fits.Goals as goal
 
 pub returns-then-c-categories : goal.returns-then-c-categories

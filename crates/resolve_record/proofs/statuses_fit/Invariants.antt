@@ -1,12 +1,8 @@
 use Prim.Native.Nat.{◌-◌, ◌≤◌}
 use mathlib.Core.Path.{◌≡◌}
 use mathlib.Core.Bool.{true}
-use native.Mathlib.Omega.{arith}
-use borrow.Author.Tests.{not-true, not-false}
-use Rattle.base_lists.proofs.Below.{all_none, all-next, all-fails, all_done}
 use Rattle.base_lists.specs.Lists.{all_below}
 use Rattle.resolve_record.specs.Coded.{status_at}
-use borrow.Author.Rules.{rules}
 use Rattle.resolve_record.proofs.statuses_fit.Given as goal
 
 abbrev pub invariant-loop-c : goal.invariant-loop-c

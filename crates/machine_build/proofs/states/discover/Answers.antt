@@ -1,11 +1,11 @@
 use native.Mathlib.Omega.{arith}
-use Prim.Native.Nat.{ℕ, ◌-◌}
+use Prim.Native.Nat.{ℕ}
 use mathlib.Core.Path.{refl}
 use lib.ListN.{length-replicate}
 use Rattle.base_numbers.specs.Numbers.{most_states, most_symbols}
 use Rattle.machine_symbols.specs.Steps.{next_state}
 use Rattle.machine_build.specs.States.{found}
-use Rattle.machine_build.proofs.DiscoverLaws.{Discovering, start-kept, discovering-start, place-fits, discovering-over, discovering-more}
+use Rattle.machine_build.proofs.DiscoverLaws.{start-kept, discovering-start, place-fits, discovering-over, discovering-more}
 use Rattle.machine_build.proofs.DiscoverLaws.{discovering-end}
 use Rattle.machine_build.proofs.states.discover.Goals as goal
 
@@ -41,12 +41,12 @@ returns-then-n-gt-MOST_STATES c = let rows = c.args.rows.now in let parents = c.
 
 pub write_state-requires : goal.write_state-requires
 write_state-requires c = (
-      place-fits (next_state c.args.rows.now c.args.parents.now c.args.inner.now c.args.signals c.args.symbols.now) c.args.categories c.args.count
-          c.args.part.now c.loop-i.part c.loop-i.signal c.loop-i.statuses c.loop-i.slots c.loop-i.numbers c.loop-i.n c.loop-i.i c.loop-i.a c.loop-i.invariant c.loop-i-test.true,
-      c.requires.0,
-      c.turn-n.ensures.upper_bound.1,
-      c.requires.1,
-    )
+  place-fits (next_state c.args.rows.now c.args.parents.now c.args.inner.now c.args.signals c.args.symbols.now) c.args.categories c.args.count
+      c.args.part.now c.loop-i.part c.loop-i.signal c.loop-i.statuses c.loop-i.slots c.loop-i.numbers c.loop-i.n c.loop-i.i c.loop-i.a c.loop-i.invariant c.loop-i-test.true,
+  c.requires.0,
+  c.turn-n.ensures.upper_bound.1,
+  c.requires.1,
+)
 
 pub overflow_add-a : goal.overflow_add-a
 overflow_add-a c = let loop-test = c.loop-i-test.true in

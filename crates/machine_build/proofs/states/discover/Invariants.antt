@@ -1,12 +1,7 @@
-use native.Mathlib.Omega.{arith}
-use Prim.Native.Nat.{ℕ, ◌-◌}
-use mathlib.Core.Path.{refl}
-use lib.ListN.{length-replicate}
-use Rattle.base_numbers.specs.Numbers.{most_states, most_symbols}
+use Prim.Native.Nat.{◌-◌}
+use Rattle.base_numbers.specs.Numbers.{most_states}
 use Rattle.machine_symbols.specs.Steps.{next_state}
-use Rattle.machine_build.specs.States.{found}
-use Rattle.machine_build.proofs.DiscoverLaws.{Discovering, start-kept, discovering-start, place-fits, discovering-over, discovering-more}
-use Rattle.machine_build.proofs.DiscoverLaws.{discovering-end}
+use Rattle.machine_build.proofs.DiscoverLaws.{Discovering}
 use Rattle.machine_build.proofs.states.discover.Given as goal
 
 abbrev pub invariant-loop-i : goal.invariant-loop-i

@@ -1,8 +1,6 @@
 use native.Mathlib.Omega.{arith}
-use Prim.Native.Nat.{◌≤◌, ◌-◌}
-use Rattle.machine_build.proofs.KeptLaws.{found_at, Passed, passed-more, passed-all}
+use Rattle.machine_build.proofs.KeptLaws.{found_at, passed-more, passed-all}
 use mathlib.Core.Path.{sym, ◌∙◌}
-use borrow.Author.Rules.{rules}
 use Rattle.machine_build.proofs.states.find.Goals as goal
 
 pub loop-j-init : goal.loop-j-init

@@ -1,8 +1,5 @@
-use native.Mathlib.Omega.{arith}
 use Prim.Native.Nat.{◌≤◌, ◌-◌}
-use Rattle.machine_build.proofs.KeptLaws.{found_at, Passed, passed-more, passed-all}
-use mathlib.Core.Path.{sym, ◌∙◌}
-use borrow.Author.Rules.{rules}
+use Rattle.machine_build.proofs.KeptLaws.{Passed}
 use Rattle.machine_build.proofs.states.find.Given as goal
 
 abbrev pub invariant-loop-j : goal.invariant-loop-j

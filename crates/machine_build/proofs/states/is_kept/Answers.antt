@@ -1,6 +1,5 @@
 use borrow.Author.Tests.{lt-ltb, le-ltb}
 use mathlib.Core.Path.{refl}
-use borrow.Author.Rules.{rules}
 use Rattle.machine_build.proofs.states.is_kept.Goals as goal
 
 pub returns-then-j-n : goal.returns-then-j-n

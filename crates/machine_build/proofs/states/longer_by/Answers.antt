@@ -1,5 +1,4 @@
 use borrow.Author.Tests.{eq-eqb, ne_eqb}
-use borrow.Author.Rules.{rules}
 use Rattle.machine_build.proofs.states.longer_by.Goals as goal
 
 pub returns-then-j-n : goal.returns-then-j-n

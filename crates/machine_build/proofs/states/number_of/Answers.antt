@@ -1,5 +1,4 @@
 use Rattle.machine_build.proofs.KeptLaws.{found-kept, none-hashed}
-use borrow.Author.Rules.{rules}
 use Rattle.machine_build.proofs.states.number_of.Goals as goal
 
 pub returns-then-is_kept : goal.returns-then-is_kept

@@ -1,15 +1,9 @@
 use native.Mathlib.Omega.{arith}
-use Prim.Native.Nat.{◌≤◌, ◌-◌}
-use mathlib.Core.Path.{◌≡◌, ◌∙◌}
-use mathlib.Core.List.{List}
-use lib.ListN.{length, length-set}
-use Rattle.base_numbers.specs.Numbers.{most_states, most_symbols}
-use Rattle.node_step.specs.declared.stored.Packed.{Packed}
+use mathlib.Core.Path.{◌∙◌}
+use lib.ListN.{length-set}
 use Rattle.machine_symbols.specs.Steps.{next_state}
-use Rattle.machine_build.specs.States.{Kept}
 use Rattle.machine_build.proofs.KeptLaws.{longer-le}
-use Rattle.machine_build.proofs.TurnLaws.{Turning, turning-start, turning-more, turning-over, turning-end}
-use borrow.Author.Rules.{rules}
+use Rattle.machine_build.proofs.TurnLaws.{turning-start, turning-more, turning-over, turning-end}
 use Rattle.machine_build.proofs.states.turn.Goals as goal
 
 pub loop-k-init : goal.loop-k-init
@@ -33,9 +27,12 @@ returns-then-j-ge-MOST_STATES c = let next = c.next-to.ensures in
     let m = c.loop-k.m in
     let numbers = c.loop-k.numbers in
     let signal = c.loop-k.signal in
-    let statuses = c.loop-k.statuses in record { upper_bound = (omega arith, inv.2); turned = λ l k. turning-over (next_state c.args.rows.now c.args.parents.now c.args.inner.now c.args.signals c.args.symbols.now) c.args.st l
+    let statuses = c.loop-k.statuses in record {
+      upper_bound = (omega arith, inv.2);
+      turned = λ l k. turning-over (next_state c.args.rows.now c.args.parents.now c.args.inner.now c.args.signals c.args.symbols.now) c.args.st l
           c.args.numbers.now the-k numbers signal statuses slots m (inv.3 l k) c.args.count c.keep-j.new.signal c.keep-j.new.statuses
-          c.keep-j.new.slots numbers loop-test next c.keep-j.ensures.value c.if-j-ge-MOST_STATES.true }
+          c.keep-j.new.slots numbers loop-test next c.keep-j.ensures.value c.if-j-ge-MOST_STATES.true;
+    }
 
 pub longer_by-m-requires : goal.longer_by-m-requires
 longer_by-m-requires c = c.loop-k.invariant.1
@@ -58,8 +55,7 @@ loop-k-preserved c = let if1 = c.if-j-ge-MOST_STATES.false in let keep-result = 
     let m = c.loop-k.m in
     let numbers = c.loop-k.numbers in
     let signal = c.loop-k.signal in
-    let statuses = c.loop-k.statuses in
-    (
+    let statuses = c.loop-k.statuses in (
       omega (arith, loop-test),
       longer-le m keep-result c.longer_by-m.ensures inv.1 if1,
       length-set numbers the-k keep-result ∙ inv.2,
@@ -69,6 +65,9 @@ loop-k-preserved c = let if1 = c.if-j-ge-MOST_STATES.false in let keep-result = 
     )
 
 pub returns : goal.returns
-returns c = let inv = c.loop-k.invariant in record { upper_bound = (omega (arith, inv.1), inv.2); turned = λ l k. turning-end (next_state c.args.rows.now c.args.parents.now c.args.inner.now c.args.signals c.args.symbols.now) c.args.st l
-          c.args.numbers.now c.loop-k.k c.loop-k.numbers c.loop-k.signal c.loop-k.statuses
-          c.loop-k.slots c.loop-k.m (inv.3 l k) c.args.count inv.0 c.loop-k-test.false inv.1 }
+returns c = let inv = c.loop-k.invariant in record {
+  upper_bound = (omega (arith, inv.1), inv.2);
+  turned = λ l k. turning-end (next_state c.args.rows.now c.args.parents.now c.args.inner.now c.args.signals c.args.symbols.now) c.args.st l
+      c.args.numbers.now c.loop-k.k c.loop-k.numbers c.loop-k.signal c.loop-k.statuses
+      c.loop-k.slots c.loop-k.m (inv.3 l k) c.args.count inv.0 c.loop-k-test.false inv.1;
+}

@@ -1,23 +1,22 @@
 use native.Mathlib.Omega.{arith}
-use Prim.Native.Nat.{◌+◌, ◌-◌, ◌≤◌}
-use mathlib.Core.Path.{◌≡◌, refl, ◌∙◌, sym}
-use mathlib.Core.List.{[], ◌∷◌, ◌++◌}
-use lib.ListN.{length, set, length-set}
+use Prim.Native.Nat.{◌+◌}
+use mathlib.Core.Path.{refl, ◌∙◌, sym}
+use mathlib.Core.List.{[], ◌∷◌}
+use lib.ListN.{set, length-set}
 use Rattle.base_lists.proofs.Over.{over-one, over-tabulate}
-use Rattle.base_lists.specs.Lists.{tabulate, over}
+use Rattle.base_lists.specs.Lists.{tabulate}
 use Rattle.node_step.specs.Step.{digit}
 use Rattle.machine_build.proofs.TurnLaws.{pair-done}
-use borrow.Author.Rules.{rules}
 use Rattle.machine_build.proofs.states.write_pair.Goals as goal
 
 pub loop-c-init : goal.loop-c-init
 unfolding tabulate
 loop-c-init c = (
-      omega arith,
-      simp length-set c.requires.1,
-      simp length-set c.requires.1,
-      over-one c.args.pair.now c.args.st.signal (omega (arith, c.requires.1)),
-    )
+  omega arith,
+  simp length-set c.requires.1,
+  simp length-set c.requires.1,
+  over-one c.args.pair.now c.args.st.signal (omega (arith, c.requires.1)),
+)
 
 pub bounds-pair-c : goal.bounds-pair-c
 bounds-pair-c c = omega (arith, c.loop-c.invariant.2, c.loop-c-test.true)

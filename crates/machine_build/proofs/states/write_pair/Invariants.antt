@@ -1,13 +1,9 @@
-use native.Mathlib.Omega.{arith}
 use Prim.Native.Nat.{◌+◌, ◌-◌, ◌≤◌}
-use mathlib.Core.Path.{◌≡◌, refl, ◌∙◌, sym}
+use mathlib.Core.Path.{◌≡◌}
 use mathlib.Core.List.{[], ◌∷◌, ◌++◌}
-use lib.ListN.{length, set, length-set}
-use Rattle.base_lists.proofs.Over.{over-one, over-tabulate}
+use lib.ListN.{length}
 use Rattle.base_lists.specs.Lists.{tabulate, over}
 use Rattle.node_step.specs.Step.{digit}
-use Rattle.machine_build.proofs.TurnLaws.{pair-done}
-use borrow.Author.Rules.{rules}
 use Rattle.machine_build.proofs.states.write_pair.Given as goal
 
 abbrev pub invariant-loop-c : goal.invariant-loop-c

@@ -1,13 +1,10 @@
 use native.Mathlib.Omega.{arith}
-use Prim.Native.Nat.{◌-◌, ◌≤◌}
-use mathlib.Core.Path.{◌≡◌, refl, ◌∙◌}
-use mathlib.Core.List.{[], ◌++◌}
-use lib.ListN.{length, take, get_or, length-set}
+use mathlib.Core.Path.{refl, ◌∙◌}
+use mathlib.Core.List.{[]}
+use lib.ListN.{get_or, length-set}
 use Rattle.base_lists.proofs.Over.{over-copy}
-use Rattle.base_lists.specs.Lists.{over}
 use Rattle.machine_build.proofs.TurnLaws.{row-start, row_done}
 use native.Mathlib.Nat.{zero-add}
-use borrow.Author.Rules.{rules}
 use Rattle.machine_build.proofs.states.write_row.Goals as goal
 
 pub loop-k-init : goal.loop-k-init
@@ -25,8 +22,7 @@ loop-k-smaller c = omega (arith, c.loop-k.invariant.1, c.loop-k-test.true)
 pub loop-k-preserved : goal.loop-k-preserved
 loop-k-preserved c = let numbers = c.args.numbers.now in
     let loop-test = c.loop-k-test.true in let inv = c.loop-k.invariant in
-    let k = c.loop-k.k in let row = c.loop-k.row in
-    (
+    let k = c.loop-k.k in let row = c.loop-k.row in (
       omega (arith, inv.1, loop-test),
       length-set row k (get_or numbers k 0) ∙ inv.1,
       over-copy [] c.args.row.now row k (get_or numbers k 0) (omega (arith, inv.1, loop-test)) numbers k inv.2 (zero-add k) (omega (

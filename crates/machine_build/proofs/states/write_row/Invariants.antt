@@ -1,13 +1,8 @@
-use native.Mathlib.Omega.{arith}
 use Prim.Native.Nat.{◌-◌, ◌≤◌}
-use mathlib.Core.Path.{◌≡◌, refl, ◌∙◌}
+use mathlib.Core.Path.{◌≡◌}
 use mathlib.Core.List.{[], ◌++◌}
-use lib.ListN.{length, take, get_or, length-set}
-use Rattle.base_lists.proofs.Over.{over-copy}
+use lib.ListN.{length, take}
 use Rattle.base_lists.specs.Lists.{over}
-use Rattle.machine_build.proofs.TurnLaws.{row-start, row_done}
-use native.Mathlib.Nat.{zero-add}
-use borrow.Author.Rules.{rules}
 use Rattle.machine_build.proofs.states.write_row.Given as goal
 
 abbrev pub invariant-loop-k : goal.invariant-loop-k

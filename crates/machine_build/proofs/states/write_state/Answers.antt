@@ -1,7 +1,6 @@
 use native.Mathlib.Omega.{arith}
 use mathlib.Core.Path.{refl}
 use Rattle.machine_build.proofs.DiscoverLaws.{placed-out, placed-in}
-use borrow.Author.Rules.{rules}
 use Rattle.machine_build.proofs.states.write_state.Goals as goal
 
 pub shape_of-part : goal.shape_of-part

@@ -9,6 +9,8 @@ use Rattle.machine_symbols.specs.Steps.{next_state}
 use lib.ListN.{length-replicate}
 use Rattle.machine_check.specs.Checks.{row_right_by}
 use borrow.Author.Rules.{rules}
+use mathlib.Core.Path.{ap}
+use mathlib.Core.Bool.{not}
 use Rattle.machine_check.proofs.rows.rows_right.Goals as goal
 
 pub read_states-requires : goal.read_states-requires
@@ -25,7 +27,7 @@ row_right-requires c = let read-states = c.read_states.ensures in
 
 pub returns-then-not-row_right : goal.returns-then-not-row_right
 returns-then-not-row_right c = all-no (row_right_by (next_state c.args.rows.now c.args.parents.now c.args.inner.now c.args.signals c.args.symbols.now) c.args.count
-    c.args.categories c.args.im.now) c.args.n c.loop-from.from c.row_right.ensures c.if-not-row_right.true c.loop-from-test.true
+    c.args.categories c.args.im.now) c.args.n c.loop-from.from c.row_right.ensures (ap not c.if-not-row_right.true) c.loop-from-test.true
 
 pub overflow_add-from : goal.overflow_add-from
 overflow_add-from c = let loop-test = c.loop-from-test.true in
@@ -41,7 +43,7 @@ loop-from-preserved c = let loop-test = c.loop-from-test.true in
       omega (arith, loop-test),
       all_yes
           (row_right_by (next_state c.args.rows.now c.args.parents.now c.args.inner.now c.args.signals c.args.symbols.now) c.args.count
-          c.args.categories c.args.im.now) from c.row_right.ensures c.if-not-row_right.false inv.1,
+          c.args.categories c.args.im.now) from c.row_right.ensures (ap not c.if-not-row_right.false) inv.1,
     )
 
 pub returns : goal.returns

@@ -9,6 +9,8 @@ use Rattle.machine_symbols.specs.Steps.{next_state}
 use lib.ListN.{length-replicate}
 use Rattle.machine_check.specs.Checks.{row_right_by}
 use borrow.Author.Rules.{rules}
+use mathlib.Core.Path.{ap}
+use mathlib.Core.Bool.{not}
 use Rattle.machine_check.proofs.rows.rows_right.Given as goal
 
 abbrev pub invariant-loop-from : goal.invariant-loop-from

@@ -1,0 +1,13 @@
+use Prim.Native.Nat.{◌-◌}
+use mathlib.Core.Path.{refl}
+use native.Mathlib.Omega.{arith}
+use Rattle.sample_names.proofs.SearchLaws.{CategorySoFar, category-here, category-on, category-none}
+use Rattle.node_search.proofs.TextLaws.{text_in_lem}
+use borrow.Author.Rules.{rules}
+use Rattle.sample_names.proofs.search.is_category.Given as goal
+
+abbrev pub invariant-loop-i : goal.invariant-loop-i
+invariant-loop-i l = CategorySoFar l.t l.at l.len l.n l.z l.i
+
+abbrev pub decreases-loop-i : goal.decreases-loop-i
+decreases-loop-i l = l.n - l.i
