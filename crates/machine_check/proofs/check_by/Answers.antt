@@ -1,9 +1,7 @@
-use borrow.Author.Tests.{not-true, not-false}
 use native.Mathlib.Omega.{arith}
 use Rattle.node_step.specs.StatusByte.{fits_by}
 use Rattle.machine_symbols.specs.Steps.{next_state}
 use Rattle.machine_check.proofs.ImageLaws.{form-few, check-form, check-start, check-wrong, check-right}
-use borrow.Author.Rules.{rules}
 use Rattle.machine_check.proofs.check_by.Goals as goal
 
 pub returns-then-not-formed : goal.returns-then-not-formed
@@ -14,10 +12,10 @@ returns-then-not-formed c = let rows = c.args.rows.now in let parents = c.args.p
 
 pub state-first-requires : goal.state-first-requires
 state-first-requires c = (
-      (form-few (fits_by c.args.rows.now c.args.parents.now c.args.inner.now c.args.category.now c.args.nodes) c.args.symbols.now c.args.count
-          c.args.signals c.args.categories c.args.im.now c.formed.ensures c.if-not-formed.false).0,
-      omega arith,
-    )
+  (form-few (fits_by c.args.rows.now c.args.parents.now c.args.inner.now c.args.category.now c.args.nodes) c.args.symbols.now c.args.count
+      c.args.signals c.args.categories c.args.im.now c.formed.ensures c.if-not-formed.false).0,
+  omega arith,
+)
 
 pub returns-then-not-same : goal.returns-then-not-same
 returns-then-not-same c = let rows = c.args.rows.now in let parents = c.args.parents.now in let inner = c.args.inner.now in let signals = c.args.signals in

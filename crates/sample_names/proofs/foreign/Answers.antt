@@ -1,5 +1,4 @@
 use Rattle.sample_names.proofs.SearchLaws.{foreign-name}
-use borrow.Author.Rules.{rules}
 use Rattle.sample_names.proofs.foreign.Goals as goal
 
 pub returns : goal.returns

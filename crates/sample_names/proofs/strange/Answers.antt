@@ -1,5 +1,4 @@
 use Rattle.sample_names.proofs.SearchLaws.{strange-name}
-use borrow.Author.Rules.{rules}
 use Rattle.sample_names.proofs.strange.Goals as goal
 
 pub returns : goal.returns

@@ -1,6 +1,5 @@
 use native.Mathlib.Omega.{arith}
 use Rattle.sample_names.proofs.NameLaws.{z-one, z-two}
-use borrow.Author.Rules.{rules}
 use Rattle.sample_names.proofs.z_name.Goals as goal
 
 pub returns-then-k-lt10 : goal.returns-then-k-lt10

@@ -1,5 +1,4 @@
 use Rattle.tree_nodes.proofs.ByArrays.{over-nodes, over-numbers, grown-within}
-use borrow.Author.Rules.{rules}
 use Rattle.tree_nodes.proofs.grown.Goals as goal
 
 pub returns-then-nodes-gt-MOST_NODES : goal.returns-then-nodes-gt-MOST_NODES

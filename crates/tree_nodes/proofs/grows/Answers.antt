@@ -1,7 +1,6 @@
 use native.Mathlib.Omega.{arith}
 use lib.ListN.{get_or}
 use Rattle.tree_nodes.proofs.Tests.{no-category, no_number, no-parent, twice, by-scan, numbers-small}
-use borrow.Author.Rules.{rules}
 use Rattle.tree_nodes.proofs.grows.Goals as goal
 
 pub scan-requires : goal.scan-requires

@@ -1,7 +1,5 @@
 use Rattle.node_step.specs.StatusByte.{fits_by}
-use borrow.Author.Tests.{not-true, not-false}
 use Rattle.machine_check.proofs.ImageLaws.{form-cats, form-count, form-short, form-length, form-symbols, form-none, form-many, form-states}
-use borrow.Author.Rules.{rules}
 use Rattle.machine_check.proofs.form.formed.Goals as goal
 
 pub returns-then-categories-gt-MOST_CATEGORIES : goal.returns-then-categories-gt-MOST_CATEGORIES

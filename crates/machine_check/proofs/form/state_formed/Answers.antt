@@ -1,8 +1,6 @@
 use Rattle.node_step.specs.StatusByte.{fits_by}
-use borrow.Author.Tests.{not-true, not-false}
 use native.Mathlib.Omega.{arith}
 use Rattle.machine_check.proofs.ImageLaws.{signal-is, state-signal, state-status, state-rest}
-use borrow.Author.Rules.{rules}
 use Rattle.machine_check.proofs.form.state_formed.Goals as goal
 
 pub returns-then-signals-wide : goal.returns-then-signals-wide

@@ -1,14 +1,10 @@
 use native.Mathlib.Omega.{arith}
-use Prim.Native.Nat.{◌≤◌, ◌-◌}
-use mathlib.Core.Path.{◌≡◌, refl, sym, ◌∙◌}
-use mathlib.Core.Bool.{true}
+use mathlib.Core.Path.{refl, sym, ◌∙◌}
 use Rattle.base_lists.proofs.Below.{all-stop, all_more, all_done}
 use Rattle.base_lists.specs.Lists.{all_below}
 use Rattle.node_step.specs.StatusByte.{fits_by}
-use borrow.Author.Tests.{not-true, not-false}
 use Rattle.machine_image.specs.Image.{state_count}
 use Rattle.machine_check.specs.Checks.{state_formed_by}
-use borrow.Author.Rules.{rules}
 use Rattle.machine_check.proofs.form.states_formed.Goals as goal
 
 pub loop-j-init : goal.loop-j-init

@@ -1,14 +1,9 @@
-use native.Mathlib.Omega.{arith}
 use Prim.Native.Nat.{◌≤◌, ◌-◌}
-use mathlib.Core.Path.{◌≡◌, refl, sym, ◌∙◌}
+use mathlib.Core.Path.{◌≡◌}
 use mathlib.Core.Bool.{true}
-use Rattle.base_lists.proofs.Below.{all-stop, all_more, all_done}
 use Rattle.base_lists.specs.Lists.{all_below}
 use Rattle.node_step.specs.StatusByte.{fits_by}
-use borrow.Author.Tests.{not-true, not-false}
-use Rattle.machine_image.specs.Image.{state_count}
 use Rattle.machine_check.specs.Checks.{state_formed_by}
-use borrow.Author.Rules.{rules}
 use Rattle.machine_check.proofs.form.states_formed.Given as goal
 
 abbrev pub invariant-loop-j : goal.invariant-loop-j

@@ -1,14 +1,9 @@
-use native.Mathlib.Omega.{arith}
 use Prim.Native.Nat.{◌≤◌, ◌-◌}
-use mathlib.Core.Path.{◌≡◌, refl}
+use mathlib.Core.Path.{◌≡◌}
 use mathlib.Core.Bool.{true}
-use Rattle.base_lists.proofs.Below.{all_done}
 use Rattle.base_lists.specs.Lists.{all_below}
 use Rattle.node_step.specs.StatusByte.{fits_by}
-use borrow.Author.Tests.{not-true, not-false}
 use Rattle.machine_check.specs.Checks.{status_formed_by}
-use Rattle.machine_check.proofs.ImageLaws.{fits-no, fits-yes}
-use borrow.Author.Rules.{rules}
 use Rattle.machine_check.proofs.form.statuses_formed.Given as goal
 
 abbrev pub invariant-loop-c : goal.invariant-loop-c

@@ -1,13 +1,7 @@
 use native.Mathlib.Omega.{arith}
-use Prim.Native.Nat.{◌≤◌, ◌-◌}
-use mathlib.Core.Path.{◌≡◌}
-use lib.Dec.{ltb}
-use lib.ListN.{length}
 use borrow.Author.Tests.{lt-ltb}
 use Rattle.base_lists.specs.Lists.{all_below}
-use Rattle.machine_check.specs.Checks.{below_by}
 use Rattle.machine_check.proofs.ImageLaws.{below_all, most-more, most-end}
-use borrow.Author.Rules.{rules}
 use Rattle.machine_check.proofs.form.targets_below.Goals as goal
 
 pub returns-then-n-ge-MOST_STATES : goal.returns-then-n-ge-MOST_STATES
@@ -21,8 +15,7 @@ pub loop-k-preserved : goal.loop-k-preserved
 loop-k-preserved c = let inv = c.loop-k.invariant in let k = c.loop-k.k in
     let most = c.loop-k.most in let part = c.part-row.ensures in
     let place = c.place.ensures in
-    let at = c.at-m.ensures in
-    (
+    let at = c.at-m.ensures in (
       omega arith,
       most-more c.args.im.now c.args.categories c.args.j c.args.n place.0 at.0 c.requires.3 part k most inv.1
           c.loop-k-test.true c.larger-most.ensures,

@@ -1,13 +1,9 @@
-use native.Mathlib.Omega.{arith}
 use Prim.Native.Nat.{◌≤◌, ◌-◌}
 use mathlib.Core.Path.{◌≡◌}
 use lib.Dec.{ltb}
 use lib.ListN.{length}
-use borrow.Author.Tests.{lt-ltb}
 use Rattle.base_lists.specs.Lists.{all_below}
 use Rattle.machine_check.specs.Checks.{below_by}
-use Rattle.machine_check.proofs.ImageLaws.{below_all, most-more, most-end}
-use borrow.Author.Rules.{rules}
 use Rattle.machine_check.proofs.form.targets_below.Given as goal
 
 abbrev pub invariant-loop-k : goal.invariant-loop-k

@@ -1,9 +1,7 @@
 use native.Mathlib.Omega.{arith}
-use Prim.Native.Nat.{◌+◌, ◌-◌, ◌^◌, ◌≤◌, ◌<◌}
+use Prim.Native.Nat.{◌-◌}
 use mathlib.Core.Path.{◌≡◌}
-use Rattle.base_lists.specs.Numbers.{word_of}
 use Rattle.machine_check.proofs.ImageLaws.{pack-more, pack-end, pack-none, pack-fits}
-use borrow.Author.Rules.{rules}
 use Rattle.machine_check.proofs.image.packed_at.Goals as goal
 
 pub loop-c-init : goal.loop-c-init
@@ -33,8 +31,7 @@ loop-c-smaller c = omega (arith, c.loop-c-test.true)
 
 pub loop-c-preserved : goal.loop-c-preserved
 loop-c-preserved c = let n = c.args.n in let loop-test = c.loop-c-test.true in
-    let the-c = c.loop-c.c in let inv = c.loop-c.invariant in let x = c.loop-c.x in
-    (
+    let the-c = c.loop-c.c in let inv = c.loop-c.invariant in let x = c.loop-c.x in (
       omega (arith, inv.0),
       (pack-fits n the-c x c.byte-b.result loop-test inv.0 c.requires.0 inv.1 (omega arith)).0,
       pack-more c.args.im.now c.args.i n the-c x c.byte-b.result loop-test inv.0 inv.2 c.byte-b.ensures,

@@ -1,9 +1,6 @@
-use native.Mathlib.Omega.{arith}
 use Prim.Native.Nat.{◌+◌, ◌-◌, ◌^◌, ◌≤◌, ◌<◌}
 use mathlib.Core.Path.{◌≡◌}
 use Rattle.base_lists.specs.Numbers.{word_of}
-use Rattle.machine_check.proofs.ImageLaws.{pack-more, pack-end, pack-none, pack-fits}
-use borrow.Author.Rules.{rules}
 use Rattle.machine_check.proofs.image.packed_at.Given as goal
 
 abbrev pub invariant-loop-c : goal.invariant-loop-c

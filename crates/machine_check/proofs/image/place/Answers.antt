@@ -1,6 +1,5 @@
 use native.Mathlib.Omega.{arith}
 use Rattle.machine_check.proofs.ImageLaws.{place_is, place-fits}
-use borrow.Author.Rules.{rules}
 use Rattle.machine_check.proofs.image.place.Goals as goal
 
 pub overflow_mul-result-2 : goal.overflow_mul-result-2

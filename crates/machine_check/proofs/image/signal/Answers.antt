@@ -1,7 +1,6 @@
 use mathlib.Core.Path.{ap, ◌∙◌}
 use Rattle.machine_image.specs.Image.{place_of, signal_in}
 use Rattle.machine_check.proofs.ImageLaws.{signal-is}
-use borrow.Author.Rules.{rules}
 use Rattle.machine_check.proofs.image.signal.Goals as goal
 
 pub returns : goal.returns

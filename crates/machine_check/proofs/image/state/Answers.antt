@@ -1,5 +1,4 @@
 use Rattle.machine_check.proofs.ImageLaws.{state-is}
-use borrow.Author.Rules.{rules}
 use Rattle.machine_check.proofs.image.state.Goals as goal
 
 pub returns : goal.returns

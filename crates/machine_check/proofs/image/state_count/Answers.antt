@@ -1,6 +1,5 @@
 use native.Mathlib.Omega.{arith}
 use Rattle.machine_check.proofs.ImageLaws.{count-is}
-use borrow.Author.Rules.{rules}
 use Rattle.machine_check.proofs.image.state_count.Goals as goal
 
 pub returns : goal.returns

@@ -3,7 +3,6 @@ use Prim.Native.Nat.{◌+◌}
 use lib.ListN.{get_or}
 use Rattle.machine_image.specs.Image.{place_of, target_in}
 use Rattle.machine_check.proofs.ImageLaws.{target_is}
-use borrow.Author.Rules.{rules}
 use Rattle.machine_check.proofs.image.target.Goals as goal
 
 pub returns : goal.returns

@@ -1,6 +1,5 @@
 use mathlib.Core.Path.{ap, ◌∙◌}
 use Rattle.node_step.specs.StatusByte.{same_packed}
-use borrow.Author.Rules.{rules}
 use Rattle.machine_check.proofs.rows.is_right.Goals as goal
 
 pub returns-then-j-n : goal.returns-then-j-n

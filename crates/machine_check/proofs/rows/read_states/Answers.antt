@@ -1,19 +1,16 @@
 use native.Mathlib.Omega.{arith}
-use Prim.Native.Nat.{◌≤◌, ◌-◌}
-use mathlib.Core.Path.{◌≡◌, ◌∙◌}
-use lib.ListN.{length, length-set}
-use Rattle.base_numbers.specs.Numbers.{most_states}
-use Rattle.machine_check.specs.Checks.{Read}
+use mathlib.Core.Path.{◌∙◌}
+use lib.ListN.{length-set}
 use Rattle.machine_check.proofs.ImageLaws.{read_none, read_more, read_all}
 use Rattle.machine_check.proofs.rows.read_states.Goals as goal
 
 pub loop-j-init : goal.loop-j-init
 loop-j-init c = (
-      omega arith,
-      c.requires.2,
-      c.requires.3,
-      read_none c.args.im.now c.args.categories c.args.signal.now c.args.statuses.now,
-    )
+  omega arith,
+  c.requires.2,
+  c.requires.3,
+  read_none c.args.im.now c.args.categories c.args.signal.now c.args.statuses.now,
+)
 
 pub state-st-requires : goal.state-st-requires
 state-st-requires c = (c.requires.0, omega (arith, c.loop-j-test.true, c.requires.1))
@@ -36,8 +33,7 @@ loop-j-smaller c = omega (arith, c.loop-j-test.true)
 pub loop-j-preserved : goal.loop-j-preserved
 loop-j-preserved c = let loop-test = c.loop-j-test.true in
     let inv = c.loop-j.invariant in let j = c.loop-j.j in
-    let signal = c.loop-j.signal in let statuses = c.loop-j.statuses in
-    (
+    let signal = c.loop-j.signal in let statuses = c.loop-j.statuses in (
       omega (arith, loop-test),
       length-set signal j c.state-st.result.signal ∙ inv.1,
       length-set statuses j c.state-st.result.statuses ∙ inv.2,

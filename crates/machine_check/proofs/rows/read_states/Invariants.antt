@@ -1,10 +1,8 @@
-use native.Mathlib.Omega.{arith}
 use Prim.Native.Nat.{◌≤◌, ◌-◌}
-use mathlib.Core.Path.{◌≡◌, ◌∙◌}
-use lib.ListN.{length, length-set}
+use mathlib.Core.Path.{◌≡◌}
+use lib.ListN.{length}
 use Rattle.base_numbers.specs.Numbers.{most_states}
 use Rattle.machine_check.specs.Checks.{Read}
-use Rattle.machine_check.proofs.ImageLaws.{read_none, read_more, read_all}
 use Rattle.machine_check.proofs.rows.read_states.Given as goal
 
 abbrev pub invariant-loop-j : goal.invariant-loop-j

@@ -1,14 +1,9 @@
-use native.Mathlib.Omega.{arith}
 use Prim.Native.Nat.{◌≤◌, ◌-◌}
-use mathlib.Core.Path.{◌≡◌, refl}
+use mathlib.Core.Path.{◌≡◌}
 use mathlib.Core.Bool.{true}
-use Rattle.base_lists.proofs.Below.{all_more, all_done}
 use Rattle.base_lists.specs.Lists.{all_below}
 use Rattle.machine_symbols.specs.Steps.{next_state}
-use borrow.Author.Tests.{not-true, not-false}
-use Rattle.machine_check.specs.Checks.{target_right_by, row_right_by}
-use Rattle.machine_check.proofs.ImageLaws.{right-no, right-yes}
-use borrow.Author.Rules.{rules}
+use Rattle.machine_check.specs.Checks.{target_right_by}
 use Rattle.machine_check.proofs.rows.row_right.Given as goal
 
 abbrev pub invariant-loop-k : goal.invariant-loop-k

@@ -1,7 +1,5 @@
 use Prim.Native.Nat.{◌-◌, ◌≤◌}
-use native.Mathlib.Omega.{arith}
-use Rattle.sample_names.proofs.SearchLaws.{NameSoFar, free-start, name-on, name-first, name-last}
-use borrow.Author.Rules.{rules}
+use Rattle.sample_names.proofs.SearchLaws.{NameSoFar}
 use Rattle.sample_names.proofs.search.first_name.Given as goal
 
 abbrev pub invariant-loop-k : goal.invariant-loop-k

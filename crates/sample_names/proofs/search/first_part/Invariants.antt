@@ -1,9 +1,7 @@
 use Prim.Native.Nat.{◌-◌, ◌≤◌}
-use native.Mathlib.Omega.{arith}
 use Rattle.theory_resolution.specs.Table.{urn}
 use Rattle.base_text.specs.Text.{fields}
-use Rattle.sample_names.proofs.SearchLaws.{PartSoFar, free-start, part-on, part-first, part-last}
-use borrow.Author.Rules.{rules}
+use Rattle.sample_names.proofs.SearchLaws.{PartSoFar}
 use Rattle.sample_names.proofs.search.first_part.Given as goal
 
 abbrev pub invariant-loop-k : goal.invariant-loop-k

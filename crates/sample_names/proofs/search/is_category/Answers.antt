@@ -1,9 +1,7 @@
-use Prim.Native.Nat.{◌-◌}
 use mathlib.Core.Path.{refl}
 use native.Mathlib.Omega.{arith}
-use Rattle.sample_names.proofs.SearchLaws.{CategorySoFar, category-here, category-on, category-none}
+use Rattle.sample_names.proofs.SearchLaws.{category-here, category-on, category-none}
 use Rattle.node_search.proofs.TextLaws.{text_in_lem}
-use borrow.Author.Rules.{rules}
 use Rattle.sample_names.proofs.search.is_category.Goals as goal
 
 pub loop-i-init : goal.loop-i-init

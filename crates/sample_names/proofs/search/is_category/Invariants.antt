@@ -1,9 +1,5 @@
 use Prim.Native.Nat.{◌-◌}
-use mathlib.Core.Path.{refl}
-use native.Mathlib.Omega.{arith}
-use Rattle.sample_names.proofs.SearchLaws.{CategorySoFar, category-here, category-on, category-none}
-use Rattle.node_search.proofs.TextLaws.{text_in_lem}
-use borrow.Author.Rules.{rules}
+use Rattle.sample_names.proofs.SearchLaws.{CategorySoFar}
 use Rattle.sample_names.proofs.search.is_category.Given as goal
 
 abbrev pub invariant-loop-i : goal.invariant-loop-i

@@ -1,11 +1,6 @@
-use Prim.Native.Nat.{◌-◌}
 use mathlib.Core.Path.{refl}
-use mathlib.Core.List.{◌∷◌, ◌++◌}
 use native.Mathlib.Omega.{arith}
-use Rattle.theory_resolution.specs.Table.{urn}
-use Rattle.base_text.specs.Text.{fields}
-use Rattle.sample_names.proofs.SearchLaws.{NodeSoFar, node-here, node-on, node-none}
-use borrow.Author.Rules.{rules}
+use Rattle.sample_names.proofs.SearchLaws.{node-here, node-on, node-none}
 use Rattle.sample_names.proofs.search.is_node.Goals as goal
 
 pub loop-j-init : goal.loop-j-init

@@ -1,11 +1,8 @@
 use Prim.Native.Nat.{◌-◌}
-use mathlib.Core.Path.{refl}
 use mathlib.Core.List.{◌∷◌, ◌++◌}
-use native.Mathlib.Omega.{arith}
 use Rattle.theory_resolution.specs.Table.{urn}
 use Rattle.base_text.specs.Text.{fields}
-use Rattle.sample_names.proofs.SearchLaws.{NodeSoFar, node-here, node-on, node-none}
-use borrow.Author.Rules.{rules}
+use Rattle.sample_names.proofs.SearchLaws.{NodeSoFar}
 use Rattle.sample_names.proofs.search.is_node.Given as goal
 
 abbrev pub invariant-loop-j : goal.invariant-loop-j

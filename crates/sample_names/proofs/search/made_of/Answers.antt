@@ -5,7 +5,6 @@ use native.Mathlib.Omega.{arith}
 use Rattle.base_lists.proofs.Cuts.{part_end}
 use Rattle.theory_resolution.specs.Names.{same_name}
 use Rattle.sample_names.proofs.SearchLaws.{made-short, made_other, made-byte, made-rest}
-use borrow.Author.Rules.{rules}
 use Rattle.sample_names.proofs.search.made_of.Goals as goal
 
 pub returns-then-n-k : goal.returns-then-n-k

@@ -1,6 +1,5 @@
 use native.Mathlib.Omega.{arith}
 use Rattle.sample_names.proofs.SearchLaws.{name-same}
-use borrow.Author.Rules.{rules}
 use Rattle.sample_names.proofs.search.name_taken.Goals as goal
 
 pub slice_bounds-is_category-end : goal.slice_bounds-is_category-end

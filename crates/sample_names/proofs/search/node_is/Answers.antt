@@ -2,7 +2,6 @@ use mathlib.Core.Path.{ap, ◌∙◌}
 use Rattle.base_text.specs.Text.{fields}
 use Rattle.sample_names.proofs.SearchLaws.{node-same, node-other}
 use Rattle.node_search.proofs.TextLaws.{text_in_lem}
-use borrow.Author.Rules.{rules}
 use Rattle.sample_names.proofs.search.node_is.Goals as goal
 
 pub returns-then-c-category : goal.returns-then-c-category

@@ -1,6 +1,5 @@
 use native.Mathlib.Omega.{arith}
 use Rattle.sample_names.proofs.SearchLaws.{part_same}
-use borrow.Author.Rules.{rules}
 use Rattle.sample_names.proofs.search.part_taken.Goals as goal
 
 pub slice_bounds-is_node-end : goal.slice_bounds-is_node-end

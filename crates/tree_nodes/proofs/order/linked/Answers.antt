@@ -1,14 +1,6 @@
 use native.Mathlib.Omega.{arith}
-use Prim.Native.Nat.{◌≤◌, ◌-◌, ◌+◌}
-use mathlib.Core.Path.{◌≡◌}
-use mathlib.Core.Bool.{true}
-use lib.ListN.{get_or}
-use lib.Dec.{eqb}
 use Rattle.base_lists.proofs.Tests.{all_start}
-use Rattle.base_lists.specs.Tests.{all}
-use Rattle.base_lists.specs.Lists.{tabulate}
 use Rattle.tree_nodes.proofs.Tests.{link-next, link-fails, link-ends}
-use borrow.Author.Rules.{rules}
 use Rattle.tree_nodes.proofs.order.linked.Goals as goal
 
 pub loop-j-init : goal.loop-j-init

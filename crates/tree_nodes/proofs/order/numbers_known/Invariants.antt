@@ -1,13 +1,10 @@
-use native.Mathlib.Omega.{arith}
 use Prim.Native.Nat.{◌≤◌, ◌-◌}
-use mathlib.Core.Path.{◌≡◌, ap, ◌∙◌}
+use mathlib.Core.Path.{◌≡◌}
 use mathlib.Core.Bool.{true}
 use lib.ListN.{get_or}
-use Rattle.base_lists.proofs.Tests.{all_start, all-next, all-fails, all-ends}
 use Rattle.base_lists.specs.Tests.{all}
 use Rattle.base_lists.specs.Numbers.{within}
 use Rattle.base_lists.specs.Lists.{tabulate}
-use borrow.Author.Rules.{rules}
 use Rattle.tree_nodes.proofs.order.numbers_known.Given as goal
 
 abbrev pub invariant-loop-i : goal.invariant-loop-i

@@ -1,12 +1,5 @@
 use native.Mathlib.Omega.{arith}
-use Prim.Native.Nat.{◌≤◌, ◌-◌}
-use mathlib.Core.Path.{◌≡◌}
-use mathlib.Core.List.{foldl}
-use lib.ListN.{get_or}
-use Rattle.base_lists.specs.Lists.{tabulate}
-use Rattle.tree_nodes.specs.Tests.{step_by}
 use Rattle.tree_nodes.proofs.Tests.{scan-start, scan-more, scan-ends}
-use borrow.Author.Rules.{rules}
 use Rattle.tree_nodes.proofs.order.scan.Goals as goal
 
 pub loop-i-init : goal.loop-i-init

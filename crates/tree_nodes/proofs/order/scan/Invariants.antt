@@ -1,12 +1,9 @@
-use native.Mathlib.Omega.{arith}
 use Prim.Native.Nat.{◌≤◌, ◌-◌}
 use mathlib.Core.Path.{◌≡◌}
 use mathlib.Core.List.{foldl}
 use lib.ListN.{get_or}
 use Rattle.base_lists.specs.Lists.{tabulate}
 use Rattle.tree_nodes.specs.Tests.{step_by}
-use Rattle.tree_nodes.proofs.Tests.{scan-start, scan-more, scan-ends}
-use borrow.Author.Rules.{rules}
 use Rattle.tree_nodes.proofs.order.scan.Given as goal
 
 abbrev pub invariant-loop-i : goal.invariant-loop-i

@@ -1,5 +1,4 @@
 use Rattle.tree_nodes.proofs.Tests.{step-old, step-new, step-none}
-use borrow.Author.Rules.{rules}
 use Rattle.tree_nodes.proofs.order.step.Goals as goal
 
 pub returns-then-k-m : goal.returns-then-k-m

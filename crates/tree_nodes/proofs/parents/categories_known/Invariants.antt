@@ -1,14 +1,10 @@
-use native.Mathlib.Omega.{arith}
 use Prim.Native.Nat.{◌≤◌, ◌-◌}
 use mathlib.Core.Path.{◌≡◌}
 use mathlib.Core.Bool.{true}
 use lib.ListN.{get_or}
 use lib.Dec.{ltb}
-use Rattle.base_lists.proofs.Tests.{all_start, all-ends}
 use Rattle.base_lists.specs.Tests.{all}
 use Rattle.base_lists.specs.Lists.{tabulate}
-use Rattle.tree_nodes.proofs.Tests.{lower-next, lower-fails}
-use borrow.Author.Rules.{rules}
 use Rattle.tree_nodes.proofs.parents.categories_known.Given as goal
 
 abbrev pub invariant-loop-i : goal.invariant-loop-i

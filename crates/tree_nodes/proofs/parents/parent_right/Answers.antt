@@ -1,5 +1,4 @@
 use Rattle.tree_nodes.proofs.Tests.{under-zero, under-late, under_same}
-use borrow.Author.Rules.{rules}
 use Rattle.tree_nodes.proofs.parents.parent_right.Goals as goal
 
 pub returns-then-p-eq0 : goal.returns-then-p-eq0

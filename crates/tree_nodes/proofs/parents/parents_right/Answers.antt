@@ -1,12 +1,5 @@
 use native.Mathlib.Omega.{arith}
-use Prim.Native.Nat.{◌≤◌, ◌-◌}
-use mathlib.Core.Path.{◌≡◌}
-use mathlib.Core.Bool.{true}
 use Rattle.base_lists.proofs.Tests.{all_start, all-next, all-fails, all-ends}
-use Rattle.base_lists.specs.Tests.{all}
-use Rattle.base_lists.specs.Lists.{tabulate}
-use Rattle.tree_nodes.specs.Tests.{under_at}
-use borrow.Author.Rules.{rules}
 use Rattle.tree_nodes.proofs.parents.parents_right.Goals as goal
 
 pub loop-i-init : goal.loop-i-init

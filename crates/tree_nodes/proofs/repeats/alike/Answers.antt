@@ -1,7 +1,6 @@
 use native.Mathlib.Omega.{arith}
 use Rattle.tree_nodes.proofs.Tests.{not-category, not-parent, by_name}
 use Rattle.node_search.proofs.TextLaws.{text_in_lem}
-use borrow.Author.Rules.{rules}
 use Rattle.tree_nodes.proofs.repeats.alike.Goals as goal
 
 pub returns-then-p-q : goal.returns-then-p-q

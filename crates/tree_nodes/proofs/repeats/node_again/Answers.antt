@@ -1,13 +1,6 @@
 use native.Mathlib.Omega.{arith}
-use Prim.Native.Nat.{◌≤◌, ◌-◌}
-use mathlib.Core.Path.{◌≡◌, sym, ◌∙◌}
-use mathlib.Core.Bool.{false}
+use mathlib.Core.Path.{sym, ◌∙◌}
 use Rattle.base_lists.proofs.Tests.{any-start, any_next, any_found, any-ends}
-use Rattle.base_lists.specs.Tests.{any}
-use Rattle.base_lists.specs.Lists.{tabulate}
-use Rattle.tree_nodes.specs.Scan.{same_node}
-use Rattle.tree_sections.specs.Held.{node_from}
-use borrow.Author.Rules.{rules}
 use Rattle.tree_nodes.proofs.repeats.node_again.Goals as goal
 
 pub loop-j-init : goal.loop-j-init

@@ -1,13 +1,10 @@
-use native.Mathlib.Omega.{arith}
 use Prim.Native.Nat.{◌≤◌, ◌-◌}
-use mathlib.Core.Path.{◌≡◌, sym, ◌∙◌}
+use mathlib.Core.Path.{◌≡◌}
 use mathlib.Core.Bool.{true}
-use Rattle.base_lists.proofs.Tests.{two-start, two-next, two-fails, two_ends}
 use Rattle.base_lists.specs.Tests.{no_two}
 use Rattle.base_lists.specs.Lists.{tabulate}
 use Rattle.tree_nodes.specs.Scan.{same_node}
 use Rattle.tree_sections.specs.Held.{node_from}
-use borrow.Author.Rules.{rules}
 use Rattle.tree_nodes.proofs.repeats.nodes_distinct.Given as goal
 
 abbrev pub invariant-loop-i : goal.invariant-loop-i

@@ -1,15 +1,9 @@
 use native.Mathlib.Omega.{arith}
-use Prim.Native.Nat.{◌≤◌, ◌-◌}
-use mathlib.Core.Path.{◌≡◌, ap, ◌∙◌}
-use mathlib.Core.Bool.{true}
-use Rattle.base_lists.specs.Cuts.{stretch}
+use mathlib.Core.Path.{ap, ◌∙◌}
 use Rattle.base_lists.proofs.Tests.{all_start, all-next, all-fails, all-ends}
-use Rattle.base_lists.specs.Tests.{all}
-use Rattle.base_lists.specs.Lists.{tabulate}
 use Rattle.urn_names.specs.Urn.{stored_name}
 use Rattle.node_search.proofs.TextLaws.{text_in_lem}
 use Rattle.tree_nodes.proofs.ByArrays.{lasts-over, lasts-within}
-use borrow.Author.Rules.{rules}
 use Rattle.tree_nodes.proofs.texts.lasts_formed.Goals as goal
 
 pub returns-then-n-gt-MOST_NODES : goal.returns-then-n-gt-MOST_NODES
@@ -20,10 +14,10 @@ loop-i-init c = (omega arith, all_start _ _)
 
 pub loop-i-preserved : goal.loop-i-preserved
 loop-i-preserved c = let inv = c.loop-i.invariant in (
-      omega arith,
-      all-next _ _ _ inv.1 (c.stored_name.ensures
-          ∙ ap stored_name (text_in_lem _ _ _ _ _ c.node_text.ensures.result_value (omega arith))) c.if-stored_name.true,
-    )
+  omega arith,
+  all-next _ _ _ inv.1 (c.stored_name.ensures
+      ∙ ap stored_name (text_in_lem _ _ _ _ _ c.node_text.ensures.result_value (omega arith))) c.if-stored_name.true,
+)
 
 pub returns-else-stored_name : goal.returns-else-stored_name
 returns-else-stored_name c = let loop-test = c.loop-i-test.true in
