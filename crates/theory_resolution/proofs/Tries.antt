@@ -11,7 +11,7 @@ use native.Mathlib.Omega.{arith}
 use Rattle.base_lists.proofs.Lists.{member-to}
 use Rattle.theory_resolution.specs.Names.{Parts, same_parts, below, proper_ancestor, longer, candidates, Above}
 use Rattle.theory_resolution.specs.Table.{Urn, urn, Table, Row, row_of, find, WellFormed}
-use Rattle.theory_resolution.specs.Direct.{Status, Open, Held, Shut, State, Env, env_of, Hit, found, first_hit, takes_urn, status_fits, step, StateOf}
+use Rattle.theory_resolution.specs.Direct.{Status, Open, Held, Shut, State, Env, env_of, Hit, first_hit, takes_urn, status_fits, step, StateOf}
 use Rattle.theory_resolution.specs.Nodes.{same_urn, nodes, RootOrNode, is_inner, deepest}
 use Rattle.theory_resolution.specs.Tries.{one_more, tries_of, tries_if_taken, tries, node_tries, tries_over, place_at, taken_at, deepest_of, Searched, TriesLaw}
 use Rattle.theory_resolution.proofs.Names.{below-to, below_self, above-trans, proper-above}

@@ -1,10 +1,9 @@
 use borrow.Author.Fill.{fill_more}
 use mathlib.Core.Path.{◌≡◌, ap, ◌∙◌}
-use mathlib.Core.List.{List, ◌++◌, append-nil}
-use Prim.Native.Nat.{ℕ, ◌-◌, ◌≤◌}
+use mathlib.Core.List.{List, append-nil}
+use Prim.Native.Nat.{ℕ}
 use native.Mathlib.Omega.{arith}
-use lib.ListN.{length, drop, replicate, set, length-set, drop_of_length-le}
-use borrow.Author.Rules.{rules}
+use lib.ListN.{length, replicate, set, length-set, drop_of_length-le}
 use Rattle.base_bytes.proofs.lent.clear.Goals as goal
 
 pub loop-i-preserved : goal.loop-i-preserved

@@ -1,10 +1,7 @@
-use Prim.Native.Nat.{◌≤◌, ◌-◌}
-use mathlib.Core.Path.{◌≡◌, refl, ◌∙◌}
-use lib.ListN.{length, take, length-set}
+use mathlib.Core.Path.{refl, ◌∙◌}
+use lib.ListN.{length-set}
 use native.Mathlib.Omega.{arith}
-use Rattle.base_lists.specs.Lists.{laid}
 use Rattle.base_lists.proofs.Over.{laid_nil, laid-copy, laid_done}
-use borrow.Author.Rules.{rules}
 use Rattle.base_bytes.proofs.lent.copy.Goals as goal
 
 pub loop-i-init : goal.loop-i-init

@@ -1,10 +1,7 @@
 use Prim.Native.Nat.{◌≤◌, ◌-◌}
-use mathlib.Core.Path.{◌≡◌, refl, ◌∙◌}
-use lib.ListN.{length, take, length-set}
-use native.Mathlib.Omega.{arith}
+use mathlib.Core.Path.{◌≡◌}
+use lib.ListN.{length, take}
 use Rattle.base_lists.specs.Lists.{laid}
-use Rattle.base_lists.proofs.Over.{laid_nil, laid-copy, laid_done}
-use borrow.Author.Rules.{rules}
 use Rattle.base_bytes.proofs.lent.copy.Given as goal
 
 abbrev pub invariant-loop-i : goal.invariant-loop-i

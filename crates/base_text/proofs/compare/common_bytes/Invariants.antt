@@ -1,10 +1,7 @@
-use native.Mathlib.Omega.{arith}
 use Prim.Native.Nat.{◌+◌, ◌-◌}
-use mathlib.Core.Path.{◌≡◌, refl}
+use mathlib.Core.Path.{◌≡◌}
 use lib.ListN.{length, drop}
 use Rattle.base_text.specs.Text.{common}
-use Rattle.base_text.proofs.Turns.{common-more, common-less, common-end}
-use borrow.Author.Rules.{rules}
 use Rattle.base_text.proofs.compare.common_bytes.Given as goal
 
 abbrev pub invariant-loop-i : goal.invariant-loop-i

@@ -1,10 +1,7 @@
-use native.Mathlib.Omega.{arith}
 use Prim.Native.Nat.{◌+◌, ◌-◌}
-use mathlib.Core.Path.{◌≡◌, refl, sym, ◌∙◌}
+use mathlib.Core.Path.{◌≡◌}
 use lib.ListN.{drop}
 use Rattle.base_text.specs.Text.{common}
-use Rattle.base_text.proofs.Turns.{commons-more, common-end}
-use borrow.Author.Rules.{rules}
 use Rattle.base_text.proofs.compare.common_from.Given as goal
 
 abbrev pub invariant-loop-i : goal.invariant-loop-i

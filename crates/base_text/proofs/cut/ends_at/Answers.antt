@@ -1,5 +1,4 @@
 use Rattle.base_text.proofs.Turns.{ends-inside, ends-over}
-use borrow.Author.Rules.{rules}
 use Rattle.base_text.proofs.cut.ends_at.Goals as goal
 
 pub returns-then-n-w : goal.returns-then-n-w

@@ -1,11 +1,7 @@
-use native.Mathlib.Omega.{arith}
 use Prim.Native.Nat.{◌≤◌, ◌-◌, ◌+◌}
 use lib.ListN.{length, drop}
-use Rattle.base_lists.proofs.Cuts.{up_to-hit, up_to-miss, up_to-end}
 use Rattle.base_lists.specs.Cuts.{up_to}
-use borrow.Author.Tests.{eq-eqb, ne_eqb}
 use mathlib.Core.Path.{◌≡◌}
-use borrow.Author.Rules.{rules}
 use Rattle.base_text.proofs.cut.find.Given as goal
 
 abbrev pub invariant-loop-i : goal.invariant-loop-i

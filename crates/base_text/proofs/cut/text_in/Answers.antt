@@ -1,9 +1,7 @@
 use mathlib.Core.Path.{ap}
 use lib.ListN.{length, drop, length-take}
 use native.Mathlib.Omega.{arith}
-use borrow.Author.Rules.{rules}
 use Rattle.base_text.proofs.cut.text_in.Goals as goal
 
 pub returns : goal.returns
-returns c = let a = c.args in
-    (c.part.ensures, omega (arith, ap length c.part.ensures, length-take a.len (drop a.at a.t.now)))
+returns c = let a = c.args in record { result_value = c.part.ensures; short = omega (arith, ap length c.part.ensures, length-take a.len (drop a.at a.t.now)) }

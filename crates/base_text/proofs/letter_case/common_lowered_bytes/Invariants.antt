@@ -1,11 +1,7 @@
-use native.Mathlib.Omega.{arith}
 use Prim.Native.Nat.{◌+◌, ◌-◌}
-use mathlib.Core.Path.{◌≡◌, refl, sym, ◌∙◌}
+use mathlib.Core.Path.{◌≡◌}
 use lib.ListN.{drop}
 use Rattle.base_text.specs.Text.{common, lowered}
-use Rattle.base_text.proofs.Turns.{common-more, common-less, common-end}
-use Rattle.base_text.proofs.Cases.{lowered-length, lowered-at}
-use borrow.Author.Rules.{rules}
 use Rattle.base_text.proofs.letter_case.common_lowered_bytes.Given as goal
 
 abbrev pub invariant-loop-i : goal.invariant-loop-i

@@ -1,10 +1,7 @@
-use native.Mathlib.Omega.{arith}
 use Prim.Native.Nat.{ℕ, ◌≤◌, ◌<◌, ◌-◌}
 use mathlib.Core.Path.{◌≡◌}
 use lib.ListN.{length, get_or}
 use Rattle.base_text.specs.Text.{lower}
-use Rattle.base_text.proofs.Cases.{as-is-next, no-capital, has-capital}
-use borrow.Author.Rules.{rules}
 use Rattle.base_text.proofs.letter_case.is_lowered.Given as goal
 
 abbrev pub invariant-loop-i : goal.invariant-loop-i

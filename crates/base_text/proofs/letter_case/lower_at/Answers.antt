@@ -1,8 +1,7 @@
 use native.Mathlib.Omega.{arith}
 use Rattle.base_text.proofs.Cases.{small-byte}
-use borrow.Author.Rules.{rules}
 use Rattle.base_text.proofs.letter_case.lower_at.Goals as goal
 
 pub returns : goal.returns
-returns c =    let a = c.args in let pre = c.requires in
-    small-byte a.s.now a.i pre (omega (arith, c.shared-slice-known.given a.i)) c.lower_of.ensures
+returns c = let a = c.args in let pre = c.requires in
+    small-byte a.s.now a.i pre (omega (arith, c.type_inv.s a.i)) c.lower_of.ensures

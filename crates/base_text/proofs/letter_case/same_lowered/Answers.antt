@@ -1,10 +1,5 @@
 use native.Mathlib.Omega.{arith}
-use Prim.Native.Nat.{◌≤◌}
-use mathlib.Core.Path.{◌≡◌}
-use lib.ListN.{length, drop}
-use Rattle.base_text.specs.Text.{lowered}
 use Rattle.base_text.proofs.Cases.{small-lengths, small-start-end, small-before, small-other, small_same}
-use borrow.Author.Rules.{rules}
 use Rattle.base_text.proofs.letter_case.same_lowered.Goals as goal
 
 pub returns-then-n-s : goal.returns-then-n-s
@@ -17,7 +12,7 @@ pub bounds-p-k : goal.bounds-p-k
 bounds-p-k c = omega (arith, c.loop-i.invariant.0, c.loop-i-test.true)
 
 pub bounds-s-k : goal.bounds-s-k
-bounds-s-k c =    let loop = c.loop-i in
+bounds-s-k c = let loop = c.loop-i in
     let if1 = c.if-n-s in
     omega (arith, loop.invariant.0, c.loop-i-test.true, if1.false)
 
@@ -25,7 +20,7 @@ pub loop-i-smaller : goal.loop-i-smaller
 loop-i-smaller c = omega (arith, c.loop-i-test.true)
 
 pub loop-i-preserved : goal.loop-i-preserved
-loop-i-preserved c =    let loop-test = c.loop-i-test in
+loop-i-preserved c = let loop-test = c.loop-i-test in
     let l = c.loop-i in
     let if1 = c.if-n-s in
     let a = c.args in (
@@ -35,7 +30,7 @@ loop-i-preserved c =    let loop-test = c.loop-i-test in
     )
 
 pub returns-else-p-k : goal.returns-else-p-k
-returns-else-p-k c =    let loop-test = c.loop-i-test in
+returns-else-p-k c = let loop-test = c.loop-i-test in
     let l = c.loop-i in
     let if1 = c.if-n-s in
     let a = c.args in

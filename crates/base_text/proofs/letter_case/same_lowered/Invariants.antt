@@ -1,10 +1,7 @@
-use native.Mathlib.Omega.{arith}
 use Prim.Native.Nat.{◌≤◌}
 use mathlib.Core.Path.{◌≡◌}
 use lib.ListN.{length, drop}
 use Rattle.base_text.specs.Text.{lowered}
-use Rattle.base_text.proofs.Cases.{small-lengths, small-start-end, small-before, small-other, small_same}
-use borrow.Author.Rules.{rules}
 use Rattle.base_text.proofs.letter_case.same_lowered.Given as goal
 
 abbrev pub invariant-loop-i : goal.invariant-loop-i

@@ -1,5 +1,4 @@
 use borrow.Author.Tests.{eq-eqb, ne_eqb}
-use borrow.Author.Rules.{rules}
 use Rattle.value_cursor.proofs.pass.note.Goals as goal
 
 pub returns-then-t-k : goal.returns-then-t-k

@@ -1,13 +1,8 @@
-use mathlib.Core.Path.{◌≡◌, refl, sym, ap, ◌∙◌}
-use Prim.Native.Nat.{◌+◌, ◌-◌, ◌≤◌}
+use mathlib.Core.Path.{◌≡◌}
+use Prim.Native.Nat.{◌-◌, ◌≤◌}
 use lib.ListN.{length}
-use native.Mathlib.Omega.{arith}
-use borrow.Author.Rules.{rules}
-use Rattle.value_cursor.specs.Reading.{reading_from, reading_of}
+use Rattle.value_cursor.specs.Reading.{reading_from}
 use Rattle.value_cursor.specs.Pass.{summary, scan_of}
-use Rattle.value_cursor.specs.declared.pass.Scan.{Scan}
-use Rattle.value_cursor.proofs.PassLaws.{scan-more, summary-last}
-use Rattle.value_cursor.proofs.ReadingLaws.{reading-last, reading-more, reading-none}
 use Rattle.value_cursor.proofs.pass.scan_with.Given as goal
 
 abbrev pub invariant-loop-span : goal.invariant-loop-span

@@ -1,9 +1,6 @@
-use mathlib.Core.Path.{◌≡◌, refl, sym, ◌∙◌}
-use Prim.Native.Nat.{◌-◌}
-use lib.ListN.{length}
+use mathlib.Core.Path.{sym, ◌∙◌}
 use native.Mathlib.Omega.{arith}
 use borrow.Author.Rules.{rules}
-use Rattle.value_cursor.specs.Parts.{white_at}
 use Rattle.value_cursor.proofs.WhiteLaws.{white-above, white-space, white-tab, white-other, white-broken, white-fold}
 use Rattle.value_cursor.proofs.WhiteLaws.{white-past-end}
 use Rattle.value_cursor.proofs.cursor.Cursor.blanks.Goals as goal

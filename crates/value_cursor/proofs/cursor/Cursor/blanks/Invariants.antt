@@ -1,11 +1,7 @@
-use mathlib.Core.Path.{◌≡◌, refl, sym, ◌∙◌}
+use mathlib.Core.Path.{◌≡◌}
 use Prim.Native.Nat.{◌-◌}
 use lib.ListN.{length}
-use native.Mathlib.Omega.{arith}
-use borrow.Author.Rules.{rules}
 use Rattle.value_cursor.specs.Parts.{white_at}
-use Rattle.value_cursor.proofs.WhiteLaws.{white-above, white-space, white-tab, white-other, white-broken, white-fold}
-use Rattle.value_cursor.proofs.WhiteLaws.{white-past-end}
 use Rattle.value_cursor.proofs.cursor.Cursor.blanks.Given as goal
 
 abbrev pub invariant-loop-at : goal.invariant-loop-at

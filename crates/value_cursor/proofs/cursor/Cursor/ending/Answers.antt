@@ -1,9 +1,5 @@
-use mathlib.Core.Path.{◌≡◌, refl, sym, ◌∙◌}
-use Prim.Native.Nat.{◌-◌}
-use lib.ListN.{length}
+use mathlib.Core.Path.{refl, sym, ◌∙◌}
 use native.Mathlib.Omega.{arith}
-use borrow.Author.Rules.{rules}
-use Rattle.value_cursor.specs.Parts.{ending_at}
 use Rattle.value_cursor.proofs.PartLaws.{ending-halt, ending-more}
 use Rattle.value_cursor.proofs.cursor.Cursor.ending.Goals as goal
 
@@ -31,4 +27,4 @@ returns-in-Comma c = sym (c.loop-n.invariant
 
 pub returns-in-Stray : goal.returns-in-Stray
 returns-in-Stray c = sym (c.loop-n.invariant
-    ∙ ending-halt _ _ _ _ _ c.following-next.ensures c.enum-told2.given.1 refl)
+    ∙ ending-halt _ _ _ _ _ c.following-next.ensures c.in-Stray.is refl)

@@ -1,10 +1,7 @@
-use mathlib.Core.Path.{◌≡◌, refl, sym, ◌∙◌}
+use mathlib.Core.Path.{◌≡◌}
 use Prim.Native.Nat.{◌-◌}
 use lib.ListN.{length}
-use native.Mathlib.Omega.{arith}
-use borrow.Author.Rules.{rules}
 use Rattle.value_cursor.specs.Parts.{ending_at}
-use Rattle.value_cursor.proofs.PartLaws.{ending-halt, ending-more}
 use Rattle.value_cursor.proofs.cursor.Cursor.ending.Given as goal
 
 abbrev pub invariant-loop-n : goal.invariant-loop-n

@@ -5,7 +5,6 @@ use mathlib.Core.Path.{sym, ◌∙◌}
 use native.Mathlib.Omega.{arith}
 use Rattle.value_cursor.proofs.RunLaws.{peeked}
 use Rattle.value_cursor.proofs.PartLaws.{entry-open, entry-empty, entry_closed, entry-some}
-use borrow.Author.Rules.{rules}
 use Rattle.value_cursor.proofs.cursor.Cursor.entry_with.Goals as goal
 
 pub returns-then-b-ne60 : goal.returns-then-b-ne60
@@ -71,4 +70,4 @@ returns-in-NoEnding c = entry-some _ _ _
     c.if-b-ne60.false _
     c.run-u.ensures
     c.if-start-end.false _ c.peek-g.ensures
-    c.if-g-ne62.false _ _ c.ending-rest.ensures c.enum-told2.given.1
+    c.if-g-ne62.false _ _ c.ending-rest.ensures c.in-NoEnding.is

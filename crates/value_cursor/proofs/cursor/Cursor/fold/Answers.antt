@@ -3,7 +3,6 @@ use mathlib.Core.Bool.{true, false}
 use native.Mathlib.Omega.{arith}
 use Rattle.value_cursor.proofs.RunLaws.{byte-in}
 use Rattle.value_cursor.proofs.WhiteLaws.{fold-short, fold-lf, fold-from}
-use borrow.Author.Rules.{rules}
 use Rattle.value_cursor.proofs.cursor.Cursor.fold.Goals as goal
 
 pub overflow_sub-s : goal.overflow_sub-s
@@ -17,13 +16,13 @@ returns-then-s-at-ne10 c = fold-lf c.args.s.now c.args.self.at
     c.requires.1 c.if-s-at-ne10.true
 
 pub returns-then-has : goal.returns-then-has
-returns-then-has c =    fold-from c.args.s.now
+returns-then-has c = fold-from c.args.s.now
     c.args.self.at
     c.requires.1 true c.if-s-at-ne10.false (sym c.if-has.true
     ∙ c.has.ensures)
 
 pub returns-else-has : goal.returns-else-has
-returns-else-has c =    fold-from c.args.s.now
+returns-else-has c = fold-from c.args.s.now
     c.args.self.at
     c.requires.1 false c.if-s-at-ne10.false (sym c.if-has.false
     ∙ c.has.ensures)

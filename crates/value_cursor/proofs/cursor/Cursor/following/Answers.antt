@@ -1,5 +1,4 @@
 use Rattle.value_cursor.proofs.PartLaws.{following-stop, following-entry, following-bad, following-param}
-use borrow.Author.Rules.{rules}
 use Rattle.value_cursor.proofs.cursor.Cursor.following.Goals as goal
 
 pub returns-then-s-at : goal.returns-then-s-at

@@ -2,7 +2,6 @@ use mathlib.Core.Path.{sym, ◌∙◌}
 use native.Mathlib.Omega.{arith}
 use Rattle.value_cursor.proofs.RunLaws.{peeked}
 use Rattle.value_cursor.proofs.PartLaws.{param-none, param-bare, param-set}
-use borrow.Author.Rules.{rules}
 use Rattle.value_cursor.proofs.cursor.Cursor.param.Goals as goal
 
 pub returns-in_default : goal.returns-in_default

@@ -1,11 +1,7 @@
-use mathlib.Core.Path.{◌≡◌, refl, sym, ◌∙◌}
-use Prim.Native.Nat.{◌-◌}
-use lib.ListN.{length}
+use mathlib.Core.Path.{refl, sym, ◌∙◌}
 use native.Mathlib.Omega.{arith}
-use Rattle.value_cursor.specs.Parts.{quoted_from}
 use Rattle.value_cursor.proofs.RunLaws.{peeked}
 use Rattle.value_cursor.proofs.QuoteLaws.{opened, unopened, quoted-halt, quoted-more}
-use borrow.Author.Rules.{rules}
 use Rattle.value_cursor.proofs.cursor.Cursor.quoted.Goals as goal
 
 pub returns-then-peek-ne34 : goal.returns-then-peek-ne34
@@ -23,14 +19,14 @@ pub loop-n-smaller : goal.loop-n-smaller
 loop-n-smaller c = omega (
   arith,
   quoted-more c.args.s.now
-      c.loop-n.at _ _ c.quoted-text.ensures
+      c.loop-n.at _ _ c.quoted_text-q.ensures
       c.in-Escaped.is,
 )
 
 pub loop-n-preserved : goal.loop-n-preserved
 loop-n-preserved c = c.loop-n.invariant
     ∙ (quoted-more c.args.s.now
-    c.loop-n.at _ _ c.quoted-text.ensures
+    c.loop-n.at _ _ c.quoted_text-q.ensures
     c.in-Escaped.is).0
 
 pub returns-in-Closed : goal.returns-in-Closed
@@ -39,7 +35,7 @@ returns-in-Closed c = sym
     c.args.self.at
     (sym c.peek.ensures
     ∙ c.if-peek-ne34.false) ∙ c.loop-n.invariant
-    ∙ quoted-halt _ _ _ _ _ c.quoted-text.ensures c.in-Closed.is refl)
+    ∙ quoted-halt _ _ _ _ _ c.quoted_text-q.ensures c.in-Closed.is refl)
 
 pub returns-in-Unclosed : goal.returns-in-Unclosed
 returns-in-Unclosed c = sym
@@ -47,4 +43,4 @@ returns-in-Unclosed c = sym
     c.args.self.at
     (sym c.peek.ensures
     ∙ c.if-peek-ne34.false) ∙ c.loop-n.invariant
-    ∙ quoted-halt _ _ _ _ _ c.quoted-text.ensures c.in-Unclosed.is refl)
+    ∙ quoted-halt _ _ _ _ _ c.quoted_text-q.ensures c.in-Unclosed.is refl)

@@ -1,11 +1,7 @@
-use mathlib.Core.Path.{◌≡◌, refl, sym, ◌∙◌}
+use mathlib.Core.Path.{◌≡◌}
 use Prim.Native.Nat.{◌-◌}
 use lib.ListN.{length}
-use native.Mathlib.Omega.{arith}
 use Rattle.value_cursor.specs.Parts.{quoted_from}
-use Rattle.value_cursor.proofs.RunLaws.{peeked}
-use Rattle.value_cursor.proofs.QuoteLaws.{opened, unopened, quoted-halt, quoted-more}
-use borrow.Author.Rules.{rules}
 use Rattle.value_cursor.proofs.cursor.Cursor.quoted.Given as goal
 
 abbrev pub invariant-loop-n : goal.invariant-loop-n

@@ -2,7 +2,6 @@ use mathlib.Core.Path.{sym, ◌∙◌}
 use native.Mathlib.Omega.{arith}
 use Rattle.value_cursor.proofs.RunLaws.{peeked, byte-in}
 use Rattle.value_cursor.proofs.QuoteLaws.{quote-closed, quote-stray, quote-escape, quote-here}
-use borrow.Author.Rules.{rules}
 use Rattle.value_cursor.proofs.cursor.Cursor.quoted_text.Goals as goal
 
 pub overflow_add-next : goal.overflow_add-next

@@ -1,11 +1,8 @@
-use mathlib.Core.Path.{◌≡◌, refl, sym, ◌∙◌}
+use mathlib.Core.Path.{◌≡◌}
 use Prim.Native.Nat.{◌-◌}
 use lib.ListN.{length}
-use borrow.Author.Tests.{not-true, not-false}
 use Rattle.value_cursor.specs.Bytes.{in_class}
 use Rattle.value_cursor.specs.Walk.{run_at}
-use Rattle.value_cursor.proofs.RunLaws.{run_step, run-stop, run_end}
-use borrow.Author.Rules.{rules}
 use Rattle.value_cursor.proofs.cursor.Cursor.run.Given as goal
 
 abbrev pub invariant-loop-at : goal.invariant-loop-at

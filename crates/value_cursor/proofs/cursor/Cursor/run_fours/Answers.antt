@@ -1,11 +1,7 @@
-use mathlib.Core.Path.{◌≡◌, refl, ◌∙◌}
-use Prim.Native.Nat.{◌-◌}
+use mathlib.Core.Path.{◌∙◌}
 use native.Mathlib.Omega.{arith}
-use borrow.Author.Tests.{not-false}
 use Rattle.value_cursor.specs.Bytes.{in_class}
-use Rattle.value_cursor.specs.Walk.{run_at}
 use Rattle.value_cursor.proofs.RunLaws.{run-four}
-use borrow.Author.Rules.{rules}
 use Rattle.value_cursor.proofs.cursor.Cursor.run_fours.Goals as goal
 
 pub returns-then-end-at-lt4 : goal.returns-then-end-at-lt4
@@ -18,7 +14,7 @@ pub loop-at-preserved : goal.loop-at-preserved
 loop-at-preserved c = c.loop-at.invariant
     ∙ run-four (in_class c.args.class)
     c.args.s.now c.loop-at.at _
-    (omega arith) c.four.ensures (not-false _ c.if-not-four.false)
+    (omega arith) c.four.ensures c.if-not-four.false
 
 pub returns : goal.returns
 returns c = c.loop-at.invariant

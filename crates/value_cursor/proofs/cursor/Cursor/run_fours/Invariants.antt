@@ -1,11 +1,7 @@
-use mathlib.Core.Path.{◌≡◌, refl, ◌∙◌}
+use mathlib.Core.Path.{◌≡◌}
 use Prim.Native.Nat.{◌-◌}
-use native.Mathlib.Omega.{arith}
-use borrow.Author.Tests.{not-false}
 use Rattle.value_cursor.specs.Bytes.{in_class}
 use Rattle.value_cursor.specs.Walk.{run_at}
-use Rattle.value_cursor.proofs.RunLaws.{run-four}
-use borrow.Author.Rules.{rules}
 use Rattle.value_cursor.proofs.cursor.Cursor.run_fours.Given as goal
 
 abbrev pub invariant-loop-at : goal.invariant-loop-at

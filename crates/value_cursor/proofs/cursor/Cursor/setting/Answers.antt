@@ -1,5 +1,4 @@
 use Rattle.value_cursor.proofs.PartLaws.{setting-quoted, setting-token}
-use borrow.Author.Rules.{rules}
 use Rattle.value_cursor.proofs.cursor.Cursor.setting.Goals as goal
 
 pub returns-then-b-eq34 : goal.returns-then-b-eq34

@@ -1,5 +1,4 @@
 use Rattle.value_cursor.proofs.PartLaws.{token-none, token-some}
-use borrow.Author.Rules.{rules}
 use Rattle.value_cursor.proofs.cursor.Cursor.token.Goals as goal
 
 pub returns-then-self-c : goal.returns-then-self-c

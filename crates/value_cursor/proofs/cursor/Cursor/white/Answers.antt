@@ -1,5 +1,4 @@
 use mathlib.Core.Path.{sym}
-use borrow.Author.Rules.{rules}
 use Rattle.value_cursor.proofs.WhiteLaws.{white-above}
 use Rattle.value_cursor.proofs.cursor.Cursor.white.Goals as goal
 

@@ -1,0 +1,15 @@
+use Prim.Native.Nat.{◌≤◌, ◌-◌}
+use mathlib.Core.Path.{◌≡◌, refl, sym, ◌∙◌}
+use lib.ListN.{length, length-set}
+use native.Mathlib.Omega.{arith}
+use Rattle.base_lists.proofs.Filled.{Filled, filled_none, filled_more, filled-all}
+use Rattle.small_rounds.specs.Stored.{stored_machine}
+use Rattle.small_rounds.proofs.StoredLaws.{row-end, row_small}
+use borrow.Author.Rules.{rules}
+use Rattle.small_rounds.proofs.rounds.signals.Given as goal
+
+abbrev pub invariant-loop-i : goal.invariant-loop-i
+invariant-loop-i l = (l.i ≤ l.n) × (length l.p ≡ l.n) × Filled (stored_machine l.rows l.n l.head l.k).signal l.p l.i
+
+abbrev pub decreases-loop-i : goal.decreases-loop-i
+decreases-loop-i l = l.n - l.i

@@ -1,0 +1,20 @@
+use native.Mathlib.Omega.{arith}
+use Prim.Native.Nat.{◌≤◌, ◌-◌, ◌*◌}
+use mathlib.Core.Path.{◌≡◌}
+use mathlib.Core.List.{◌++◌}
+use Rattle.base_numbers.specs.Numbers.{most_urn_bytes}
+use Rattle.base_lists.proofs.Numbers.{one_byte}
+use Rattle.base_lists.specs.Lists.{tabulate}
+use Rattle.table_sections.specs.Stored.{text, times, counted}
+use Rattle.table_sections.specs.Held.{tagged_from, urn_at, Room, map_read}
+use Rattle.table_sections.proofs.SectionLaws.{signals-start, signals-more, signals-stop, signals-done, at-most-got}
+use borrow.Author.Rules.{rules}
+use Rattle.table_sections.proofs.signals.read_signals.Given as goal
+
+abbrev pub invariant-loop-s : goal.invariant-loop-s
+invariant-loop-s l = (l.s ≤ l.n) × (l.m ≤ 8 * l.s) × (Room l.initial.at l.initial.len l.initial.signal → Room l.at l.len l.signal)
+    × (Room l.initial.at l.initial.len l.initial.signal → map_read (tagged_from 0) (times (counted 0 8 (text most_urn_bytes l.t) l.t) l.n l.from)
+    ≡ map_read (λ ss. tabulate (urn_at l.t l.signal l.at l.len) l.m ++ tagged_from l.s ss) (times (counted 0 8 (text most_urn_bytes l.t) l.t) (l.n - l.s) l.p))
+
+abbrev pub decreases-loop-s : goal.decreases-loop-s
+decreases-loop-s l = l.n - l.s

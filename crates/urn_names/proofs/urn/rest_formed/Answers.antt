@@ -1,0 +1,6 @@
+use Rattle.urn_names.proofs.Turns.{rest-names}
+use borrow.Author.Rules.{rules}
+use Rattle.urn_names.proofs.urn.rest_formed.Goals as goal
+
+pub returns : goal.returns
+returns c = rest-names _ c.names.ensures

@@ -1,0 +1,6 @@
+use Rattle.value_reader.proofs.JudgedLaws.{span-of}
+use borrow.Author.Rules.{rules}
+use Rattle.value_reader.proofs.c.alert_info_entry.Goals as goal
+
+pub returns : goal.returns
+returns c = span-of _ _ _ c.judge-j.ensures
