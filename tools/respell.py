@@ -6,7 +6,7 @@ usage: tools/respell.py [PATH..]      (default: crates, README.md, docs)
 A part of a name that begins with a small letter and goes on with capitals turns: nodeStep to node_step. Types keep
 their capitals. Where two names would fall together, the table APART says what the one is called. In .rt and .antt
 files every word turns but in quotes; in .md files the words of code spans and code blocks. Functions of src/ and
-exported names have no capitals and stay. A second run changes nothing.
+exported names have no capitals and stay. Run it once, right after port.py.
 """
 import os
 import re
@@ -29,13 +29,11 @@ APART = {
     "small_of": ("small_of_lem", ["claims_demands/proofs/FirstNumber.antt", "claims_demands/proofs/SmallLaws.antt",
                                   "resolve_small/proofs/Claims.antt", "resolve_small/proofs/FormLaws.antt"]),
     "target_right": ("target_right_lem", ["machine_check/proofs/CheckRight.antt"]),
-    "text_in": ("text_in_lem", ["tree_nodes/proofs/repeats/alike/Proof.antt", "tree_nodes/proofs/texts/lasts_formed/Proof.antt",
-                                "table_decode/proofs/forms/urns_formed/Proof.antt", "node_search/proofs/TextLaws.antt",
-                                "node_search/proofs/uses/find_name/Proof.antt", "node_search/proofs/uses/look/Proof.antt",
-                                "table_names/proofs/index_urns/Proof.antt"]),
     "node_at": ("node_at_lem", ["tree_nodes/proofs/ByArrays.antt", "tree_decode/proofs/Composed.antt",
                                 "machine_symbols/proofs/NumberRight.antt", "machine_symbols/proofs/StepRight.antt"]),
 }
+# A lemma that many files cite had this spelling already: it turns wherever it is brought in from this module.
+CITED = {"text_in": ("text_in_lem", re.compile(r"TextLaws\.\{[^}]*\btext_in\b(?!_)|^pub text_in :", re.M))}
 # A field of the same records is spelled kept_of.
 OTHER = {"keptOf": "kept_answer_of"}
 
@@ -65,7 +63,7 @@ def files(paths):
         if os.path.isfile(p):
             yield p
         for folder, folders, names in os.walk(p):
-            folders[:] = sorted(f for f in folders if f not in ("out", "target"))
+            folders[:] = sorted(f for f in folders if f != "out")
             yield from (os.path.join(folder, n) for n in sorted(names))
 
 
@@ -80,6 +78,7 @@ def main(paths):
             new = SPAN.sub(lambda m: WORD.sub(lambda w: word(w.group(0)), m.group(0)), text)
         else:
             apart = {w: n for w, (n, at) in APART.items() if path.endswith(tuple("/" + a for a in at))}
+            apart.update({w: n for w, (n, cites) in CITED.items() if cites.search(text)})
             new = turned(text, apart)
         if new != text:
             with open(path, "w", encoding="utf-8") as f:

@@ -1,13 +1,11 @@
-// The same for C: a table and a log are each a pointer and a length.
+// The same as C asks it: the crate log_library_c exports this under its name.
 ghost use Rattle.std.specs.Prelude.{◌≡◌};
 ghost use Rattle.log_library.specs.Verdict.{verdict_of};
 
 use crate::Verdict;
 
-// typedef struct { uint8_t refusal, agrees; uint16_t call; uint8_t signal, used, skipped; } call_log_verdict;
-// call_log_verdict call_log_check(const uint8_t *table, size_t len, const uint8_t *log, size_t log_len);
-#[unsafe(no_mangle)]
-pub extern "C" fn call_log_check(t: &[u8], log: &[u8]) -> Verdict
+// The verdict on a log by the table t.
+pub fn call_log_check(t: &[u8], log: &[u8]) -> Verdict
     ensures { result ≡ verdict_of t.now log.now }
 {
     crate::check(t, log)

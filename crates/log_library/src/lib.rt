@@ -3,10 +3,10 @@
 // In: a table and a log, each any bytes. Out: a refusal number, or that every call agrees, or the first that does not, with
 // the right answer to it. The table is decoded once for all calls.
 //
-//   c.rt  the same for C
+//   c.rt  the same as the crate log_library_c exports it for C
 #![tactic(auto)]
 
-mod c;
+pub mod c;
 
 ghost use Rattle.std.specs.Prelude.{◌≡◌, ◌+◌, ◌<◌, get_or};
 ghost use Rattle.table_decode.specs.Decoded.{Means};

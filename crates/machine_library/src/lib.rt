@@ -4,7 +4,7 @@
 // URI's category and node.
 //
 //   matching.rt  what a URI is to a table
-//   c.rt         all of it for C
+//   c.rt         all of it as the crate machine_library_c exports it for C
 #![tactic(auto)]
 
 pub mod c;

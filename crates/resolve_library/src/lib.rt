@@ -5,11 +5,11 @@
 //
 //   fields.rt   one value of a message that has several Alert-Info fields
 //   by.rt       the plain resolver by a decoded table
-//   c.rt        all of it for C
+//   c.rt        all of it as the crate resolve_library_c exports it for C
 #![tactic(auto)]
 
 pub mod by;
-mod c;
+pub mod c;
 mod fields;
 
 ghost use Rattle.std.specs.Prelude.{◌≡◌};

@@ -4,9 +4,6 @@
 // seed has gone on once for each choice.
 //
 //   entry.rt  one entry written
-//
-// The kit's borrow checker does not cover a reference to a struct, so `sample_value_make`, which has the lent seed, is proved
-// by a walk of its MIR by hand. It is thin: all decisions are made in `make_from`.
 #![tactic(auto)]
 
 mod entry;
@@ -84,9 +81,8 @@ pub fn make_from(t: &[u8], x: u32, buf: &mut [u8]) -> Made
     entries(t, d, x, buf)
 }
 
-// sample_made sample_value_make(const uint8_t *table, size_t len, sample_seed *seed, uint8_t *buf, size_t room);
-#[unsafe(no_mangle)]
-pub extern "C" fn sample_value_make(t: &[u8], seed: &mut Seed, buf: &mut [u8]) -> Answer
+// A value from the seed, which goes on. The crate sample_library_c exports this for C.
+pub fn sample_value_make(t: &[u8], seed: &mut Seed, buf: &mut [u8]) -> Answer
     ensures { (result ≡ answer_of (made_of t.now seed.old.x (length buf.old)))
         × (seed.new.x ≡ (made_of t.now seed.old.x (length buf.old)).seed)
         × (buf.new ≡ buffer_of t.now seed.old.x buf.old) }

@@ -1,9 +1,6 @@
 // The seed of the sample maker: it goes on by a fixed rule, and each of its numbers chooses one of several.
 //
 // In: the seed, which is lent, or its number. Out: the next number, or what a number chooses among n.
-//
-// The kit's borrow checker does not cover a reference to a struct, so `draw`, which is lent the seed, and `drawn`, which
-// lends one, are proved by walks of their MIR by hand. `drawn` has plain parameters: whoever calls it needs no walk.
 #![tactic(auto)]
 
 ghost use Rattle.std.specs.Prelude.{◌≡◌, ◌*◌, ◌%◌};

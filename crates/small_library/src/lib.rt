@@ -4,7 +4,7 @@
 // or of the proposal, and the whole buffer.
 //
 //   image.rt  what is answered for an image of right form
-//   c.rt      all of it for C
+//   c.rt      all of it as the crate small_library_c exports it for C
 #![tactic(auto)]
 
 use base_numbers::MOST_CATEGORIES;

@@ -26,19 +26,15 @@ ghost use Rattle.table_kept.specs.Answers.{kept_answer_of, rung_of};
 use crate::kept::Kept;
 use crate::rung::Rung;
 
-// typedef struct { uint8_t refusal, kept, rings, len, marks[32]; } alert_kept;
-// alert_kept alert_signal_table_keeps(const uint8_t *table, size_t table_len, uint32_t available, uint8_t node);
-#[unsafe(no_mangle)]
-pub extern "C" fn alert_signal_table_keeps(table: &[u8], available: u32, node: u8) -> Kept
+// Whether the table keeps a node's mark. The crate table_kept_c exports this for C, and the next.
+pub fn alert_signal_table_keeps(table: &[u8], available: u32, node: u8) -> Kept
     ensures { result ≡ kept_answer_of table.now available node }
 {
     kept::keeps(table, available, node)
 }
 
-// typedef struct { uint8_t refusal, rings, len, marks[32]; } alert_rung;
-// alert_rung alert_signal_table_rings(const uint8_t *table, size_t table_len, uint32_t available, uint8_t signal);
-#[unsafe(no_mangle)]
-pub extern "C" fn alert_signal_table_rings(table: &[u8], available: u32, signal: u8) -> Rung
+// Whether a signal can ring.
+pub fn alert_signal_table_rings(table: &[u8], available: u32, signal: u8) -> Rung
     ensures { result ≡ rung_of table.now available signal }
 {
     rung::rings(table, available, signal)

@@ -6,9 +6,6 @@
 //   judge.rt     a value's resolution, with a refusal counted
 //   records.rt   an accepted resolution is added to its signal's record
 //   month.rt     the same on records that are handed over by value
-//
-// The kit's borrow checker does not cover a reference to a struct, so `tally_value` and `records::add`, which have the lent
-// records, are proved by walks of their MIR by hand. Both are thin: all decisions are made in functions that it covers.
 #![tactic(auto)]
 
 mod judge;
@@ -28,15 +25,8 @@ pub struct Tally {
     pub skipped: u32,
 }
 
-// alert_resolution tally_value(const uint8_t *table, size_t len, alert_tally *records, size_t n,
-//                              uint32_t *refusals, size_t m, const uint8_t *value, size_t value_len);
-#[unsafe(no_mangle)]
-pub extern "C" fn tally_value(
-    t: &[u8],
-    records: &mut [Tally],
-    refusals: &mut [u32],
-    v: &[u8],
-) -> Resolution
+// The value v resolved by the table t, and counted. The crate tally_library_c exports this for C.
+pub fn tally_value(t: &[u8], records: &mut [Tally], refusals: &mut [u32], v: &[u8]) -> Resolution
     ensures { Tallied t.now records.old refusals.old v.now result records.new refusals.new }
 {
     let r = judge::judge(t, records.len(), refusals, v);

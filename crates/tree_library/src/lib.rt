@@ -2,7 +2,7 @@
 //
 // In: a table or a tree, any bytes, and a buffer. Out: a refusal number or the form's length, and the whole buffer.
 //
-//   c.rt  all of it for C
+//   c.rt  all of it as the crate tree_library_c exports it for C
 #![tactic(auto)]
 
 pub mod c;

@@ -5,10 +5,10 @@
 //
 //   lib.rt    the four questions
 //   value.rt  what is answered about a value, from one pass of the crate value_cursor over it
-//   c.rt      the four questions for C
+//   c.rt      the four questions as the crate value_reader_c exports them for C
 #![tactic(auto)]
 
-mod c;
+pub mod c;
 mod value;
 
 ghost use Rattle.std.specs.Prelude.{◌≡◌, ◌+◌};

@@ -1,4 +1,4 @@
-use Rattle.std.proofs.Common.{◌≡◌, ℕ, zero, suc, ◌/◌, ◌%◌, sym, refl, subst, rules}
+use Rattle.std.proofs.Common.{◌≡◌, ℕ, zero, suc, ◌/◌, ◌%◌, sym, refl, subst}
 use Rattle.sample_seed.specs.Numbers.{choice_of}
 use Rattle.sample_seed.proofs.choice.Goals as goal
 

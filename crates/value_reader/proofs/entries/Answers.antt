@@ -1,5 +1,4 @@
 use Rattle.value_reader.proofs.JudgedLaws.{entries-of}
-use borrow.Author.Rules.{rules}
 use Rattle.value_reader.proofs.entries.Goals as goal
 
 pub returns : goal.returns

@@ -1,5 +1,4 @@
 use Rattle.value_reader.proofs.JudgedLaws.{entry-refused, entry-there, entry-missing}
-use borrow.Author.Rules.{rules}
 use Rattle.value_reader.proofs.entry_refusal.Goals as goal
 
 pub returns-then-j-ne0 : goal.returns-then-j-ne0

@@ -1,5 +1,4 @@
 use Rattle.value_reader.proofs.JudgedLaws.{refusal-of}
-use borrow.Author.Rules.{rules}
 use Rattle.value_reader.proofs.refusal.Goals as goal
 
 pub returns : goal.returns

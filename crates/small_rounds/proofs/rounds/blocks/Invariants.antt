@@ -1,12 +1,8 @@
 use Prim.Native.Nat.{◌≤◌, ◌-◌}
-use mathlib.Core.Path.{◌≡◌, sym, ap, ◌∙◌}
+use mathlib.Core.Path.{◌≡◌}
 use lib.ListN.{length}
-use native.Mathlib.Omega.{arith}
-use Rattle.base_lists.proofs.Over.{laid-all}
 use Rattle.theory_minimal.specs.Refine.{refined}
 use Rattle.small_rounds.specs.Stored.{stored_machine}
-use Rattle.small_rounds.proofs.RoundLaws.{refined-length, refine-length, rounds-begin, rounds-end, rounds-more, rounds-all}
-use borrow.Author.Rules.{rules}
 use Rattle.small_rounds.proofs.rounds.blocks.Given as goal
 
 abbrev pub invariant-loop-r : goal.invariant-loop-r

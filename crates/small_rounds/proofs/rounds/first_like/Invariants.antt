@@ -1,11 +1,8 @@
 use Prim.Native.Nat.{◌≤◌, ◌-◌}
-use mathlib.Core.Path.{◌≡◌, sym, ◌∙◌}
-use native.Mathlib.Omega.{arith}
-use Rattle.base_lists.proofs.Search.{seek-start, seek-more, seek_hit, seek-end}
+use mathlib.Core.Path.{◌≡◌}
 use Rattle.base_lists.specs.Search.{seek}
 use Rattle.theory_minimal.specs.Refine.{same_row}
 use Rattle.small_rounds.specs.Stored.{stored_machine}
-use borrow.Author.Rules.{rules}
 use Rattle.small_rounds.proofs.rounds.first_like.Given as goal
 
 abbrev pub invariant-loop-j : goal.invariant-loop-j

@@ -1,11 +1,9 @@
 use Prim.Native.Nat.{◌≤◌, ◌-◌}
-use mathlib.Core.Path.{◌≡◌, sym, ◌∙◌}
-use lib.ListN.{length, length-set}
-use native.Mathlib.Omega.{arith}
-use Rattle.base_lists.proofs.Filled.{Filled, filled_none, filled_more, filled-all}
+use mathlib.Core.Path.{◌≡◌}
+use lib.ListN.{length}
+use Rattle.base_lists.proofs.Filled.{Filled}
 use Rattle.theory_minimal.specs.Refine.{leader, same_row}
 use Rattle.small_rounds.specs.Stored.{stored_machine}
-use borrow.Author.Rules.{rules}
 use Rattle.small_rounds.proofs.rounds.refine.Given as goal
 
 abbrev pub invariant-loop-i : goal.invariant-loop-i

@@ -1,12 +1,9 @@
 use Prim.Native.Nat.{◌≤◌, ◌-◌}
-use mathlib.Core.Path.{◌≡◌, refl}
+use mathlib.Core.Path.{◌≡◌}
 use mathlib.Core.Bool.{true}
-use native.Mathlib.Omega.{arith}
 use Rattle.base_lists.specs.Lists.{all_below}
 use Rattle.theory_minimal.specs.Refine.{same_target}
 use Rattle.small_rounds.specs.Stored.{stored_machine}
-use Rattle.small_rounds.proofs.StoredLaws.{row-end, row_small, row-no, row-stop, row_more, row-yes}
-use borrow.Author.Rules.{rules}
 use Rattle.small_rounds.proofs.rounds.same_row.Given as goal
 
 abbrev pub invariant-loop-s : goal.invariant-loop-s

@@ -1,13 +1,8 @@
 use Prim.Native.Nat.{◌≤◌, ◌-◌}
-use mathlib.Core.Path.{◌≡◌, refl}
+use mathlib.Core.Path.{◌≡◌}
 use mathlib.Core.Bool.{true}
-use native.Mathlib.Omega.{arith}
-use borrow.Author.Tests.{not-true, not-false}
-use Rattle.base_lists.proofs.Below.{all_done}
 use Rattle.base_lists.specs.Lists.{all_below}
 use Rattle.small_rounds.specs.Stored.{stored_machine, row_leads}
-use Rattle.small_rounds.proofs.TestLaws.{rows-no, rows_more}
-use borrow.Author.Rules.{rules}
 use Rattle.small_rounds.proofs.stored.all_lead.Given as goal
 
 abbrev pub invariant-loop-j : goal.invariant-loop-j

@@ -1,12 +1,8 @@
 use Prim.Native.Nat.{◌≤◌, ◌-◌}
-use mathlib.Core.Path.{◌≡◌, refl}
+use mathlib.Core.Path.{◌≡◌}
 use mathlib.Core.Bool.{true}
-use native.Mathlib.Omega.{arith}
-use Rattle.base_lists.proofs.Below.{all_done}
 use Rattle.base_lists.specs.Lists.{all_below}
 use Rattle.small_rounds.specs.Stored.{stored_machine, leads_on}
-use Rattle.small_rounds.proofs.TestLaws.{row_within, row_below, leads-no, leads-more}
-use borrow.Author.Rules.{rules}
 use Rattle.small_rounds.proofs.stored.row_leads.Given as goal
 
 abbrev pub invariant-loop-s : goal.invariant-loop-s

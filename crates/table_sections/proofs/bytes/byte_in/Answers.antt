@@ -1,5 +1,4 @@
 use Rattle.table_sections.proofs.Readings.{byte_low, byte_high, byte-good, byte-none}
-use borrow.Author.Rules.{rules}
 use Rattle.table_sections.proofs.bytes.byte_in.Goals as goal
 
 pub returns-then-b-lo : goal.returns-then-b-lo

@@ -1,17 +1,12 @@
-use native.Mathlib.Omega.{arith}
 use Prim.Native.Nat.{◌≤◌, ◌-◌}
 use mathlib.Core.Path.{◌≡◌}
 use lib.ListN.{length}
 use Rattle.base_numbers.specs.Numbers.{most_name_bytes, most_table_bytes}
 use Rattle.base_lists.specs.Cuts.{stretch}
-use Rattle.base_lists.proofs.Numbers.{one_byte, two_bytes}
 use Rattle.base_lists.specs.Lists.{tabulate}
 use Rattle.table_sections.specs.Stored.{text, times}
 use Rattle.table_sections.specs.Held.{Padded}
-use Rattle.table_sections.proofs.Padding.{pad-set}
-use Rattle.table_sections.proofs.Readings.{after, run-start, run_more, run-stop, run-done, text-was, text-was-fault, text-inside, stored-text}
-use Rattle.table_sections.proofs.Readings.{stretch-keep}
-use borrow.Author.Rules.{rules}
+use Rattle.table_sections.proofs.Readings.{after}
 use Rattle.table_sections.proofs.categories.read_names.Given as goal
 
 abbrev pub invariant-loop-i : goal.invariant-loop-i

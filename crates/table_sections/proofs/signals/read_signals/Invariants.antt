@@ -1,14 +1,10 @@
-use native.Mathlib.Omega.{arith}
 use Prim.Native.Nat.{◌≤◌, ◌-◌, ◌*◌}
 use mathlib.Core.Path.{◌≡◌}
 use mathlib.Core.List.{◌++◌}
 use Rattle.base_numbers.specs.Numbers.{most_urn_bytes}
-use Rattle.base_lists.proofs.Numbers.{one_byte}
 use Rattle.base_lists.specs.Lists.{tabulate}
 use Rattle.table_sections.specs.Stored.{text, times, counted}
 use Rattle.table_sections.specs.Held.{tagged_from, urn_at, Room, map_read}
-use Rattle.table_sections.proofs.SectionLaws.{signals-start, signals-more, signals-stop, signals-done, at-most-got}
-use borrow.Author.Rules.{rules}
 use Rattle.table_sections.proofs.signals.read_signals.Given as goal
 
 abbrev pub invariant-loop-s : goal.invariant-loop-s

@@ -1,14 +1,10 @@
-use native.Mathlib.Omega.{arith}
 use Prim.Native.Nat.{◌≤◌, ◌-◌}
-use mathlib.Core.Path.{◌≡◌, refl, ◌∙◌}
-use lib.ListN.{length-set}
+use mathlib.Core.Path.{◌≡◌}
 use Rattle.base_numbers.specs.Numbers.{most_urn_bytes}
-use Rattle.base_lists.proofs.Numbers.{one_byte, two_bytes}
 use Rattle.base_lists.specs.Lists.{tabulate}
 use Rattle.table_sections.specs.Stored.{text, times}
 use Rattle.table_sections.specs.Held.{tag, urn_at, Room}
-use Rattle.table_sections.proofs.Readings.{after, run_more, run-stop, run-done, text-was, text-was-fault, text-inside, stored-urn, urn-keep}
-use borrow.Author.Rules.{rules}
+use Rattle.table_sections.proofs.Readings.{after}
 use Rattle.table_sections.proofs.signals.read_urns.Given as goal
 
 abbrev pub invariant-loop-i : goal.invariant-loop-i

@@ -6,7 +6,7 @@ use Rattle.base_numbers.specs.Numbers.{most_nodes}
 use Rattle.base_lists.specs.Cuts.{stretch}
 use Rattle.tree_decode.specs.Stages.{FromParent}
 use Rattle.tree_decode.proofs.Filling.{Bounded, stretch-le, base-le, bound-more, from_more}
-use Rattle.node_search.proofs.TextLaws.{text_in}
+use Rattle.node_search.proofs.TextLaws.{text_in_lem}
 use borrow.Author.Rules.{rules}
 use Rattle.tree_decode.proofs.sizes.sizes.Statement.{statement}
 use Rattle.tree_decode.proofs.sizes.sizes.Tie as tie
@@ -58,7 +58,7 @@ add-size c =
     let inv = c.before.before.before.before.before.before.before.before.before.loop.invariant in
     let out = c.before.before.before.before.before.before.before.before.before.loop.out in
     let pre = c.before.before.before.before.before.before.before.before.before.before.before.requires in
-    let n = ap length (text_in _ _ _ _ _ name-text.0 (omega (arith, wide2.0, pre.3.few _ loop-test))) in
+    let n = ap length (text_in_lem _ _ _ _ _ name-text.0 (omega (arith, wide2.0, pre.3.few _ loop-test))) in
     let m = stretch-le a.t.now a.name-at.now a.name-len.now wide2-result in
     let b = base-le a.parent.now a.category.now out a.n i pre.3 loop-test inv.3 wide.0 c.above.ensures (omega (arith, n, m, pre.2)) in
     omega (arith, b)
@@ -75,9 +75,9 @@ add-size-2 c =
     let inv = c.before.before.before.before.before.before.before.before.before.loop.invariant in
     let out = c.before.before.before.before.before.before.before.before.before.loop.out in
     let pre = c.before.before.before.before.before.before.before.before.before.before.before.requires in
-    let n = ap length (text_in _ _ _ _ _ name-text.0 (omega (arith, wide2.0, pre.3.few _ loop-test))) in
+    let n = ap length (text_in_lem _ _ _ _ _ name-text.0 (omega (arith, wide2.0, pre.3.few _ loop-test))) in
     let m = stretch-le t a.name-at.now a.name-len.now wide2-result in
-    let l = ap length (text_in _ _ _ _ _ c.before.before.node-text.ensures.0 (omega arith)) in
+    let l = ap length (text_in_lem _ _ _ _ _ c.before.before.node-text.ensures.0 (omega arith)) in
     let k = stretch-le t a.at.now a.len.now i in
     let b = base-le a.parent.now a.category.now out a.n i pre.3 loop-test inv.3 wide.0 c.above.ensures (omega (arith, n, m, pre.2)) in
     omega (arith, b, l, k, pre.2)
@@ -99,14 +99,14 @@ loop-again c = let a = c.before.before.before.before.before.before.before.before
     let out = c.before.before.before.before.before.before.before.before.before.loop.out in
     let i = c.before.before.before.before.before.before.before.before.before.loop.i in
     let y : i < length out = omega arith in
-    let n = ap length (text_in _ _ _ _ _ c.before.before.before.name-text.ensures.0 (omega (
+    let n = ap length (text_in_lem _ _ _ _ _ c.before.before.before.name-text.ensures.0 (omega (
       arith,
       c.before.before.before.before.wide2.ensures.0,
       c.before.before.before.before.before.before.before.before.before.before.before.requires.3.few _
           c.before.before.before.before.before.before.before.before.loop-test.true,
     ))) in
     let m = stretch-le a.t.now a.name-at.now a.name-len.now c.before.before.before.before.wide2.result in
-    let l = ap length (text_in _ _ _ _ _ c.before.before.node-text.ensures.0 (omega arith)) in
+    let l = ap length (text_in_lem _ _ _ _ _ c.before.before.node-text.ensures.0 (omega arith)) in
     let k = stretch-le a.t.now a.at.now a.len.now i in
     let more : ℕ → ℕ = λ i. suc (length (stretch a.t.now a.at.now a.len.now i)) in (
       omega arith,

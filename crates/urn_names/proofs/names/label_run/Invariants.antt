@@ -1,11 +1,8 @@
-use native.Mathlib.Omega.{arith}
 use Prim.Native.Nat.{◌≤◌, ◌+◌, ◌-◌}
 use lib.ListN.{length, drop}
 use Rattle.base_lists.specs.Cuts.{run}
 use Rattle.urn_names.specs.Names.{label_byte}
-use Rattle.urn_names.proofs.Runs.{run_more, run-stop, run_end}
 use mathlib.Core.Path.{◌≡◌}
-use borrow.Author.Rules.{rules}
 use Rattle.urn_names.proofs.names.label_run.Given as goal
 
 abbrev pub invariant-loop-i : goal.invariant-loop-i

@@ -1,5 +1,4 @@
 use Rattle.urn_names.proofs.Capitals.{small-letter, small-digit, small-hyphen}
-use borrow.Author.Rules.{rules}
 use Rattle.urn_names.proofs.stored.stored_byte.Goals as goal
 
 pub returns-then-in_range : goal.returns-then-in_range

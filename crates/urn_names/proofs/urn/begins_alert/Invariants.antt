@@ -1,11 +1,9 @@
-use native.Mathlib.Omega.{arith}
 use Prim.Native.Nat.{◌≤◌, ◌-◌}
-use mathlib.Core.Path.{◌≡◌, ap}
+use mathlib.Core.Path.{◌≡◌}
 use lib.ListN.{drop}
 use Rattle.base_ascii.specs.Ascii.{bytes}
 use Rattle.urn_names.specs.Urn.{begins}
-use Rattle.urn_names.proofs.Turns.{scheme, scheme-bytes, begins-small, begins-short, begins-more, begins-less, begins-end}
-use borrow.Author.Rules.{rules}
+use Rattle.urn_names.proofs.Turns.{scheme}
 use Rattle.urn_names.proofs.urn.begins_alert.Given as goal
 
 abbrev pub invariant-loop-i : goal.invariant-loop-i

@@ -1,5 +1,4 @@
 use Rattle.urn_names.proofs.Turns.{alert-other, alert-rest}
-use borrow.Author.Rules.{rules}
 use Rattle.urn_names.proofs.urn.is_alert_urn.Goals as goal
 
 pub returns-then-begins_alert : goal.returns-then-begins_alert

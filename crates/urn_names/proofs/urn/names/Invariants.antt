@@ -1,12 +1,9 @@
-use native.Mathlib.Omega.{arith}
 use Prim.Native.Nat.{◌≤◌, ◌-◌, ◌+◌}
 use mathlib.Core.Path.{◌≡◌}
 use lib.ListN.{length, drop}
 use Rattle.urn_names.specs.Names.{name_ok}
 use Rattle.urn_names.specs.Urn.{names_by}
-use Rattle.urn_names.proofs.Runs.{name-some}
-use Rattle.urn_names.proofs.Turns.{names_from, names-start, field-le, names-stop, names-step, names-done}
-use borrow.Author.Rules.{rules}
+use Rattle.urn_names.proofs.Turns.{names_from}
 use Rattle.urn_names.proofs.urn.names.Given as goal
 
 abbrev pub invariant-loop-at : goal.invariant-loop-at

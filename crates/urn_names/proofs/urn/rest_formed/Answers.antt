@@ -1,5 +1,4 @@
 use Rattle.urn_names.proofs.Turns.{rest-names}
-use borrow.Author.Rules.{rules}
 use Rattle.urn_names.proofs.urn.rest_formed.Goals as goal
 
 pub returns : goal.returns

@@ -1,7 +1,6 @@
 use mathlib.Core.Path.{sym, ◌∙◌}
 use borrow.Author.Tests.{lt-leb, le-leb}
 use Rattle.urn_names.proofs.Capitals.{urn-names}
-use borrow.Author.Rules.{rules}
 use Rattle.urn_names.proofs.urn.urn_formed.Goals as goal
 
 pub returns-then-n-lt2 : goal.returns-then-n-lt2

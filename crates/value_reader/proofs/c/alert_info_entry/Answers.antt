@@ -1,5 +1,4 @@
 use Rattle.value_reader.proofs.JudgedLaws.{span-of}
-use borrow.Author.Rules.{rules}
 use Rattle.value_reader.proofs.c.alert_info_entry.Goals as goal
 
 pub returns : goal.returns
