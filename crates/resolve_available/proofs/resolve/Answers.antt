@@ -1,4 +1,3 @@
-
 use Rattle.resolve_available.proofs.resolve.Goals as goal
 
 pub returns : goal.returns

@@ -1,4 +1,3 @@
-use mathlib.Core.Logic.{⊎_elim}
 use mathlib.Core.Path.{◌∙◌}
 use native.Mathlib.Omega.{arith}
 use borrow.Author.Tests.{not-true, not-false}
@@ -6,8 +5,6 @@ use Rattle.resolve_run.proofs.RunLaws.{met}
 use Rattle.resolve_early.specs.SettledBy.{settled_by}
 use Rattle.resolve_early.proofs.SettledLaws.{same-settled}
 use Rattle.resolve_early.proofs.RunLaws.{run-start, after-uri, run_settled, run-full, run_more, run-last, run_none}
-use mathlib.Core.Path.{ap}
-use mathlib.Core.Bool.{not}
 use Rattle.resolve_early.proofs.run.run.Goals as goal
 use Rattle.resolve_early.proofs.run.run.Goals.{then-not-same, else-not-same}
 
@@ -88,8 +85,9 @@ loop-ends-preserved c = let l = c.loop-ends.invariant in
           c.if-n-ge-MOST_ENTRIES.false
           c.entry_at-e.ensures fits c.if-e.false u,
       elim c.if-not-same.branch [
-        then-not-same w ↦ w.ends-is ∙ w.settled-ends-then-not-same.ensures
-        | else-not-same w ↦ w.ends-is ∙ same-settled (settled_by _ _ _ _ _) _ _ l.1 c.same.ensures w.if-not-same.false ],
+        | then-not-same w ↦ w.ends-is ∙ w.settled-ends-then-not-same.ensures
+        | else-not-same w ↦ w.ends-is ∙ same-settled (settled_by _ _ _ _ _) _ _ l.1 c.same.ensures w.if-not-same.false
+      ],
       omega (
         arith,
         c.if-n-ge-MOST_ENTRIES.false,

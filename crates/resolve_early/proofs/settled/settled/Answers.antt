@@ -1,7 +1,6 @@
-use mathlib.Core.Bool.{true}
 use native.Mathlib.Omega.{arith}
 use Rattle.base_lists.proofs.Below.{all-false, all_true, all-next, all_none}
-use Rattle.resolve_early.specs.SettledBy.{category_keeps, settled_by}
+use Rattle.resolve_early.specs.SettledBy.{settled_by}
 use Rattle.resolve_early.proofs.settled.settled.Goals as goal
 
 -- src/settled.rt:160:9

@@ -1,4 +1,3 @@
-use mathlib.Core.Bool.{true}
 use native.Mathlib.Omega.{arith}
 use Rattle.base_lists.proofs.Below.{all-false, all_true, all-next, all_none}
 use Rattle.resolve_early.proofs.SettledLaws.{signal-is}
