@@ -21,7 +21,7 @@ use Rattle.base_text.specs.Text.{fields, after_colons, text_of}
 use Rattle.urn_names.specs.Names.{name_ok}
 use Rattle.urn_names.specs.Urn.{urn_ok, category_of}
 use Rattle.base_text.proofs.Fields.{text-fields}
-use Rattle.table_sections.specs.Stored.{Read, fault, got, and_then, byte_in, text, times, counted, signal, signals, stored_from, Stored, stored}
+use Rattle.table_sections.specs.Stored.{Read, fault, got, and_then, byte_in, text, times, counted, signal, stored_from, Stored, stored}
 use Rattle.table_decode.specs.Tables.{is_listed, to_urn, table_in, table_refusal, table_read, table_of, names_read, category_names}
 use Rattle.table_sections.proofs.Readings.{after-got, byte-read}
 use Rattle.table_decode.proofs.Accepting.{Passed, judged-zero, refusal-zero, from-stored, formed-urn, three, fields-parts}

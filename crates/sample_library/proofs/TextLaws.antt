@@ -21,7 +21,6 @@ use Rattle.urn_names.specs.Urn.{begins, rest_ok, alert_urn}
 use Rattle.base_text.proofs.Fields.{fields-first, fields_join, text-fields}
 use Rattle.value_cursor.specs.Bytes.{is_uri}
 use Rattle.sample_library.specs.Sample.{uri_of}
-use Rattle.value_cursor.specs.Bytes as bytes_of
 
 pub colons-append : (p q : Parts) → after_colons (p ++ q) ≡ after_colons p ++ after_colons q
 unfolding after_colons

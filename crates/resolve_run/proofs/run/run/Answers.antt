@@ -10,8 +10,11 @@ unfolding run_from
 loop-d-init c = (refl, omega arith, omega arith, omega arith)
 
 pub returns-then-not-e : goal.returns-then-not-e
-returns-then-not-e c = record { ends = c.ended.ensures ∙ run_none _ _ _ _ _ _ c.loop-d.invariant.0
-      ((met _ _ c.entry_at-e.ensures).none (not-true _ c.if-not-e.true)); few = ended-few c.ended.ensures (omega arith) }
+returns-then-not-e c = record {
+  ends = c.ended.ensures ∙ run_none _ _ _ _ _ _ c.loop-d.invariant.0
+      ((met _ _ c.entry_at-e.ensures).none (not-true _ c.if-not-e.true));
+  few = ended-few c.ended.ensures (omega arith);
+}
 
 pub overflow_add-end : goal.overflow_add-end
 overflow_add-end c = omega (arith, (met _ _ c.entry_at-e.ensures).inside)
@@ -29,13 +32,16 @@ taken-p-requires c = omega (
 pub returns-then-e : goal.returns-then-e
 returns-then-e c = let a = after-uri _ _ _ _ _ c.uses-u.ensures c.taken-p.ensures in
     let l = (met _ _ c.entry_at-e.ensures).last
-    (not-false _ c.if-not-e.false) c.if-e.true in record { ends = c.ended-then-e.ensures ∙ run-last _ _ _ _ _ _
-          c.loop-d.invariant.0 _ l a; few = ended-few c.ended-then-e.ensures (omega (
+    (not-false _ c.if-not-e.false) c.if-e.true in record {
+      ends = c.ended-then-e.ensures ∙ run-last _ _ _ _ _ _
+          c.loop-d.invariant.0 _ l a;
+      few = ended-few c.ended-then-e.ensures (omega (
         arith,
         after-counted _ _ _ _ _ a,
         c.requires.0,
         c.loop-d.invariant,
-      )) }
+      ));
+    }
 
 pub loop-d-smaller : goal.loop-d-smaller
 loop-d-smaller c = omega (

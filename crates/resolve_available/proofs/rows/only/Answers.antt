@@ -1,0 +1,17 @@
+use mathlib.Core.Path.{refl}
+use Rattle.resolve_available.proofs.RowLaws.{fill-row, filled}
+use native.Mathlib.Omega.{arith}
+use Rattle.resolve_available.proofs.rows.only.Goals as goal
+
+pub loop-s-init : goal.loop-s-init
+loop-s-init c = record { wide = refl; so_far = λ k h. absurd (omega arith) }
+
+pub loop-s-smaller : goal.loop-s-smaller
+loop-s-smaller c = omega (arith, c.loop-s-test.true)
+
+pub loop-s-preserved : goal.loop-s-preserved
+loop-s-preserved c = fill-row _ _ _ _ c.loop-s.invariant c.loop-s-test.true
+    c.counts_in.ensures c.row_if-row.ensures
+
+pub returns : goal.returns
+returns c = filled _ _ _ c.loop-s.s c.loop-s.invariant c.loop-s-test.false

@@ -1,0 +1,4 @@
+use Rattle.resolve_early.proofs.resolve.Goals as goal
+
+pub returns : goal.returns
+returns c = c.by.ensures c.decode.ensures
