@@ -34,8 +34,8 @@ APART = {
 }
 # A lemma that many files cite had this spelling already: it turns wherever it is brought in from this module.
 CITED = {"text_in": ("text_in_lem", re.compile(r"TextLaws\.\{[^}]*\btext_in\b(?!_)|^pub text_in :", re.M))}
-# A field of the same records is spelled kept_of.
-OTHER = {"keptOf": "kept_answer_of"}
+# A field of the same records is spelled kept_of; a word of the RFC stays.
+OTHER = {"keptOf": "kept_answer_of", "absoluteURI": "absoluteURI"}
 
 
 def part(p):

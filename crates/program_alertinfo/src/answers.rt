@@ -43,7 +43,7 @@ pub fn untree<R: Runtime>(system: &System<R>, call: usize, t: &[u8]) -> io::Resu
 
 pub fn check<R: Runtime>(system: &System<R>, call: usize, t: &[u8]) -> io::Result<()> {
     let mut image = room();
-    let m = files::file(system, files::word(call, 3), &mut image)?;
+    let m = files::file(system, files::word(call, 3), &mut image);
     if !m.ok {
         return Ok(());
     }
@@ -83,7 +83,7 @@ fn resolution(
 // By the machine that word 4 names.
 pub fn walk<R: Runtime>(system: &System<R>, call: usize, t: &[u8], v: &[u8]) -> io::Result<()> {
     let mut image = room();
-    let m = files::file(system, files::word(call, 4), &mut image)?;
+    let m = files::file(system, files::word(call, 4), &mut image);
     if !m.ok {
         return Ok(());
     }
@@ -101,7 +101,7 @@ pub fn walk<R: Runtime>(system: &System<R>, call: usize, t: &[u8], v: &[u8]) -> 
 // By the small machine that word 3 names.
 pub fn small<R: Runtime>(system: &System<R>, call: usize, t: &[u8], v: &[u8]) -> io::Result<()> {
     let mut image = room();
-    let m = files::file(system, files::word(call, 3), &mut image)?;
+    let m = files::file(system, files::word(call, 3), &mut image);
     if !m.ok {
         return Ok(());
     }
@@ -144,7 +144,7 @@ pub fn available<R: Runtime>(
 // A ring by this table, and a lamp by the one that word 3 names.
 pub fn pair<R: Runtime>(system: &System<R>, call: usize, t: &[u8], v: &[u8]) -> io::Result<()> {
     let mut lamps = room();
-    let l = files::file(system, files::word(call, 3), &mut lamps)?;
+    let l = files::file(system, files::word(call, 3), &mut lamps);
     if !l.ok {
         return Ok(());
     }
@@ -233,7 +233,7 @@ pub fn tally_file<R: Runtime>(system: &System<R>, call: usize, t: &[u8]) -> io::
 // Whether each call of the log that word 3 names has the right answer.
 pub fn log<R: Runtime>(system: &System<R>, call: usize, t: &[u8]) -> io::Result<()> {
     let mut calls = room();
-    let l = files::file(system, files::word(call, 3), &mut calls)?;
+    let l = files::file(system, files::word(call, 3), &mut calls);
     if !l.ok {
         return Ok(());
     }

@@ -88,7 +88,7 @@ fn fed<R: Runtime>(
     number: usize,
 ) -> io::Result<Message> {
     let mut value = room();
-    let v = files::value(system, files::word(call, i), &mut value)?;
+    let v = files::value(system, files::word(call, i), &mut value);
     if !v.ok {
         return Ok(unread(m));
     }

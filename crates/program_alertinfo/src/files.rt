@@ -1,5 +1,4 @@
 // The program's arguments, and the files that they name. `-` names standard input.
-ghost use Rattle.std.specs.Prelude.{IfOk};
 ghost use Rattle.std.specs.Io.{ReadsAtMost};
 ghost use Rattle.program_system.specs.Counts.{IsPrefixLen};
 
@@ -49,17 +48,17 @@ fn read<R: Runtime>(system: &System<R>, path: &[u8], buf: &mut [u8]) -> io::Resu
 }
 
 // The start of the file that argument i names. A file that cannot be read is named on standard error, with the system's
-// reason.
-pub fn file<R: Runtime>(system: &System<R>, i: usize, buf: &mut [u8]) -> io::Result<Got>
-    ensures { IfOk result (λ got. IsPrefixLen got.n buf.new) }
+// reason, as far as standard error takes it.
+pub fn file<R: Runtime>(system: &System<R>, i: usize, buf: &mut [u8]) -> Got
+    ensures { IsPrefixLen result.n buf.new }
 {
     let mut name = path_room();
     let n = system.arg(i, &mut name);
     match read(system, &name[..n], buf) {
-        Ok(n) => Ok(Got { ok: true, n }),
+        Ok(n) => Got { ok: true, n },
         Err(error) => {
-            system.fail(&name[..n], error)?;
-            Ok(Got { ok: false, n: 0 })
+            let _told = system.fail(&name[..n], error).is_ok();
+            Got { ok: false, n: 0 }
         }
     }
 }
@@ -94,20 +93,21 @@ pub fn failed<R: Runtime>(system: &System<R>, i: usize) -> io::Result<()> {
 }
 
 // The start of the file that argument i names, which may also be a value, and is none.
-fn file_for_value<R: Runtime>(system: &System<R>, i: usize, buf: &mut [u8]) -> io::Result<Got>
-    ensures { IfOk result (λ got. IsPrefixLen got.n buf.new) }
+fn file_for_value<R: Runtime>(system: &System<R>, i: usize, buf: &mut [u8]) -> Got
+    ensures { IsPrefixLen result.n buf.new }
 {
     let mut name = path_room();
     let n = system.arg(i, &mut name);
     match read(system, &name[..n], buf) {
-        Ok(n) => Ok(Got { ok: true, n }),
+        Ok(n) => Got { ok: true, n },
         Err(_) => {
-            complain(
+            let _told = complain(
                 system,
                 i,
                 ": neither a file that can be read nor a value, which begins with '<'\n",
-            )?;
-            Ok(Got { ok: false, n: 0 })
+            )
+            .is_ok();
+            Got { ok: false, n: 0 }
         }
     }
 }
@@ -136,19 +136,19 @@ fn without_line_end(text: &[u8]) -> usize
 
 // The value that argument i is, if it begins with `<`; else the value in the file that it names, folded
 // lines as they stand, without a line end behind it.
-pub fn value<R: Runtime>(system: &System<R>, i: usize, buf: &mut [u8]) -> io::Result<Got>
-    ensures { IfOk result (λ got. IsPrefixLen got.n buf.new) }
+pub fn value<R: Runtime>(system: &System<R>, i: usize, buf: &mut [u8]) -> Got
+    ensures { IsPrefixLen result.n buf.new }
 {
     let n = system.arg(i, buf);
     if 0 < n {
         if buf[0] == b'<' {
-            return Ok(Got { ok: true, n });
+            return Got { ok: true, n };
         }
     }
-    let got = file_for_value(system, i, buf)?;
+    let got = file_for_value(system, i, buf);
     let m = got.n;
     let k = without_line_end(&buf[..m]);
-    Ok(Got { ok: got.ok, n: k })
+    Got { ok: got.ok, n: k }
 }
 
 // The file that argument i names, made or emptied. One that cannot be is named on standard error.

@@ -79,7 +79,7 @@ fn list(out: &impl Print, v: &[u8]) -> io::Result<()> {
 
 fn entries<R: Runtime>(system: &System<R>, call: usize) -> io::Result<()> {
     let mut value = room();
-    let v = files::value(system, files::word(call, 2), &mut value)?;
+    let v = files::value(system, files::word(call, 2), &mut value);
     if !v.ok {
         return Ok(());
     }
@@ -173,7 +173,7 @@ fn value_at(c: Command) -> usize {
 // The commands with a value.
 fn by_value<R: Runtime>(system: &System<R>, call: usize, c: Command, t: &[u8]) -> io::Result<()> {
     let mut value = room();
-    let v = files::value(system, files::word(call, value_at(c)), &mut value)?;
+    let v = files::value(system, files::word(call, value_at(c)), &mut value);
     if !v.ok {
         return Ok(());
     }
@@ -190,7 +190,7 @@ fn by_value<R: Runtime>(system: &System<R>, call: usize, c: Command, t: &[u8]) -
 
 fn by_table<R: Runtime>(system: &System<R>, call: usize, c: Command, n: usize) -> io::Result<()> {
     let mut table = room();
-    let t = files::file(system, files::word(call, 2), &mut table)?;
+    let t = files::file(system, files::word(call, 2), &mut table);
     if !t.ok {
         return Ok(());
     }

@@ -69,7 +69,7 @@ fn proposed<R: Runtime>(
 // The machine of word 3 for this table, as small as it can be.
 pub fn shrink<R: Runtime>(system: &System<R>, call: usize, t: &[u8]) -> io::Result<()> {
     let mut image = room();
-    let m = files::file(system, files::word(call, 3), &mut image)?;
+    let m = files::file(system, files::word(call, 3), &mut image);
     if !m.ok {
         return Ok(());
     }

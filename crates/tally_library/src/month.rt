@@ -1,5 +1,4 @@
-// The monthly count on records that are handed over by value, for programs in Rattle: whoever lends records has a reference to a struct, and so
-// a proof by hand.
+// The monthly count on records that are handed over by value, for programs in Rattle.
 ghost use Rattle.std.specs.Prelude.{◌≡◌, take, drop};
 ghost use Rattle.tally_library.specs.Tally.{needed as needed_of, Tallied};
 

@@ -26,7 +26,7 @@ module _ (env : Env) (cats : ℕ) (ns : List Urn) (laws : EnvLaws env cats ns) w
   module _ (st : State) (g : Valid env cats ns st) (c : ℕ) (known : c < cats) (d f : Parts)
       (quiet : (p : Parts) → Memᴰ p (longer d f) → env.finder (set (env.rows st.signal) c p) ≡ none)
       (lies : (p : Parts) → RootOrNode ns c p → Above p (d ++ f) → Above p d)
-      (no_Node : (x : Name) (h : Parts) → f ≡ x ∷ h → is_node ns c (d ++ f) ≡ false) where
+      (no_node : (x : Name) (h : Parts) → f ≡ x ∷ h → is_node ns c (d ++ f) ≡ false) where
     abbrev q : Parts
     q = get_or (env.rows st.signal) c []
 
@@ -83,7 +83,7 @@ module _ (env : Env) (cats : ℕ) (ns : List Urn) (laws : EnvLaws env cats ns) w
             → open_or (same_parts p (d ++ f)) (held_if (env.inner c (d ++ f)) (d ++ f))
             ≡ open_or (is_root h && same_parts p d) (held_if (is_root h && env.inner c d) d)
         settles p [] i a = ap (λ z. open_or (same_parts p z) (held_if (env.inner c z) z)) (ap (λ z. d ++ z) i ∙ append-nil d)
-        settles p (x ∷ h) i a = rw (not-past p d x h (d ++ f) a (ap (λ z. d ++ z) (sym i)), laws.inners c (d ++ f), no_Node x h i)
+        settles p (x ∷ h) i a = rw (not-past p d x h (d ++ f) a (ap (λ z. d ++ z) (sym i)), laws.inners c (d ++ f), no_node x h i)
 
         go : (b : Bool) → takes_urn (get_or st.status c Open) q (d ++ f) ≡ b
             → step env st (urn c (d ++ f)) ≡ node_if_taken env st c d (is_root f) (node_takes (get_or st.status c Open) q d (is_root f)) (below q d)

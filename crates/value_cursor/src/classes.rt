@@ -1,5 +1,5 @@
 // What each byte may be part of.
-// The table's rows are laid out by hand; `rt fmt` would give each number a line of its own.
+// The table's rows are laid out by hand, and `rt fmt` leaves them.
 ghost use Rattle.std.specs.Prelude.{◌≡◌, ◌&&◌, ◌<◌, get_or};
 ghost use Rattle.value_cursor.specs.Bytes.{in_class, Classes};
 
@@ -19,7 +19,7 @@ pub(crate) const TEXT: u8 = 3;
 
 pub(crate) const ESCAPABLE: u8 = 4;
 
-// The classes of every byte, 16 bytes to a row. Under each number stands its byte.
+// The classes of every byte, 16 to a row. Under each row stand its bytes, in the same order.
 const CLASSES: [u8; 256] = [
     16, 16, 16, 16, 16, 16, 16, 16, 16, 25, 0, 16, 16, 0, 16, 16,
     // NUL SOH STX ETX EOT ENQ ACK BEL  BS TAB  LF  VT  FF  CR  SO  SI

@@ -1,10 +1,10 @@
 -- The grammar of an Alert-Info value, as a relation between bytes and URIs, without any limit of size. RFC 3261:
 --   Alert-Info     =  "Alert-Info" HCOLON alert-param *(COMMA alert-param)
---   alert-param    =  LAQUOT absolute_uRI RAQUOT *( SEMI generic-param )
+--   alert-param    =  LAQUOT absoluteURI RAQUOT *( SEMI generic-param )
 --   generic-param  =  token [ EQUAL gen-value ]
 --   gen-value      =  token / host / quoted-string
 -- An entry is an alert-param. White space stands where HCOLON, COMMA, LAQUOT, RAQUOT, SEMI and EQUAL have it, and behind
--- the last entry. The URI is wider than absolute_uRI; a host in square brackets is left out, any other is a token.
+-- the last entry. The URI is wider than absoluteURI; a host in square brackets is left out, any other is a token.
 -- Assumes nothing.
 use Rattle.std.specs.Prelude.{ℕ, suc, Bool, List, [], ◌∷◌, ◌++◌, T}
 use Prim.Native.Char.{code}

@@ -3,14 +3,6 @@ use mathlib.Core.Bool.{true}
 use Rattle.node_step.specs.Step.{digit, extends}
 use Rattle.node_step.proofs.stored.beyond.Goals as goal
 
--- src/stored.rt:146:9
-
--- src/stored.rt:147:9
-
--- src/stored.rt:148:5
-
--- src/stored.rt:142:1
-
 pub returns : goal.returns
 returns c = c.extends_of.ensures ∙ ap (λ q. extends c.args.parents.now q c.args.d true)
     (c.digit_at-q.ensures ∙ ap (λ r. digit r c.args.c) c.row_at-row.ensures)

@@ -2,32 +2,6 @@ use Rattle.node_step.proofs.PackedStep.{fits_low, fits-past, fits_out, fits-othe
 use mathlib.Core.Path.{refl}
 use Rattle.node_step.proofs.stored.fits.Goals as goal
 
--- src/stored.rt:166:9
-
--- src/stored.rt:169:9
-
--- src/stored.rt:171:9
-
--- src/stored.rt:172:13
-
--- src/stored.rt:174:9
-
--- src/stored.rt:176:14
-
--- src/stored.rt:176:8
-
--- src/stored.rt:177:9
-
--- src/stored.rt:179:9
-
--- src/stored.rt:180:9
-
--- src/stored.rt:182:33
-
--- src/stored.rt:182:5
-
--- src/stored.rt:153:1
-
 pub returns-then-b-le1 : goal.returns-then-b-le1
 returns-then-b-le1 c = fits_low c.args.rows.now c.args.parents.now c.args.inner.now c.args.category.now c.args.nodes c.args.s
     c.args.c c.args.b c.if-b-le1.true

@@ -1,16 +1,6 @@
 use Rattle.resolve_early.proofs.SettledLaws.{beside-no, beside-yes}
 use Rattle.resolve_early.proofs.settled.beside_keeps.Goals as goal
 
--- src/settled.rt:77:9
-
--- src/settled.rt:78:9
-
--- src/settled.rt:80:9
-
--- src/settled.rt:81:5
-
--- src/settled.rt:64:1
-
 pub returns-then-not-is_beside : goal.returns-then-not-is_beside
 returns-then-not-is_beside c = beside-no _ _ _ _ _ _ _ _ c.is_beside.ensures c.if-not-is_beside.true
 

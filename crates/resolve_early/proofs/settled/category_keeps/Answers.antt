@@ -1,18 +1,6 @@
 use Rattle.resolve_early.proofs.SettledLaws.{category-shut, category-rest, rest-no, rest-on}
 use Rattle.resolve_early.proofs.settled.category_keeps.Goals as goal
 
--- src/settled.rt:139:9
-
--- src/settled.rt:141:9
-
--- src/settled.rt:143:9
-
--- src/settled.rt:144:9
-
--- src/settled.rt:146:5
-
--- src/settled.rt:128:1
-
 pub returns-then-b-eq1 : goal.returns-then-b-eq1
 returns-then-b-eq1 c = category-shut _ _ _ _ _ _ c.digit_of-b.ensures c.if-b-eq1.true
 

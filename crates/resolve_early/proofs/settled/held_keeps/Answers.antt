@@ -1,14 +1,6 @@
 use Rattle.resolve_early.proofs.SettledLaws.{held_none, held_at}
 use Rattle.resolve_early.proofs.settled.held_keeps.Goals as goal
 
--- src/settled.rt:121:9
-
--- src/settled.rt:123:13
-
--- src/settled.rt:124:5
-
--- src/settled.rt:109:1
-
 pub returns-then-b-le1 : goal.returns-then-b-le1
 returns-then-b-le1 c = held_none _ _ _ _ _ _ _ c.if-b-le1.true
 

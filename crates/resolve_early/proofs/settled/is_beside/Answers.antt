@@ -5,26 +5,6 @@ use mathlib.Core.Path.{ap, ◌∙◌}
 use Rattle.node_step.specs.Step.{put}
 use Rattle.resolve_early.proofs.settled.is_beside.Goals as goal
 
--- src/settled.rt:44:13
-
--- src/settled.rt:45:9
-
--- src/settled.rt:46:9
-
--- src/settled.rt:47:15
-
--- src/settled.rt:48:15
-
--- src/settled.rt:49:12
-
--- src/settled.rt:49:5
-
--- src/settled.rt:49:25
-
--- src/settled.rt:49:5
-
--- src/settled.rt:40:1
-
 pub overflow_sub-result : goal.overflow_sub-result
 overflow_sub-result c = rw (
   shifted c.digit_of-q.result c.args.c c.requires (omega arith),

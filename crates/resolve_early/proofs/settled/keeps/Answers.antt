@@ -1,9 +1,5 @@
 use Rattle.resolve_early.proofs.SettledLaws.{keeps-is}
 use Rattle.resolve_early.proofs.settled.keeps.Goals as goal
 
--- src/settled.rt:26:9
-
--- src/settled.rt:14:1
-
 pub returns : goal.returns
 returns c = keeps-is _ _ _ _ _ _ _ _ c.step_packed-next.ensures

@@ -1,14 +1,6 @@
 use Rattle.node_step.proofs.StepLaws.{row_in, row_out}
 use Rattle.resolve_early.proofs.settled.row_of.Goals as goal
 
--- src/settled.rt:58:16
-
--- src/settled.rt:58:16
-
--- src/settled.rt:58:9
-
--- src/settled.rt:53:1
-
 pub returns-then-i-lt-MOST_SIGNALS : goal.returns-then-i-lt-MOST_SIGNALS
 returns-then-i-lt-MOST_SIGNALS c = row_in c.args.rows.now _ c.if-i-lt-MOST_SIGNALS.true
 

@@ -3,22 +3,6 @@ use Rattle.base_lists.proofs.Below.{all-false, all_true, all-next, all_none}
 use Rattle.resolve_early.specs.SettledBy.{settled_by}
 use Rattle.resolve_early.proofs.settled.settled.Goals as goal
 
--- src/settled.rt:160:9
-
--- src/settled.rt:162:5
-
--- src/settled.rt:163:13
-
--- src/settled.rt:164:13
-
--- src/settled.rt:166:9
-
--- src/settled.rt:162:5
-
--- src/settled.rt:162:5
-
--- src/settled.rt:150:1
-
 pub loop-c-init : goal.loop-c-init
 loop-c-init c = (omega arith, all_none _)
 

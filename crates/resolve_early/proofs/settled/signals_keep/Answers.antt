@@ -3,28 +3,6 @@ use Rattle.base_lists.proofs.Below.{all-false, all_true, all-next, all_none}
 use Rattle.resolve_early.proofs.SettledLaws.{signal-is}
 use Rattle.resolve_early.proofs.settled.signals_keep.Goals as goal
 
--- src/settled.rt:96:9
-
--- src/settled.rt:97:9
-
--- src/settled.rt:99:5
-
--- src/settled.rt:100:69
-
--- src/settled.rt:100:69
-
--- src/settled.rt:100:13
-
--- src/settled.rt:101:13
-
--- src/settled.rt:103:9
-
--- src/settled.rt:99:5
-
--- src/settled.rt:99:5
-
--- src/settled.rt:85:1
-
 pub loop-s-init : goal.loop-s-init
 loop-s-init c = (omega arith, all_none _)
 
