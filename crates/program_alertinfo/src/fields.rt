@@ -75,7 +75,7 @@ fn tell(err: &impl Print, number: usize, k: u8) -> io::Result<()> {
         return Ok(());
     }
     print!(err; "value {number}: ")?;
-    words::refused(err, k)
+    words::refusal(err, k)
 }
 
 // One value more: word i.

@@ -25,8 +25,13 @@ pub fn used_skipped(out: &impl Print, used: u64, skipped: u64) -> io::Result<()>
     print!(out; "{used} used, {skipped} skipped")
 }
 
-// A refusal number with what it says, to standard output or to standard error.
-pub fn refused(to: &impl Print, k: u8) -> io::Result<()> {
+// A refusal number with what it says.
+pub fn refused(out: &impl Print, k: u8) -> io::Result<()> {
+    refusal(out, k)
+}
+
+// The same, to any stream.
+pub fn refusal(to: &impl Print, k: u8) -> io::Result<()> {
     print!(to; "refused {k}: ")?;
     reason(to, k)?;
     to.print("\n")

@@ -10,7 +10,7 @@ mod print;
 mod smaller;
 mod tally_cases;
 
-use program_system::{System, path_room, read_full, room};
+use program_system::{System, path_room, read_full};
 use std::io;
 use std::rt::Runtime;
 
@@ -103,11 +103,11 @@ fn answer(out: &impl Print, line: &[u8], a: &[u8], b: &[u8], c: &[u8]) -> io::Re
 }
 
 fn decoded(out: &impl Print, line: &[u8]) -> io::Result<()> {
-    let mut a = room();
+    let mut a = program_system::room();
     let n = program_lines::decode(program_lines::word(line, 1), &mut a);
-    let mut b = room();
+    let mut b = program_system::room();
     let k = program_lines::decode(program_lines::word(line, 2), &mut b);
-    let mut c = room();
+    let mut c = program_system::room();
     let m = program_lines::decode(program_lines::word(line, 3), &mut c);
     answer(out, line, &a[..n], &b[..k], &c[..m])
 }
@@ -125,7 +125,7 @@ fn answer_all(out: &impl Print, text: &[u8]) -> io::Result<()> {
 }
 
 // Room for the longest file.
-fn file_room() -> [u8; 524288] {
+fn room() -> [u8; 524288] {
     [0u8; 524288]
 }
 
@@ -137,7 +137,7 @@ fn answer_file<R: Runtime>(system: &System<R>, i: usize) -> io::Result<()> {
         Ok(file) => file,
         Err(error) => return system.fail(&name[..k], error),
     };
-    let mut text = file_room();
+    let mut text = room();
     match read_full(&mut file, &mut text) {
         Ok(n) => answer_all(&system.rt, &text[..n]),
         Err(_) => Ok(()),

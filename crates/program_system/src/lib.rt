@@ -10,6 +10,7 @@ ghost use Rattle.program_system.specs.Counts.{IsPrefixLen};
 
 use std::cell::Cell;
 use std::env::FillError;
+use std::fmt::InlineText;
 use std::io::{ErrorKind, Read, Stderr};
 use std::rt::Runtime;
 use std::{fs, io, str};
@@ -34,6 +35,9 @@ pub enum Source<I, F> {
 
 // The system's number for a descriptor that is not open.
 const NOT_OPEN: i32 = 9;
+
+// What an error says has at most 256 bytes, and its number behind it some 20.
+const REASON_BYTES: usize = 288;
 
 impl<I: Read, F: Read> Read for Source<I, F> {
     ghost use Rattle.program_system.specs.Sources.{source_remaining};
@@ -98,7 +102,7 @@ impl<R: Runtime> System<R> {
 
     // What could not be done with the file of this name is told on standard error, with the system's reason.
     pub fn fail(&self, name: &[u8], error: io::Error) -> io::Result<()> {
-        let text = format!(in self.rt.alloc(); "{error}")?;
+        let text = InlineText::<REASON_BYTES>::of(error);
         self.err.write_all(name)?;
         self.err.print(": ")?;
         self.err.println(without_number(text.as_str()))
