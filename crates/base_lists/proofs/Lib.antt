@@ -10,3 +10,4 @@ pub mod Over
 pub mod Each
 pub mod Filled
 pub mod Search
+pub mod Chains

@@ -1,2 +1,3 @@
 -- what a reader has to believe
 pub mod Numbers
+pub mod Refusals

@@ -1,6 +1,10 @@
 // Every limit and every refusal number by name; specs/Numbers.antt has the same names for contracts.
 #![tactic(auto)]
 
+mod refusal;
+
+pub use refusal::Refusal;
+
 // Bytes of a value.
 pub const MOST_VALUE_BYTES: usize = 4096;
 

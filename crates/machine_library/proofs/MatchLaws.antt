@@ -10,7 +10,7 @@ use Rattle.node_search.specs.declared.uses.Use.{Use}
 use Rattle.node_search.specs.declared.uses.Use.TheVariants.{Skipped, Used}
 use Rattle.table_decode.specs.Tables.{table_refusal, table_of, category_names}
 use Rattle.table_decode.specs.Decoded.{Holds, Means}
-use Rattle.table_decode.specs.declared.Decoded.{Decoded}
+use Rattle.node_search.specs.declared.decoded.Decoded.{Decoded}
 use Rattle.machine_library.specs.declared.matching.Match.{Match}
 use Rattle.machine_library.specs.Matching.{refused_match, match_use, match_of}
 

@@ -17,7 +17,7 @@ use Rattle.machine_image.specs.Refusals.{form_of}
 use Rattle.table_decode.specs.Tables.{table_of, table_refusal}
 use Rattle.table_decode.specs.Decoded.{Holds, Means}
 use Rattle.table_decode.specs.Accepted.{Accepted}
-use Rattle.table_decode.specs.declared.Decoded.{Decoded}
+use Rattle.node_search.specs.declared.decoded.Decoded.{Decoded}
 use Rattle.table_decode.proofs.Accepting.{accepted}
 use Rattle.machine_library.specs.Built.{built_from, buffer_from, check_from}
 use Rattle.machine_symbols.specs.Listed.{triple_lists, symbols_of, Listed, SymbolsIn}

@@ -3,11 +3,13 @@
 // In: a table's bytes, arrays that hold its names and nodes, a URI. Out: skipped, or used, with category, node, whether it is that
 // whole node, and the bytes compared to find it.
 //
-//   uses.rt   the search
-//   marks.rt  what the search keeps of each node
-//   texts.rt  the text at an index of arrays: a category's name, a node's path, a URN
+//   decoded.rt  a decoded table, which the search goes by
+//   uses.rt     the search
+//   marks.rt    what the search keeps of each node
+//   texts.rt    the text at an index of arrays: a category's name, a node's path, a URN
 #![tactic(auto)]
 
+pub mod decoded;
 pub mod marks;
 pub mod texts;
 pub mod uses;

@@ -13,7 +13,7 @@ use Rattle.value_reader.specs.Value.{refusal_of, uris_of}
 use Rattle.theory_resolution.specs.Direct.{State}
 use Rattle.table_decode.specs.Tables.{table_refusal, table_of}
 use Rattle.table_decode.specs.Decoded.{Holds}
-use Rattle.table_decode.specs.declared.Decoded.{Decoded}
+use Rattle.node_search.specs.declared.decoded.Decoded.{Decoded}
 use Rattle.resolve_run.specs.declared.Resolution.{Resolution}
 use Rattle.resolve_run.specs.declared.run.Current.{Current}
 use Rattle.resolve_run.specs.declared.answer.Ended.{Ended}

@@ -3,7 +3,7 @@ use Rattle.std.specs.Prelude.{ℕ, Bool, cond, List, get_or}
 use Rattle.base_numbers.specs.Numbers.{most_signals}
 use Rattle.base_lists.specs.Lists.{tabulate}
 use Rattle.theory_resolution.specs.Available.{counts}
-use Rattle.table_decode.specs.declared.Decoded.{Decoded}
+use Rattle.node_search.specs.declared.decoded.Decoded.{Decoded}
 
 -- the largest number of eight bytes: no signal's row, since no node has number 255
 abbrev pub no_row : ℕ

@@ -14,7 +14,7 @@ use Rattle.theory_resolution.specs.Table.{Urn}
 use Rattle.theory_resolution.specs.Settled.{needed}
 use Rattle.table_decode.specs.Tables.{table_refusal, table_of}
 use Rattle.table_decode.specs.Decoded.{Means}
-use Rattle.table_decode.specs.declared.Decoded.{Decoded}
+use Rattle.node_search.specs.declared.decoded.Decoded.{Decoded}
 use Rattle.resolve_early.specs.FirstEntries.{uris_in}
 use Rattle.resolve_early.specs.Early.{taken_as, number_of, refused, reached, enough, answer_for, read_of, early_of}
 use Rattle.resolve_early.specs.Run.{run_from}

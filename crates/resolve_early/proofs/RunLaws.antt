@@ -18,7 +18,7 @@ use Rattle.node_step.specs.StatusByte.{step_packed}
 use Rattle.node_step.specs.declared.stored.Packed.{Packed}
 use Rattle.node_search.specs.declared.uses.Use.{Use}
 use Rattle.node_search.specs.declared.uses.Use.TheVariants.{Skipped, Used}
-use Rattle.table_decode.specs.declared.Decoded.{Decoded}
+use Rattle.node_search.specs.declared.decoded.Decoded.{Decoded}
 use Rattle.resolve_early.specs.FirstEntries.{Front, nothing, only, before, front_from, first_of}
 use Rattle.resolve_early.specs.Run.{use_in, after_use, after_uri, settled_in, reached_at, run_over, run_from}
 use Rattle.resolve_early.specs.declared.run.Reached.{Reached}

@@ -25,7 +25,7 @@ use Rattle.node_search.proofs.UseRight.{uses-right}
 use Rattle.node_step.proofs.Both.{step-direct, coded-start, of-packed}
 use Rattle.table_decode.specs.Tables.{table_of, category_names}
 use Rattle.table_decode.specs.Decoded.{Holds}
-use Rattle.table_decode.specs.declared.Decoded.{Decoded}
+use Rattle.node_search.specs.declared.decoded.Decoded.{Decoded}
 use Rattle.resolve_early.specs.FirstEntries.{Front, uris_in}
 use Rattle.resolve_early.specs.Early.{taken_as, reached, enough}
 use Rattle.resolve_early.specs.Run.{after_use, after_uri, settled_in, run_over}

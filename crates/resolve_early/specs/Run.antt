@@ -7,7 +7,7 @@ use Rattle.node_step.specs.StatusByte.{step_packed}
 use Rattle.node_step.specs.declared.stored.Packed.{Packed}
 use Rattle.node_search.specs.declared.uses.Use.{Use}
 use Rattle.node_search.specs.declared.uses.Use.TheVariants.{Skipped, Used}
-use Rattle.table_decode.specs.declared.Decoded.{Decoded}
+use Rattle.node_search.specs.declared.decoded.Decoded.{Decoded}
 pub use Rattle.resolve_run.specs.Run.{use_in}
 use Rattle.resolve_early.specs.FirstEntries.{front_from, first_of}
 use Rattle.resolve_early.specs.SettledBy.{settled_by}

@@ -20,7 +20,7 @@ use Rattle.resolve_record.proofs.FitLaws.{record-right}
 use Rattle.resolve_record.proofs.StateLaws.{state-coded, carried-state, carried-coded}
 use Rattle.table_decode.specs.Tables.{table_refusal, table_of}
 use Rattle.table_decode.specs.Decoded.{Holds, Means}
-use Rattle.table_decode.specs.declared.Decoded.{Decoded}
+use Rattle.node_search.specs.declared.decoded.Decoded.{Decoded}
 use Rattle.table_decode.proofs.Accepting.{accepted}
 use Rattle.resolve_run.specs.declared.Resolution.{Resolution}
 use Rattle.resolve_run.specs.declared.run.Current.{Current}

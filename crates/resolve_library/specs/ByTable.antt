@@ -1,7 +1,7 @@
 -- The plain resolver by what is decoded, whether or not any table decodes so: the arrays are followed as they are.
 use Rattle.std.specs.Prelude.{ℕ, cond, List, eqb}
 use Rattle.value_reader.specs.Value.{refusal_of}
-use Rattle.table_decode.specs.declared.Decoded.{Decoded}
+use Rattle.node_search.specs.declared.decoded.Decoded.{Decoded}
 use Rattle.resolve_run.specs.declared.Resolution.{Resolution}
 use Rattle.resolve_run.specs.declared.answer.Ended.{Ended}
 use Rattle.resolve_run.specs.Run.{Direct, start_now, unwalked, ended_from}

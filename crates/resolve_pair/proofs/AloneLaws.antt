@@ -5,7 +5,7 @@ use mathlib.Core.List.{List}
 use Rattle.value_reader.specs.Value.{refusal_of}
 use Rattle.table_decode.specs.Tables.{table_refusal}
 use Rattle.table_decode.specs.Decoded.{Means}
-use Rattle.table_decode.specs.declared.Decoded.{Decoded}
+use Rattle.node_search.specs.declared.decoded.Decoded.{Decoded}
 use Rattle.resolve_run.specs.declared.Resolution.{Resolution}
 use Rattle.resolve_run.specs.declared.run.Current.{Current}
 use Rattle.resolve_run.specs.declared.answer.Ended.{Ended}

@@ -18,7 +18,7 @@ use Rattle.value_reader.proofs.ValueLaws.{refusal-long, refusal-unfit, refusal-m
 use Rattle.theory_resolution.specs.Table.{Urn, Table}
 use Rattle.theory_resolution.specs.Direct.{used_of, used_count, skipped_count}
 use Rattle.table_decode.specs.Tables.{table_refusal}
-use Rattle.table_decode.specs.declared.Decoded.{Decoded}
+use Rattle.node_search.specs.declared.decoded.Decoded.{Decoded}
 use Rattle.resolve_run.specs.declared.Resolution.{Resolution}
 use Rattle.resolve_run.specs.declared.run.Current.{Current}
 use Rattle.resolve_run.specs.declared.run.Point.{Point}

@@ -16,7 +16,7 @@ use Rattle.node_step.proofs.Both.{step-direct, coded-start}
 use Rattle.node_step.proofs.TriesRight.{tries-direct}
 use Rattle.table_decode.specs.Tables.{table_of}
 use Rattle.table_decode.specs.Decoded.{Holds}
-use Rattle.table_decode.specs.declared.Decoded.{Decoded}
+use Rattle.node_search.specs.declared.decoded.Decoded.{Decoded}
 use Rattle.resolve_run.specs.declared.run.Current.{Current}
 use Rattle.resolve_run.specs.declared.answer.Ended.{Ended}
 use Rattle.resolve_run.specs.Answers.{taken_as}

@@ -12,7 +12,7 @@ use Rattle.node_search.specs.Uses.{used_urn, use_of}
 use Rattle.node_search.proofs.UseRight.{uses-right}
 use Rattle.table_decode.specs.Tables.{category_names}
 use Rattle.table_decode.specs.Decoded.{Holds}
-use Rattle.table_decode.specs.declared.Decoded.{Decoded}
+use Rattle.node_search.specs.declared.decoded.Decoded.{Decoded}
 use Rattle.resolve_run.proofs.TakenLaws.{used-urn}
 use Rattle.resolve_run.specs.declared.run.Current.{Current}
 use Rattle.resolve_run.specs.declared.run.Point.{Point}

@@ -18,7 +18,7 @@ use Rattle.node_step.proofs.TriesLaws.{tries-bound}
 use Rattle.node_step.specs.declared.State.{State}
 use Rattle.node_search.specs.declared.uses.Use.{Use}
 use Rattle.node_search.specs.declared.uses.Use.TheVariants.{Skipped, Used}
-use Rattle.table_decode.specs.declared.Decoded.{Decoded}
+use Rattle.node_search.specs.declared.decoded.Decoded.{Decoded}
 use Rattle.resolve_run.specs.declared.run.Current.{Current}
 use Rattle.resolve_run.specs.declared.run.Point.{Point}
 use Rattle.machine_image.specs.Image.{signal_in, target_in}

@@ -14,7 +14,7 @@ use Rattle.machine_image.specs.Image.{signal_in, target_in}
 use Rattle.node_step.specs.StatusByte.{fits_by}
 use Rattle.table_decode.specs.Tables.{table_refusal, table_of}
 use Rattle.table_decode.specs.Decoded.{Holds, Means}
-use Rattle.table_decode.specs.declared.Decoded.{Decoded}
+use Rattle.node_search.specs.declared.decoded.Decoded.{Decoded}
 use Rattle.machine_symbols.specs.Listed.{SymbolsIn, triple_lists, symbols_of, index_from}
 use Rattle.machine_symbols.specs.declared.Symbols.{Symbols}
 use Rattle.machine_symbols.proofs.NumberRight.{number-right}

@@ -13,7 +13,7 @@ use Rattle.base_lists.specs.Lists.{over}
 use Rattle.theory_resolution.specs.Nodes.{nodes}
 use Rattle.table_decode.specs.Tables.{table_refusal, table_of, category_names}
 use Rattle.table_decode.specs.Decoded.{Means}
-use Rattle.table_decode.specs.declared.Decoded.{Decoded}
+use Rattle.node_search.specs.declared.decoded.Decoded.{Decoded}
 use Rattle.sample_library.specs.declared.Made.{Made}
 use Rattle.sample_library.specs.declared.entry.Wrote.{Wrote}
 use Rattle.sample_seed.specs.Numbers.{next_of, choice_of}

@@ -14,7 +14,7 @@ use Rattle.theory_resolution.specs.Nodes.{nodes, node_at}
 use Rattle.base_text.specs.Text.{fields, on_first, text_of}
 use Rattle.base_ascii.specs.Ascii.{bytes}
 use Rattle.table_decode.specs.Tables.{table_of, category_names}
-use Rattle.table_decode.specs.declared.Decoded.{Decoded}
+use Rattle.node_search.specs.declared.decoded.Decoded.{Decoded}
 use Rattle.sample_library.specs.declared.entry.Wrote.{Wrote}
 use Rattle.sample_seed.specs.Numbers.{next_of, choice_of}
 use Rattle.sample_names.specs.FirstFree.{foreign, strange}

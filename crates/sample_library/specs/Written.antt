@@ -3,7 +3,7 @@ use Rattle.std.specs.Prelude.{ℕ, ◌≡◌, List, ◌∷◌, ◌++◌}
 use Rattle.base_ascii.specs.Ascii.{bytes}
 use Rattle.table_decode.specs.Tables.{table_refusal, table_of}
 use Rattle.table_decode.specs.Decoded.{Holds}
-use Rattle.table_decode.specs.declared.Decoded.{Decoded}
+use Rattle.node_search.specs.declared.decoded.Decoded.{Decoded}
 
 -- the table is well-formed, and decoded
 pub record Ready (t : List ℕ) (d : Decoded) : Type 0 where

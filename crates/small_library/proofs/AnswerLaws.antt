@@ -20,7 +20,7 @@ use Rattle.machine_image.proofs.Form.{Formed, form-to}
 use Rattle.machine_image.proofs.Check.{check-to}
 use Rattle.table_decode.specs.Tables.{table_of, table_refusal}
 use Rattle.table_decode.specs.Decoded.{Means}
-use Rattle.table_decode.specs.declared.Decoded.{Decoded}
+use Rattle.node_search.specs.declared.decoded.Decoded.{Decoded}
 use Rattle.table_decode.specs.Accepted.{Accepted}
 use Rattle.table_decode.proofs.Accepting.{accepted}
 use Rattle.base_bytes.specs.declared.Built.{Built}

@@ -32,7 +32,7 @@ use Rattle.table_decode.specs.Tables.{category_names, table_read, table_of}
 use Rattle.table_names.specs.Categories.{Indexed}
 use Rattle.table_decode.specs.Stages.{FormedAs, ListedAs}
 use Rattle.table_decode.specs.Decoded.{refused_table, Past, Means}
-use Rattle.table_decode.specs.declared.Decoded.{Decoded}
+use Rattle.node_search.specs.declared.decoded.Decoded.{Decoded}
 use Rattle.table_names.proofs.Indexing.{index_below}
 
 -- a refused table

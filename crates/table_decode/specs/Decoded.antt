@@ -6,7 +6,7 @@ use Rattle.node_search.specs.Arrays.{NamesIn, NodesIn, SharedIn, InnerIn}
 use Rattle.node_step.specs.Rows.{Numbers}
 use Rattle.table_sections.specs.Held.{Padded}
 use Rattle.table_decode.specs.Tables.{category_names, table_of, table_refusal}
-use Rattle.table_decode.specs.declared.Decoded.{Decoded}
+use Rattle.node_search.specs.declared.decoded.Decoded.{Decoded}
 
 -- the answer to a table that is refused with k: all zero but the number
 abbrev pub refused_table : ℕ → Decoded

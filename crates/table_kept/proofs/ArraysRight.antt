@@ -29,7 +29,7 @@ use Rattle.table_kept.proofs.SearchLaws.{in-length}
 use Rattle.table_kept.proofs.Right.{Arrays, Stored, precedes-right, reachable-same, few-found, way-numbers, loss-same, low, rings-same, nodes-same}
 use Rattle.table_decode.specs.Tables.{table_refusal, table_of}
 use Rattle.table_decode.specs.Decoded.{Holds}
-use Rattle.table_decode.specs.declared.Decoded.{Decoded}
+use Rattle.node_search.specs.declared.decoded.Decoded.{Decoded}
 use Rattle.table_decode.proofs.Accepting.{accepted}
 use Rattle.resolve_available.specs.Available.{has_bit}
 use Rattle.resolve_available.specs.Rows.{rows_among, among}

@@ -12,7 +12,7 @@ use Rattle.theory_resolution.specs.Table.{Table}
 use Rattle.theory_resolution.specs.Nodes.{nodes, node_at}
 use Rattle.table_decode.specs.Tables.{table_refusal, table_of}
 use Rattle.table_decode.specs.Decoded.{Holds, Means}
-use Rattle.table_decode.specs.declared.Decoded.{Decoded}
+use Rattle.node_search.specs.declared.decoded.Decoded.{Decoded}
 use Rattle.resolve_available.specs.Available.{has_bit, known}
 use Rattle.resolve_available.proofs.AnswerLaws.{signals-few}
 use Rattle.table_kept.specs.declared.kept.Kept.{Kept}

@@ -33,7 +33,7 @@ use Rattle.table_places.proofs.Flat.{what_of, on_what, tagged-what, tagged-map, 
 use Rattle.table_names.specs.Categories.{is_listed, Indexed}
 use Rattle.table_decode.specs.Tables.{to_urn, table_in, judged, table_refusal, names_read, category_names, table_of}
 use Rattle.table_decode.specs.Decoded.{Means}
-use Rattle.table_decode.specs.declared.Decoded.{Decoded}
+use Rattle.node_search.specs.declared.decoded.Decoded.{Decoded}
 use Rattle.table_decode.proofs.Judging.{refusal-fault, refusal-read, table-read, table-said}
 use Rattle.table_decode.proofs.Accepting.{Passed, judged-zero, refusal-zero, three, accepted}
 use Rattle.tree_sections.specs.Tree.{Node}
