@@ -6,7 +6,7 @@ use mathlib.Core.Bool.{Bool, true, false, cond, not, ◌&&◌, ◌||◌, and-fal
 use mathlib.Core.Option.{none, some}
 use mathlib.Core.List.{List, [], ◌∷◌, ◌++◌, append-nil}
 use lib.Dec.{eqb, ltb, leb}
-use borrow.Author.Tests.{eqb-true, eq-eqb, ne_eqb, lt-ltb, ltb-true, lt-leb, leb-true, leb-false}
+use borrow.Author.Tests.{eqb-true, eq-eqb, ne_eqb, ltb-true, lt-leb, leb-true, leb-false}
 use lib.ListN.{length, get_or, drop, length-append, drop_of_length-le}
 use lib.Seq.{drop-cons}
 use native.Mathlib.Omega.{arith}
@@ -17,10 +17,10 @@ use Rattle.base_numbers.specs.Numbers.{most_nodes}
 use Rattle.base_lists.proofs.Numbers.{min-le}
 use Rattle.base_lists.proofs.Bools.{by_test}
 use Rattle.base_lists.specs.Cuts.{up_to, past, stretch}
-use Rattle.base_lists.proofs.Lists.{member_of, mem-at, index-member}
+use Rattle.base_lists.proofs.Lists.{member_of, mem-at}
 use Rattle.base_lists.specs.Lists.{member_by, index_by}
 use Rattle.theory_resolution.specs.Names.{Name, Parts, same_name, same_parts, below, Above, some_below}
-use Rattle.theory_resolution.proofs.Names.{some-above, above-some, name-exact}
+use Rattle.theory_resolution.proofs.Names.{some-above, above-some}
 use Rattle.theory_resolution.specs.Table.{Urn, urn, Table}
 use Rattle.theory_resolution.specs.Nodes.{same_urn, nodes, is_node, RootOrNode, has_under, is_root, leaf, deepest, number, node_at}
 use Rattle.theory_resolution.proofs.Nodes.{urn-exact}
@@ -36,7 +36,6 @@ use Rattle.urn_names.proofs.Cases.{alert-case}
 use Rattle.base_text.proofs.Turns.{covers-level, covers-not, covers-ends, common-three, common-le, next-lesser}
 use Rattle.node_search.specs.declared.uses.Search.{Search}
 use Rattle.std.specs.Prelude.{Some, None}
-use Rattle.node_search.specs.declared.uses.Used.{Used}
 use Rattle.node_search.specs.Uses.{used_urn, CaseIgnored, compared_over, use_of}
 use Rattle.node_search.specs.Search.{find_name, nothing, covers_by, met_with, counted_in, look_by, look_at, search_from, found_in, used_by, uses_of}
 use Rattle.node_search.specs.Arrays.{NamesIn, NodesIn, last_path, SharedIn, InnerIn}

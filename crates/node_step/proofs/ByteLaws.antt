@@ -1,7 +1,7 @@
 -- Laws of statuses as bytes, and of all of a state's in one number.
 use Prim.Native.Nat.{ℕ, zero, suc, ◌+◌, ◌-◌, ◌*◌, ◌^◌, ◌≤◌, ◌<◌}
 use mathlib.Core.Path.{◌≡◌, refl, sym, ap, ◌∙◌}
-use mathlib.Core.Bool.{Bool, true, false, cond}
+use mathlib.Core.Bool.{Bool, true, false, cond, ◌&&◌}
 use mathlib.Core.List.{List, [], ◌∷◌}
 use lib.Dec.{ltb, eqb}
 use lib.ListN.{length, get_or, set, length-replicate, length-set}
@@ -133,11 +133,7 @@ pack-again l long numbered =
         unpacked-at (packed l 0 8) 8 k Open h (omega arith)
         ∙ ap status_of (packed-digit l k h) ∙ status-byte (status_in l k) (numbered k h)
 
--- whether two states are the same, by the signal first
-pub same-no : (a b : Packed) → (a.signal ≡ b.signal → ⊥) → false ≡ same_packed a b
+-- what `==` answers
+pub packed-eq : (a b : Packed) → (eqb a.signal b.signal && eqb a.statuses b.statuses) ≡ same_packed a b
 unfolding same_packed
-same-no a b n = sym (rw (ne_eqb a.signal b.signal n))
-
-pub same_rest : (a b : Packed) → a.signal ≡ b.signal → eqb a.statuses b.statuses ≡ same_packed a b
-unfolding same_packed
-same_rest a b e = sym (rw (eq-eqb a.signal b.signal e))
+packed-eq a b = refl

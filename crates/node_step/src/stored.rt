@@ -5,8 +5,7 @@ ghost use Rattle.node_step.specs.Step.{row_at, digit, extends};
 ghost use Rattle.node_step.specs.StatusByte.{same_packed, byte_of, status_of, step_packed, moved_packed, fits_by};
 
 use crate::{
-    Hit, Status, digit_at, extends_of, last_taken, put_at, row_at, seek_from, status_from,
-    takes_at,
+    Hit, Status, digit_at, extends_of, last_taken, put_at, row_at, seek_from, status_from, takes_at,
 };
 use base_numbers::{MOST_CATEGORIES, MOST_NODES};
 use node_search::decoded::Decoded;
@@ -22,10 +21,7 @@ pub struct Packed {
 pub fn same(a: Packed, b: Packed) -> bool
     ensures { result ≡ same_packed a b }
 {
-    if a.signal != b.signal {
-        return false;
-    }
-    a.statuses == b.statuses
+    a == b
 }
 
 // The byte of a status: 0 open, 1 shut, 1 + n held at node n.

@@ -2,7 +2,6 @@ use Rattle.node_step.proofs.StepLaws.{row-found, row_more, row-none}
 use Rattle.node_step.specs.Step.{find_row}
 use mathlib.Core.Path.{ap, sym}
 use native.Mathlib.Nat.{sub-zero}
-use native.Mathlib.Omega.{arith}
 use Rattle.node_step.proofs.find_row.Goals as goal
 
 pub loop-i-init : goal.loop-i-init

@@ -8,10 +8,7 @@ returns-then-c-ge-MOST_CATEGORIES c = packed-past c.args.d.now.rows c.args.d.now
     c.args.whole (omega arith) c.if-c-ge-MOST_CATEGORIES.true
 
 pub returns-then-takes_at : goal.returns-then-takes_at
-returns-then-takes_at c = packed-goes c.args.d.now.rows c.args.d.now.parent c.args.d.now.inner c.args.d.now.signals c.args.st c.args.c c.args.k c.args.whole (omega (
-  arith,
-  c.well_formed.1.1.1.1.0,
-)) c.if-c-ge-MOST_CATEGORIES.false
+returns-then-takes_at c = packed-goes c.args.d.now.rows c.args.d.now.parent c.args.d.now.inner c.args.d.now.signals c.args.st c.args.c c.args.k c.args.whole (omega arith) c.if-c-ge-MOST_CATEGORIES.false
     c.row_at-row.ensures
     c.digit_at-q.ensures
     c.digit_at-b.ensures
