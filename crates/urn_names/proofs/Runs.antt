@@ -50,12 +50,6 @@ module _ (p : ℕ → Bool) where
   unfolding label_by
   none-label = refl
 
-  -- a name is not empty
-  pub name-Some : (l : List ℕ) → name_by p l ≡ true → 0 < length l
-  unfolding name_by label_by up_to past
-  name-Some [] h = absurd (false≢true h)
-  name-Some (x ∷ xs) h = omega arith
-
   module _ (at_byte : p 64 ≡ false) where
     -- before another byte than `@` the text up to the first `@` is no label either
     run-other : (s : List ℕ) → run p s < length s → (get_or s (run p s) 0 ≡ 64 → ⊥) → all p (up_to 64 s) ≡ false
