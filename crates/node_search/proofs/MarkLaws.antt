@@ -2,7 +2,7 @@
 use Prim.Native.Nat.{ℕ, suc, ◌+◌, ◌-◌, ◌≤◌, ◌<◌, min}
 use mathlib.Core.Path.{◌≡◌, refl, ap, ap₂, sym, ◌∙◌}
 use mathlib.Core.Bool.{Bool, true, false, cond, not, ◌&&◌, ◌||◌, or-true, or-false}
-use mathlib.Core.List.{List}
+use mathlib.Core.List.{List, []}
 use native.Mathlib.Omega.{arith}
 use native.Mathlib.Decide.{ℕ_discrete}
 use native.Mathlib.Numerals.{add-one}
@@ -65,7 +65,7 @@ module _ (t ca pos len : List ℕ) (c n i : ℕ) (v : last_path t ca pos len c n
       let m : i ≡ suc (i - 1) = omega arith in
       v ∙ ap (last_path t ca pos len c) m ∙ rw (ne_eqb (get_or ca (i - 1) 0) c e)
 
-  pub before-none : {p : List ℕ} → i ≤ 0 → p ≡ take 0 (drop 0 t) → p ≡ last_path t ca pos len c n
+  pub before-none : {p : List ℕ} → i ≤ 0 → p ≡ [] → p ≡ last_path t ca pos len c n
   unfolding last_path
   before-none h e = let m : i ≡ 0 = omega arith in e ∙ sym (v ∙ ap (last_path t ca pos len c) m)
 

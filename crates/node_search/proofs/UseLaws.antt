@@ -38,52 +38,27 @@ module _ (t s na nl : List ℕ) (n i : ℕ) (v : find_name t na nl s 0 n ≡ fin
   name-none h = let m : n - i ≡ 0 = omega arith in sym (v ∙ rw m)
 
 -- the search at one node
-pub covers_less : (w : List ℕ) (all n : ℕ) → n < all → false ≡ (leb all n && ends_at w all)
-covers_less w all n h = sym (rw (lt-leb all n h))
+-- at a path that is the text or above it, and at another; the text's letters are taken as small ones
+module _ (p w : List ℕ) (inner : Bool) (k n : ℕ) (s : Search) {above : Bool} {looked : ℕ}
+    (a : above ≡ (leb (length p) n && ends_at w (length p))) (h : looked ≡ min (length p) (n + 1)) where
+  covered : covers_by p (lowered w) n ≡ above
+  unfolding covers_by
+  covered = sym (a ∙ ap (λ z. leb (length p) n && z) (sym (lowered-ends w (length p))))
 
-pub covers-all : (w : List ℕ) (all n : ℕ) {b : Bool} → all ≤ n → b ≡ ends_at w all → b ≡ (leb all n && ends_at w all)
-covers-all w all n h e = e ∙ sym (rw (le-leb all n h))
+  pub met-above : above ≡ true
+      → record { ends = not inner; node = k; whole = eqb (length p) (length w); same = n; compared = s.compared + looked }
+      ≡ met_with p (lowered w) inner k n s
+  unfolding met_with
+  met-above e = sym (rw (covered ∙ e, lowered-length w, ← h))
 
-pub met-is : (p w : List ℕ) (inner : Bool) (k n : ℕ) (s : Search) {above ends whole : Bool} {node looked : ℕ}
-    → above ≡ (leb (length p) n && ends_at w (length p))
-    → ends ≡ cond above (not inner) false → node ≡ cond above k s.node → whole ≡ cond above (eqb (length p) (length w)) s.whole
-    → looked ≡ min (length p) (n + 1)
-    → record { ends = ends; node = node; whole = whole; same = n; compared = s.compared + looked } ≡ met_with p w inner k n s
-unfolding met_with covers_by
-met-is p w inner k n s {above} a e f g h =
-    let here : (b : Bool) → Search = λ b. record {
-      ends = b && not inner;
-      node = cond b k s.node;
-      whole = cond b (eqb (length p) (length w)) s.whole;
-      same = n;
-      compared = s.compared + min (length p) (n + 1);
-    } in
-    let x = e ∙ both above in
-    (λ i. record { ends = x i; node = f i; whole = g i; same = n; compared = s.compared + h i }) ∙ ap here a
-  where
-    both : (b : Bool) → cond b (not inner) false ≡ b && not inner
-    both true = refl
-    both false = refl
-
--- the same for a text whose letters are taken as small ones
-pub met-lowered : (p w : List ℕ) (inner : Bool) (k n : ℕ) (s : Search) {above ends whole : Bool} {node looked : ℕ}
-    → above ≡ (leb (length p) n && ends_at w (length p))
-    → ends ≡ cond above (not inner) false → node ≡ cond above k s.node → whole ≡ cond above (eqb (length p) (length w)) s.whole
-    → looked ≡ min (length p) (n + 1)
-    → record { ends = ends; node = node; whole = whole; same = n; compared = s.compared + looked } ≡ met_with p (lowered w) inner k n s
-met-lowered p w inner k n s {above} a e f g h =
-    met-is p (lowered w) inner k n s (a ∙ ap (λ z. leb (length p) n && z) (sym (lowered-ends w (length p)))) e f
-    (g ∙ ap (λ z. cond above (eqb (length p) z) s.whole) (sym (lowered-length w))) h
+  pub met-other : above ≡ false
+      → record { ends = false; node = s.node; whole = s.whole; same = n; compared = s.compared + looked } ≡ met_with p (lowered w) inner k n s
+  unfolding met_with
+  met-other e = sym (rw (covered ∙ e, ← h))
 
 module _ (p w : List ℕ) (k l : ℕ) {b : Bool} where
-  pub departs-there : k ≡ l → b ≡ differ_at p w l → b ≡ (eqb k l && differ_at p w l)
-  departs-there h e = e ∙ sym (rw (eq-eqb k l h))
-
   pub departs-same : b ≡ (eqb k l && differ_at p w l) → b ≡ true → k ≡ l
   departs-same e q = eqb-true k l ((and-eq-true_iff (eqb k l) (differ_at p w l)).0 (sym e ∙ q)).0
-
-pub departs-not : (p w : List ℕ) (k l : ℕ) → (k ≡ l → ⊥) → false ≡ (eqb k l && differ_at p w l)
-departs-not p w k l h = sym (rw (ne_eqb k l h))
 
 module _ (t pos len : List ℕ) (inner : List Bool) (w : List ℕ) (i l : ℕ) (s : Search) where
   pub look-counted : {r : Search} → s.same < l → r ≡ counted_in s → r ≡ look_by t pos len inner w i l s

@@ -7,19 +7,17 @@ use Rattle.node_search.proofs.MarkLaws.{marks-start, marks-more}
 use Rattle.node_search.proofs.marks.mark_parents.Goals as goal
 
 pub loop-i-init : goal.loop-i-init
-loop-i-init c = (omega arith, c.requires.1, λ k h. c.requires.2 k h ∙ marks-start c.args.parents.now k)
+loop-i-init c = (c.requires.1, λ k h. c.requires.2 k h ∙ marks-start c.args.parents.now k)
 
 pub mark-requires : goal.mark-requires
-mark-requires c = c.loop-i.invariant.1
+mark-requires c = c.loop-i.invariant.0
 
 pub loop-i-preserved : goal.loop-i-preserved
-loop-i-preserved c = let i = c.loop-i.i in let inv = c.loop-i.invariant in
-    let parents = c.args.parents.now in
-    (omega arith, c.mark.ensures.inner_len, λ k h. marks-more parents i k (inv.2 k h) (c.mark.ensures.by_index k h))
+loop-i-preserved c = (c.mark.ensures.inner_len, λ k h. marks-more c.args.parents.now c.loop-i.i k (c.loop-i.invariant.1 k h) (c.mark.ensures.by_index k h))
 
 pub returns : goal.returns
 returns c = record {
-  inner_len = c.loop-i.invariant.1;
-  by_index = λ k h. let e : c.loop-i.i ≡ c.args.n = omega (arith, c.loop-i-test.false, c.loop-i.invariant.0) in
-      c.loop-i.invariant.2 k h ∙ ap (λ (i : ℕ). not (childless c.args.parents.now (k + 1) i)) e;
+  inner_len = c.loop-i.invariant.0;
+  by_index = λ k h. let e : c.loop-i.i ≡ c.args.n = omega arith in
+      c.loop-i.invariant.1 k h ∙ ap (λ (i : ℕ). not (childless c.args.parents.now (k + 1) i)) e;
 }
