@@ -1,14 +1,14 @@
 -- Laws of the marks of nodes: which have nodes under them, and how many bytes a path shares with the one before it.
 use Prim.Native.Nat.{ℕ, suc, ◌+◌, ◌-◌, ◌≤◌, ◌<◌, min}
 use mathlib.Core.Path.{◌≡◌, refl, ap, ap₂, sym, ◌∙◌}
-use mathlib.Core.Bool.{Bool, true, false, cond, not, ◌&&◌, ◌||◌, or-true, or-false}
+use mathlib.Core.Bool.{Bool, true, false, cond, not, ◌&&◌, ◌||◌}
 use mathlib.Core.List.{List, []}
 use native.Mathlib.Omega.{arith}
 use native.Mathlib.Decide.{ℕ_discrete}
 use native.Mathlib.Numerals.{add-one}
 use native.Mathlib.Nat.{zero-add}
 use lib.Dec.{eqb, ltb}
-use lib.ListN.{length, get_or, set, take, drop}
+use lib.ListN.{length, get_or, set}
 use lib.Seq.{get_or-set_same, get_or-set_other, ext_get_or}
 use borrow.Author.Tests.{eq-eqb, ne_eqb, lt-ltb, ltb-true, ltb-false}
 use Rattle.base_numbers.specs.Numbers.{most_nodes}
@@ -18,21 +18,6 @@ use Rattle.base_lists.proofs.Tabulated.{tabulate-length, tabulate-at}
 use Rattle.base_lists.specs.Lists.{tabulate}
 use Rattle.base_text.specs.Text.{common}
 use Rattle.node_search.specs.Arrays.{last_path, shared_of, SharedIn, childless, inner_of}
-
--- a number that is no node's
-pub mark-other : (l : List Bool) (p k : ℕ) → (p ≡ k + 1 → ⊥) → get_or l k false ≡ (get_or l k false || eqb p (k + 1))
-mark-other l p k h = sym (ap (λ b. get_or l k false || b) (ne_eqb p (k + 1) h) ∙ or-false (get_or l k false))
-
--- a node's
-pub mark-node : (l : List Bool) (p i k : ℕ) → length l ≡ most_nodes → i ≡ p - 1 → (p ≡ 0 → ⊥) → p ≤ most_nodes → get_or (set l i true) k false
-    ≡ (get_or l k false || eqb p (k + 1))
-mark-node l p i k n e z h = go (ℕ_discrete i k)
-  where
-    go : Dec (i ≡ k) → get_or (set l i true) k false ≡ (get_or l k false || eqb p (k + 1))
-    go (yes j) =
-        ap (λ m. get_or (set l i true) m false) (sym j) ∙ get_or-set_same l i true false (omega arith)
-        ∙ sym (ap (λ b. get_or l k false || b) (eq-eqb p (k + 1) (omega arith)) ∙ or-true (get_or l k false))
-    go (no j) = get_or-set_other l i k true false (λ q. j (sym q)) ∙ mark-other l p k (λ q. omega arith)
 
 -- one parent more
 pub marks-more : (ps : List ℕ) (n k : ℕ) {a b : Bool} → a ≡ not (childless ps (k + 1) n) → b ≡ (a || eqb (get_or ps n 0) (k + 1))

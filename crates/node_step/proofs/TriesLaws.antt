@@ -43,18 +43,6 @@ module _ (ps : List ℕ) (d n p : ℕ) (v : depth ps most_tries d ≡ n + depth 
   unfolding depth
   depth-end h = let m : 9 - n ≡ 0 = omega arith in let w : depth ps (9 - n) p ≡ 0 = ap (λ x. depth ps x p) m in omega arith
 
--- the tries to a hit at p, if there is one
-module _ (ps : List ℕ) (d : ℕ) (f : Option Hit) where
-  pub tries-none : f ≡ None → 0 ≡ tries_to ps d f
-  tries-none e = rw e
-
-  module _ (h : Hit) {a b : ℕ} (e : f ≡ Some h) (i : a ≡ depth ps most_tries d) (j : b ≡ depth ps most_tries h.node) where
-    pub tries-count : b ≤ a + 1 → a + 1 - b ≡ tries_to ps d f
-    tries-count l = rw (e, ← i, ← j) (omega arith)
-
-    pub tries-over : a + 1 < b → 0 ≡ tries_to ps d f
-    tries-over l = rw (e, ← i, ← j) (omega arith)
-
 module _ (rows ps : List ℕ) (n : ℕ) (st : State) (c d : ℕ) (whole : Bool) where
   pub tries-out : 8 ≤ c → 0 ≡ tries_numbers rows ps n st c d whole
   unfolding tries_numbers

@@ -20,15 +20,13 @@ fn depth_of(parents: &[u8; MOST_NODES], d: u8) -> u8
     ensures { (result ≡ depth parents.now most_tries d) × (result ≤ most_tries) }
 {
     let mut p = d;
-    let mut n: u8 = 0;
-    while n < MOST_DEPTH {
+    for n in 0..MOST_DEPTH {
         if p == 0 {
             return n;
         }
         p = crate::parent(parents, p);
-        n += 1;
     }
-    n
+    MOST_DEPTH
 }
 
 // The candidates from k to where the signal was found, both counted.
@@ -39,7 +37,7 @@ fn tries_to(d: &Decoded, k: u8, found: Option<Hit>) -> u8
         Some(h) => {
             let from = depth_of(&d.parent, k) + 1;
             let to = depth_of(&d.parent, h.node);
-            if to <= from { from - to } else { 0 }
+            from.saturating_sub(to)
         }
         None => 0,
     }
