@@ -26,6 +26,7 @@ fn mark(p: u8, inner: &mut [bool; MOST_NODES])
 }
 
 // Of n nodes those that are a node's parent are marked.
+#[tactic(auto, unfolding(crate::specs::Arrays::childless))]
 fn mark_parents(parents: &[u8; MOST_NODES], n: usize, inner: &mut [bool; MOST_NODES])
     requires { (n ≤ most_nodes) × (length inner.old ≡ most_nodes) × ((k : ℕ) → k < most_nodes → get_or inner.old k false ≡ false) }
     ensures inner_len { length inner.new ≡ most_nodes }

@@ -148,6 +148,7 @@ fn search_nodes(t: &[u8], d: &Decoded, c: u8, w: &[u8]) -> Search
 }
 
 // What a URI is to the table t that was decoded, or nothing if it is skipped.
+#[tactic(auto, unfolding(crate::specs::Search::uses_of))]
 pub fn uses(t: &[u8], d: &Decoded, uri: &[u8]) -> Option<Used>
     ensures { result ≡ uses_of t.now d.now.name_at d.now.name_len d.now.categories
         d.now.category d.now.at d.now.len d.now.shared d.now.inner d.now.nodes uri.now }

@@ -194,6 +194,7 @@ pub(crate) fn status_from(inner: &[bool; MOST_NODES], d: u8, whole: bool, p: u8)
 }
 
 // The state after a search.
+#[tactic(auto, unfolding(crate::specs::Step::moved))]
 fn moved_by(d: &Decoded, st: State, c: usize, k: u8, whole: bool, found: Option<Hit>) -> State
     requires { c < most_categories }
     ensures { result ≡ moved d.now.inner st c k whole found }
@@ -228,6 +229,7 @@ fn hit_for(d: &Decoded, st: State, c: usize, k: u8, whole: bool) -> Option<Hit>
 }
 
 // One step at the node or root with number k, in category c.
+#[tactic(auto, unfolding(crate::specs::Step::step_numbers))]
 pub fn step(d: &Decoded, st: State, c: usize, k: u8, whole: bool) -> State
     ensures { result ≡ step_numbers d.now.rows d.now.parent d.now.inner d.now.signals st c k whole }
 {

@@ -48,6 +48,7 @@ pub fn status_of(b: u8) -> Status
 }
 
 // The state after a search; b is the byte of category c.
+#[tactic(auto, unfolding(crate::specs::StatusByte::moved_packed))]
 fn moved_packed(
     d: &Decoded,
     st: Packed,

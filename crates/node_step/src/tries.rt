@@ -44,6 +44,7 @@ fn tries_to(d: &Decoded, k: u8, found: Option<Hit>) -> u8
 }
 
 // One step at the node or root with number k, in category c, with its tries.
+#[tactic(auto, unfolding(crate::specs::Step::step_numbers, crate::specs::Tries::tries_numbers))]
 pub fn step(d: &Decoded, st: State, c: usize, k: u8, whole: bool) -> Counted
     ensures state_value { result.state ≡ step_numbers d.now.rows d.now.parent d.now.inner d.now.signals st c k whole }
     ensures tries_value { (result.tries ≡ tries_numbers d.now.rows d.now.parent d.now.signals st c k whole) × (result.tries ≤ 10) }

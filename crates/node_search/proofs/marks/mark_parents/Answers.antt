@@ -3,14 +3,8 @@ use Prim.Native.Nat.{ℕ, ◌+◌}
 use mathlib.Core.Path.{◌≡◌, ap, ◌∙◌}
 use mathlib.Core.Bool.{not}
 use Rattle.node_search.specs.Arrays.{childless}
-use Rattle.node_search.proofs.MarkLaws.{marks-start, marks-more}
+use Rattle.node_search.proofs.MarkLaws.{marks-more}
 use Rattle.node_search.proofs.marks.mark_parents.Goals as goal
-
-pub loop-i-init : goal.loop-i-init
-loop-i-init c = (c.requires.1, λ k h. c.requires.2 k h ∙ marks-start c.args.parents.now k)
-
-pub mark-requires : goal.mark-requires
-mark-requires c = c.loop-i.invariant.0
 
 pub loop-i-preserved : goal.loop-i-preserved
 loop-i-preserved c = (c.mark.ensures.inner_len, λ k h. marks-more c.args.parents.now c.loop-i.i k (c.loop-i.invariant.1 k h) (c.mark.ensures.by_index k h))

@@ -8,9 +8,6 @@ use Rattle.node_search.proofs.MarkLaws.{shared-more}
 use Rattle.node_search.proofs.TextLaws.{text_in_lem}
 use Rattle.node_search.proofs.marks.share_paths.Goals as goal
 
-pub loop-i-init : goal.loop-i-init
-loop-i-init c = (c.requires.1, (λ j h. absurd (omega arith)), λ k _. c.requires.2 k)
-
 pub loop-i-preserved : goal.loop-i-preserved
 loop-i-preserved c = (
   length-set c.loop-i.shared c.loop-i.i c.small.result ∙ c.loop-i.invariant.0,
@@ -29,6 +26,3 @@ loop-i-preserved c = (
   ))),
   λ k h. get_or-set_other c.loop-i.shared c.loop-i.i k c.small.result 0 (λ q. omega arith) ∙ c.loop-i.invariant.2 k (omega arith),
 )
-
-pub returns : goal.returns
-returns c = let inv = c.loop-i.invariant in record { shared_len = (inv.0, λ k h. inv.2 k (omega arith)); shared_in = λ j h. inv.1 j (omega arith) }

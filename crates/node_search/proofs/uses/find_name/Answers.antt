@@ -1,19 +1,10 @@
 use Rattle.base_text.specs.Text.{lowered}
 use native.Mathlib.Omega.{arith}
-use Prim.Native.Nat.{min}
-use mathlib.Core.Path.{ap, sym, ◌∙◌}
-use native.Mathlib.Nat.{sub-zero}
-use Rattle.base_numbers.specs.Numbers.{most_categories}
+use mathlib.Core.Path.{ap, ◌∙◌}
 use Rattle.theory_resolution.specs.Names.{same_name}
-use Rattle.node_search.specs.Search.{find_name}
 use Rattle.node_search.proofs.UseLaws.{name-found, name-more, name-none}
 use Rattle.node_search.proofs.TextLaws.{text_in_lem}
 use Rattle.node_search.proofs.uses.find_name.Goals as goal
-
-pub loop-i-init : goal.loop-i-init
-loop-i-init c =
-    ap (find_name c.args.t.now c.args.d.now.name_at c.args.d.now.name_len (lowered c.args.s.now) 0)
-    (sym (sub-zero (min c.args.d.now.categories most_categories)))
 
 pub returns-then-same_lowered : goal.returns-then-same_lowered
 returns-then-same_lowered c =

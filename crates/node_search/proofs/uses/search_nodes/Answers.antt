@@ -1,24 +1,15 @@
 use Rattle.base_text.specs.Text.{lowered}
 use Rattle.base_text.proofs.Cases.{test-as-is}
 use native.Mathlib.Omega.{arith}
-use Prim.Native.Nat.{ℕ, ◌+◌, ◌*◌, ◌-◌, ◌≤◌, min}
+use Prim.Native.Nat.{◌+◌, ◌*◌, ◌-◌, ◌≤◌, min}
 use Rattle.base_numbers.specs.Numbers.{most_nodes}
-use mathlib.Core.Path.{◌≡◌, refl, ap, sym, subst}
+use mathlib.Core.Path.{◌≡◌, refl, sym, subst}
 use mathlib.Core.Bool.{false}
-use native.Mathlib.Nat.{sub-zero}
 use Rattle.node_search.specs.declared.uses.Search.{Search}
 use Rattle.node_search.specs.Search.{nothing, search_from}
 use Rattle.node_search.proofs.UseLaws.{look-node, look-other, search-ends, search-more, search-done}
 use Rattle.node_search.proofs.uses.search_nodes.Goals as goal
 use Rattle.node_search.proofs.uses.search_nodes.Goals.{then-d-i+else-s, else-d-i}
-
-pub loop-i-init : goal.loop-i-init
-loop-i-init c = (
-  omega arith,
-  refl,
-  ap (λ (k : ℕ). search_from c.args.t.now c.args.d.now.category c.args.d.now.at c.args.d.now.len c.args.d.now.shared c.args.d.now.inner c.args.c
-      (lowered c.args.w.now) 0 k nothing) (sym (sub-zero (min c.args.d.now.nodes most_nodes))),
-)
 
 pub look-s-requires : goal.look-s-requires
 look-s-requires c = (omega arith, c.loop-i.invariant.0, test-as-is c.args.w.now c.is_lowered-small.ensures)

@@ -1,9 +1,6 @@
 use native.Mathlib.Omega.{arith}
-use Rattle.node_step.proofs.TriesLaws.{depth-start, depth-root, depth-more, depth-end}
+use Rattle.node_step.proofs.TriesLaws.{depth-root, depth-more, depth-end}
 use Rattle.node_step.proofs.tries.depth_of.Goals as goal
-
-pub loop-n-init : goal.loop-n-init
-loop-n-init c = depth-start _ _
 
 pub returns-then-p-eq0 : goal.returns-then-p-eq0
 returns-then-p-eq0 c = (depth-root _ _ _ _ c.loop-n.invariant c.if-p-eq0.true, omega arith)
