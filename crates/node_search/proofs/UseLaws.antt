@@ -120,10 +120,6 @@ module _ (t ca pos len sh : List ℕ) (inner : List Bool) (c : ℕ) (w : List �
   search-done h = let m : n - i ≡ 0 = omega arith in sym (v ∙ ap (λ k. search_from t ca pos len sh inner c w i k s) m)
 
 module _ (t na nl : List ℕ) (k : ℕ) (ca pos len sh : List ℕ) (inner : List Bool) (n : ℕ) (uri : List ℕ) {a : Bool} (f : a ≡ alert_urn uri) where
-  pub uses-other : a ≡ false → None ≡ uses_of t na nl k ca pos len sh inner n uri
-  unfolding uses_of
-  uses-other e = simp (sym f ∙ e)
-
   module _ (e : a ≡ true) (s : List ℕ) (i : s ≡ drop 10 uri) {x : List ℕ} {m : ℕ} {c : Option ℕ}
       (y : x ≡ up_to 58 s) (z : m ≡ min k 8) (h : c ≡ find_name t na nl (lowered x) 0 m) where
     found : c ≡ find_name t na nl (up_to 58 (lowered (drop 10 uri))) 0 (min k 8)

@@ -38,6 +38,7 @@ fn mark_parents(parents: &[u8; MOST_NODES], n: usize, inner: &mut [bool; MOST_NO
 }
 
 // The path of the last of the first i nodes that is of category c, or no bytes.
+#[tactic(auto, unfolding(crate::specs::Arrays::last_path))]
 fn path_before<'a>(
     t: &'a [u8],
     c: u8,

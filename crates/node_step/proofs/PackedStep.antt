@@ -88,17 +88,6 @@ packed-set l c s e h =
             ∙ ap (λ z. byte_of (status_in l z)) (sym (zero-add k)) ∙ sym (bytes-at l 0 8 k i)
             ∙ sym (get_or-set_other (bytes_from l 0 8) c k (byte_of s) 0 z)
 
--- the state after a search
-module _ (inner : List Bool) (st : Packed) (c d : ℕ) (whole : Bool) (i : Option Hit) where
-  pub moved-found : (h : Hit) → i ≡ Some h → {x : ℕ} → x ≡ put st.statuses c (byte_of (status_from inner d whole h.node))
-      → record { signal = h.signal; statuses = x } ≡ moved_packed inner st c d whole i
-  unfolding moved_packed
-  moved-found h f e = ap (λ z. record { signal = h.signal; statuses = z }) e ∙ sym (rw f)
-
-  pub moved-lost : i ≡ None → st ≡ moved_packed inner st c d whole i
-  unfolding moved_packed
-  moved-lost f = sym (rw f)
-
 -- the step, test by test
 module _ (rows ps : List ℕ) (inner : List Bool) (n : ℕ) (st : Packed) (c d : ℕ) (whole : Bool) (fits : st.statuses < 2 ^ 64) where
   again : packed_of (of_packed st) ≡ st

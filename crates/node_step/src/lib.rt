@@ -213,6 +213,7 @@ fn moved_by(d: &Decoded, st: State, c: usize, k: u8, whole: bool, found: Option<
 }
 
 // The signal found for what is said at the node or root with number k, in category c, if the category takes it.
+#[tactic(auto, unfolding(crate::specs::Step::hit_numbers))]
 fn hit_for(d: &Decoded, st: State, c: usize, k: u8, whole: bool) -> Option<Hit>
     requires { c < most_categories }
     ensures { result ≡ hit_numbers d.now.rows d.now.parent d.now.signals st c k whole }

@@ -16,6 +16,7 @@ pub struct Counted {
 }
 
 // How many nodes lie from d up to the root, d counted, at most 9.
+#[tactic(auto, unfolding(crate::specs::Tries::depth))]
 fn depth_of(parents: &[u8; MOST_NODES], d: u8) -> u8
     ensures { (result ≡ depth parents.now most_tries d) × (result ≤ most_tries) }
 {
