@@ -23,6 +23,7 @@ pub struct Used {
 // how many bytes the last node met has in common with the path; and whether the search ends there, at a leaf.
 #[derive(Clone, Copy)]
 struct Search {
+    // Kept a flag: the other fields hold whether it is set or not, so a ControlFlow would only be taken apart and joined again.
     ends: bool,
     node: u8,
     whole: bool,
