@@ -1,16 +1,16 @@
 -- Laws of the marks of nodes: which have nodes under them, and how many bytes a path shares with the one before it.
 use Prim.Native.Nat.{ℕ, suc, ◌+◌, ◌-◌, ◌≤◌, ◌<◌, min}
-use mathlib.Core.Path.{◌≡◌, refl, ap, ap₂, sym, ◌∙◌}
-use mathlib.Core.Bool.{Bool, true, false, cond, not, ◌&&◌, ◌||◌, or-true, or-false}
+use mathlib.Core.Path.{◌≡◌, ap, ap₂, sym, ◌∙◌}
+use mathlib.Core.Bool.{Bool, false, cond, not}
 use mathlib.Core.List.{List}
 use native.Mathlib.Omega.{arith}
 use native.Mathlib.Decide.{ℕ_discrete}
 use native.Mathlib.Numerals.{add-one}
 use native.Mathlib.Nat.{zero-add}
-use lib.Dec.{eqb, ltb}
-use lib.ListN.{length, get_or, set, take, drop}
+use lib.Dec.{ltb}
+use lib.ListN.{length, get_or, set}
 use lib.Seq.{get_or-set_same, get_or-set_other, ext_get_or}
-use borrow.Author.Tests.{eq-eqb, ne_eqb, lt-ltb, ltb-true, ltb-false}
+use borrow.Author.Tests.{eq-eqb, lt-ltb, ltb-true, ltb-false}
 use Rattle.base_numbers.specs.Numbers.{most_nodes}
 use Rattle.base_lists.specs.Cuts.{stretch}
 use Rattle.base_lists.proofs.Bools.{by_test}
@@ -19,55 +19,13 @@ use Rattle.base_lists.specs.Lists.{tabulate}
 use Rattle.base_text.specs.Text.{common}
 use Rattle.node_search.specs.Arrays.{last_path, shared_of, SharedIn, childless, inner_of}
 
--- a number that is no node's
-pub mark-other : (l : List Bool) (p k : ℕ) → (p ≡ k + 1 → ⊥) → get_or l k false ≡ (get_or l k false || eqb p (k + 1))
-mark-other l p k h = sym (ap (λ b. get_or l k false || b) (ne_eqb p (k + 1) h) ∙ or-false (get_or l k false))
-
--- a node's
-pub mark-node : (l : List Bool) (p i k : ℕ) → length l ≡ most_nodes → i ≡ p - 1 → (p ≡ 0 → ⊥) → p ≤ most_nodes → get_or (set l i true) k false
-    ≡ (get_or l k false || eqb p (k + 1))
-mark-node l p i k n e z h = go (ℕ_discrete i k)
-  where
-    go : Dec (i ≡ k) → get_or (set l i true) k false ≡ (get_or l k false || eqb p (k + 1))
-    go (yes j) =
-        ap (λ m. get_or (set l i true) m false) (sym j) ∙ get_or-set_same l i true false (omega arith)
-        ∙ sym (ap (λ b. get_or l k false || b) (eq-eqb p (k + 1) (omega arith)) ∙ or-true (get_or l k false))
-    go (no j) = get_or-set_other l i k true false (λ q. j (sym q)) ∙ mark-other l p k (λ q. omega arith)
-
--- one parent more
-pub marks-more : (ps : List ℕ) (n k : ℕ) {a b : Bool} → a ≡ not (childless ps (k + 1) n) → b ≡ (a || eqb (get_or ps n 0) (k + 1))
-    → b ≡ not (childless ps (k + 1) (n + 1))
-unfolding childless
-marks-more ps n k e f =
-    f ∙ ap (λ z. z || eqb (get_or ps n 0) (k + 1)) e ∙ sym (rw (add-one n) (go (childless ps (k + 1) n) (eqb (get_or ps n 0) (k + 1))))
-  where
-    go : (x y : Bool) → not (x && not y) ≡ (not x || y)
-    go true true = refl
-    go true false = refl
-    go false y = refl
-
--- before the first
-pub marks-start : (ps : List ℕ) (k : ℕ) → false ≡ not (childless ps (k + 1) 0)
-unfolding childless
-marks-start ps k = refl
-
--- the last node of a category, one node further down
+-- the last node of a category, found
 module _ (t ca pos len : List ℕ) (c n i : ℕ) (v : last_path t ca pos len c n ≡ last_path t ca pos len c i) where
   pub before-found : {p : List ℕ} → 0 < i → get_or ca (i - 1) 0 ≡ c → p ≡ stretch t pos len (i - 1) → p ≡ last_path t ca pos len c n
   unfolding last_path
   before-found h e f =
       let m : i ≡ suc (i - 1) = omega arith in
       f ∙ sym (v ∙ ap (last_path t ca pos len c) m ∙ rw (eq-eqb (get_or ca (i - 1) 0) c e))
-
-  pub before_more : 0 < i → (get_or ca (i - 1) 0 ≡ c → ⊥) → last_path t ca pos len c n ≡ last_path t ca pos len c (i - 1)
-  unfolding last_path
-  before_more h e =
-      let m : i ≡ suc (i - 1) = omega arith in
-      v ∙ ap (last_path t ca pos len c) m ∙ rw (ne_eqb (get_or ca (i - 1) 0) c e)
-
-  pub before-none : {p : List ℕ} → i ≤ 0 → p ≡ take 0 (drop 0 t) → p ≡ last_path t ca pos len c n
-  unfolding last_path
-  before-none h e = let m : i ≡ 0 = omega arith in e ∙ sym (v ∙ ap (last_path t ca pos len c) m)
 
 -- one node's shared bytes more
 abbrev shared_by : List ℕ → List ℕ → List ℕ → List ℕ → ℕ → ℕ

@@ -1,23 +1,14 @@
--- Laws of the texts that arrays hold: within their room, and past it.
+-- Laws of the texts that arrays hold, within their room.
 use Prim.Native.Nat.{ℕ, ◌≤◌, ◌<◌}
-use mathlib.Core.Path.{◌≡◌, refl, ap, sym, ◌∙◌}
+use mathlib.Core.Path.{◌≡◌, refl, ap, ◌∙◌}
 use mathlib.Core.Bool.{cond}
 use mathlib.Core.List.{List, []}
 use native.Mathlib.Omega.{arith}
-use borrow.Author.Tests.{lt-ltb, le-ltb}
+use borrow.Author.Tests.{lt-ltb}
 use Rattle.base_lists.specs.Cuts.{stretch}
 use Rattle.base_lists.proofs.Tabulated.{tabulate-same}
 use Rattle.base_lists.specs.Lists.{tabulate}
 use Rattle.node_search.specs.Arrays.{text_in}
-
--- what the code answers within the room, and past it
-pub text-there : {r : List ℕ} (n : ℕ) (t at len : List ℕ) (i : ℕ) → i < n → r ≡ stretch t at len i → r ≡ text_in n t at len i
-unfolding text_in
-text-there n t at len i h e = e ∙ sym (ap (λ b. cond b (stretch t at len i) []) (lt-ltb i n h))
-
-pub text-past : {r : List ℕ} (n : ℕ) (t at len : List ℕ) (i : ℕ) → n ≤ i → r ≡ [] → r ≡ text_in n t at len i
-unfolding text_in
-text-past n t at len i h e = e ∙ sym (ap (λ b. cond b (stretch t at len i) []) (le-ltb i n h))
 
 -- within the room it is the text itself
 pub text_in_lem : {r : List ℕ} (n : ℕ) (t at len : List ℕ) (i : ℕ) → r ≡ text_in n t at len i → i < n → r ≡ stretch t at len i

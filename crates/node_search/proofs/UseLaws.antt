@@ -1,6 +1,6 @@
 -- Laws of the use of URIs at a turn of a loop, over plain variables.
 use Prim.Native.Nat.{ℕ, suc, ◌+◌, ◌-◌, ◌≤◌, ◌<◌, min}
-use mathlib.Core.Path.{◌≡◌, refl, ap, ap₂, sym, ◌∙◌}
+use mathlib.Core.Path.{◌≡◌, ap, ap₂, sym, ◌∙◌}
 use mathlib.Core.Bool.{Bool, true, false, cond, not, ◌&&◌, and-eq-true_iff}
 use mathlib.Core.List.{List}
 use mathlib.Core.Logic.{inl}
@@ -9,7 +9,7 @@ use native.Mathlib.Numerals.{add-one}
 use lib.ListN.{length, get_or, take, drop, length-drop}
 use lib.Seq.{take_all}
 use lib.Dec.{eqb, leb}
-use borrow.Author.Tests.{lt-leb, le-leb, lt-ltb, le-ltb, eq-eqb, ne_eqb, eqb-true}
+use borrow.Author.Tests.{lt-leb, lt-ltb, le-ltb, eq-eqb, ne_eqb, eqb-true}
 use Rattle.base_numbers.specs.Numbers.{most_nodes}
 use Rattle.base_lists.proofs.Cuts.{up_to-take, up_to-le, past-drop}
 use Rattle.base_lists.specs.Cuts.{up_to, past, stretch}
@@ -38,52 +38,27 @@ module _ (t s na nl : List ℕ) (n i : ℕ) (v : find_name t na nl s 0 n ≡ fin
   name-none h = let m : n - i ≡ 0 = omega arith in sym (v ∙ rw m)
 
 -- the search at one node
-pub covers_less : (w : List ℕ) (all n : ℕ) → n < all → false ≡ (leb all n && ends_at w all)
-covers_less w all n h = sym (rw (lt-leb all n h))
+-- at a path that is the text or above it, and at another; the text's letters are taken as small ones
+module _ (p w : List ℕ) (inner : Bool) (k n : ℕ) (s : Search) {above : Bool} {looked : ℕ}
+    (a : above ≡ (leb (length p) n && ends_at w (length p))) (h : looked ≡ min (length p) (n + 1)) where
+  covered : covers_by p (lowered w) n ≡ above
+  unfolding covers_by
+  covered = sym (a ∙ ap (λ z. leb (length p) n && z) (sym (lowered-ends w (length p))))
 
-pub covers-all : (w : List ℕ) (all n : ℕ) {b : Bool} → all ≤ n → b ≡ ends_at w all → b ≡ (leb all n && ends_at w all)
-covers-all w all n h e = e ∙ sym (rw (le-leb all n h))
+  pub met-above : above ≡ true
+      → record { ends = not inner; node = k; whole = eqb (length p) (length w); same = n; compared = s.compared + looked }
+      ≡ met_with p (lowered w) inner k n s
+  unfolding met_with
+  met-above e = sym (rw (covered ∙ e, lowered-length w, ← h))
 
-pub met-is : (p w : List ℕ) (inner : Bool) (k n : ℕ) (s : Search) {above ends whole : Bool} {node looked : ℕ}
-    → above ≡ (leb (length p) n && ends_at w (length p))
-    → ends ≡ cond above (not inner) false → node ≡ cond above k s.node → whole ≡ cond above (eqb (length p) (length w)) s.whole
-    → looked ≡ min (length p) (n + 1)
-    → record { ends = ends; node = node; whole = whole; same = n; compared = s.compared + looked } ≡ met_with p w inner k n s
-unfolding met_with covers_by
-met-is p w inner k n s {above} a e f g h =
-    let here : (b : Bool) → Search = λ b. record {
-      ends = b && not inner;
-      node = cond b k s.node;
-      whole = cond b (eqb (length p) (length w)) s.whole;
-      same = n;
-      compared = s.compared + min (length p) (n + 1);
-    } in
-    let x = e ∙ both above in
-    (λ i. record { ends = x i; node = f i; whole = g i; same = n; compared = s.compared + h i }) ∙ ap here a
-  where
-    both : (b : Bool) → cond b (not inner) false ≡ b && not inner
-    both true = refl
-    both false = refl
-
--- the same for a text whose letters are taken as small ones
-pub met-lowered : (p w : List ℕ) (inner : Bool) (k n : ℕ) (s : Search) {above ends whole : Bool} {node looked : ℕ}
-    → above ≡ (leb (length p) n && ends_at w (length p))
-    → ends ≡ cond above (not inner) false → node ≡ cond above k s.node → whole ≡ cond above (eqb (length p) (length w)) s.whole
-    → looked ≡ min (length p) (n + 1)
-    → record { ends = ends; node = node; whole = whole; same = n; compared = s.compared + looked } ≡ met_with p (lowered w) inner k n s
-met-lowered p w inner k n s {above} a e f g h =
-    met-is p (lowered w) inner k n s (a ∙ ap (λ z. leb (length p) n && z) (sym (lowered-ends w (length p)))) e f
-    (g ∙ ap (λ z. cond above (eqb (length p) z) s.whole) (sym (lowered-length w))) h
+  pub met-other : above ≡ false
+      → record { ends = false; node = s.node; whole = s.whole; same = n; compared = s.compared + looked } ≡ met_with p (lowered w) inner k n s
+  unfolding met_with
+  met-other e = sym (rw (covered ∙ e, ← h))
 
 module _ (p w : List ℕ) (k l : ℕ) {b : Bool} where
-  pub departs-there : k ≡ l → b ≡ differ_at p w l → b ≡ (eqb k l && differ_at p w l)
-  departs-there h e = e ∙ sym (rw (eq-eqb k l h))
-
   pub departs-same : b ≡ (eqb k l && differ_at p w l) → b ≡ true → k ≡ l
   departs-same e q = eqb-true k l ((and-eq-true_iff (eqb k l) (differ_at p w l)).0 (sym e ∙ q)).0
-
-pub departs-not : (p w : List ℕ) (k l : ℕ) → (k ≡ l → ⊥) → false ≡ (eqb k l && differ_at p w l)
-departs-not p w k l h = sym (rw (ne_eqb k l h))
 
 module _ (t pos len : List ℕ) (inner : List Bool) (w : List ℕ) (i l : ℕ) (s : Search) where
   pub look-counted : {r : Search} → s.same < l → r ≡ counted_in s → r ≡ look_by t pos len inner w i l s
@@ -145,10 +120,6 @@ module _ (t ca pos len sh : List ℕ) (inner : List Bool) (c : ℕ) (w : List �
   search-done h = let m : n - i ≡ 0 = omega arith in sym (v ∙ ap (λ k. search_from t ca pos len sh inner c w i k s) m)
 
 module _ (t na nl : List ℕ) (k : ℕ) (ca pos len sh : List ℕ) (inner : List Bool) (n : ℕ) (uri : List ℕ) {a : Bool} (f : a ≡ alert_urn uri) where
-  pub uses-other : a ≡ false → None ≡ uses_of t na nl k ca pos len sh inner n uri
-  unfolding uses_of
-  uses-other e = simp (sym f ∙ e)
-
   module _ (e : a ≡ true) (s : List ℕ) (i : s ≡ drop 10 uri) {x : List ℕ} {m : ℕ} {c : Option ℕ}
       (y : x ≡ up_to 58 s) (z : m ≡ min k 8) (h : c ≡ find_name t na nl (lowered x) 0 m) where
     found : c ≡ find_name t na nl (up_to 58 (lowered (drop 10 uri))) 0 (min k 8)

@@ -6,6 +6,7 @@ ghost use Rattle.node_search.specs.Arrays.{text_in};
 use base_numbers::{MOST_CATEGORIES, MOST_NODES, MOST_TABLE_URNS};
 
 // The i-th of the texts.
+#[tactic(auto, unfolding(crate::specs::Arrays::text_in))]
 pub fn text_at<'a, const N: usize>(t: &'a [u8], at: &[u16; N], len: &[u8; N], i: usize) -> &'a [u8]
     ensures result_value { result.now ≡ text_in N t.now at.now len.now i }
     ensures short { length result.now ≤ 255 }

@@ -1,12 +1,12 @@
 // The search for the deepest node that is a URN or above it, and what a URI is to a table.
-ghost use Rattle.std.specs.Prelude.{◌≡◌, true, cond, ◌&&◌, ◌+◌, ◌*◌, ◌≤◌, ◌<◌, min, eqb, leb, length};
+ghost use Rattle.std.specs.Prelude.{◌≡◌, true, ◌&&◌, ◌+◌, ◌*◌, ◌≤◌, ◌<◌, min, eqb, leb, length};
 ghost use Rattle.base_numbers.specs.Numbers.{most_categories, most_nodes};
 ghost use Rattle.base_text.specs.Text.{lowered};
 ghost use Rattle.base_text.specs.Words.{differ_at, ends_at};
 ghost use Rattle.node_search.specs.Search.{find_name, nothing, met_with, counted_in, look_by, search_from, uses_of};
 
 use crate::decoded::Decoded;
-use crate::texts::{name_text, node_text};
+use crate::texts::text_at;
 use base_numbers::{MOST_CATEGORIES, MOST_NODES};
 
 // What a used URI is to the table: its category, its deepest node, or the root, whether it is that node, and the bytes compared
@@ -23,6 +23,7 @@ pub struct Used {
 // how many bytes the last node met has in common with the path; and whether the search ends there, at a leaf.
 #[derive(Clone, Copy)]
 struct Search {
+    // Kept a flag: the other fields hold whether it is set or not, so a ControlFlow would only be taken apart and joined again.
     ends: bool,
     node: u8,
     whole: bool,
@@ -30,13 +31,12 @@ struct Search {
     compared: u32,
 }
 
-// The number of the first of the n categories that has the name s, whatever its letter case.
-fn find_name(t: &[u8], d: &Decoded, s: &[u8], n: usize) -> Option<u8>
-    requires { n ≤ most_categories }
-    ensures { result ≡ find_name t.now d.now.name_at d.now.name_len (lowered s.now) 0 n }
+// The number of the first category that has the name s, whatever its letter case.
+fn find_name(t: &[u8], d: &Decoded, s: &[u8]) -> Option<u8>
+    ensures { result ≡ find_name t.now d.now.name_at d.now.name_len (lowered s.now) 0 (min d.now.categories most_categories) }
 {
-    for i in 0..n {
-        let name = name_text(t, &d.name_at, &d.name_len, i);
+    for i in 0..d.categories.min(MOST_CATEGORIES) {
+        let name = text_at(t, &d.name_at, &d.name_len, i);
         if base_text::letter_case::same_lowered(s, name) {
             return Some(i as u8);
         }
@@ -48,10 +48,7 @@ fn find_name(t: &[u8], d: &Decoded, s: &[u8], n: usize) -> Option<u8>
 fn covers_by(all: usize, w: &[u8], n: usize) -> bool
     ensures { result ≡ (leb all n && ends_at w.now all) }
 {
-    if n < all {
-        return false;
-    }
-    base_text::cut::ends_at(w, all)
+    all <= n && base_text::cut::ends_at(w, all)
 }
 
 // How many bytes are compared of a path of so many bytes, n of them in common with another.
@@ -59,29 +56,7 @@ fn bytes_compared(all: usize, n: usize) -> u32
     requires { all ≤ 255 }
     ensures { (result ≡ min all (n + 1)) × (result ≤ 255) }
 {
-    if all <= n {
-        return all as u32;
-    }
-    n as u32 + 1
-}
-
-// x if so, else y.
-fn pick(b: bool, x: u8, y: u8) -> u8
-    ensures { result ≡ cond b x y }
-{
-    if b {
-        return x;
-    }
-    y
-}
-
-fn pick_bool(b: bool, x: bool, y: bool) -> bool
-    ensures { result ≡ cond b x y }
-{
-    if b {
-        return x;
-    }
-    y
+    all.min(n.saturating_add(1)) as u32
 }
 
 // The search for w at node k with the path p, which has n bytes in common with w, and has nodes under it or none.
@@ -91,15 +66,23 @@ fn meet(p: &[u8], w: &[u8], inner: bool, k: u8, n: usize, s: Search) -> Search
     ensures compared_bound { result.compared ≤ s.compared + 255 }
 {
     let all = p.len();
-    let above = covers_by(all, w, n);
-    let whole = all == w.len();
-    let leaf = !inner;
-    Search {
-        ends: pick_bool(above, leaf, false),
-        node: pick(above, k, s.node),
-        whole: pick_bool(above, whole, s.whole),
-        same: n,
-        compared: s.compared + bytes_compared(all, n),
+    let compared = s.compared + bytes_compared(all, n);
+    if covers_by(all, w, n) {
+        let leaf = !inner;
+        Search {
+            ends: leaf,
+            node: k,
+            whole: all == w.len(),
+            same: n,
+            compared,
+        }
+    } else {
+        Search {
+            ends: false,
+            same: n,
+            compared,
+            ..s
+        }
     }
 }
 
@@ -108,13 +91,10 @@ fn count_differing(s: Search) -> Search
     requires { (s.same ≤ 255) × (s.compared ≤ 65535) }
     ensures { result ≡ counted_in s }
 {
-    let more = s.same as u32 + 1;
     Search {
         ends: false,
-        node: s.node,
-        whole: s.whole,
-        same: s.same,
-        compared: s.compared + more,
+        compared: s.compared + s.same as u32 + 1,
+        ..s
     }
 }
 
@@ -122,10 +102,7 @@ fn count_differing(s: Search) -> Search
 fn differs_after(p: &[u8], w: &[u8], same: usize, l: usize) -> bool
     ensures { result ≡ (eqb same l && differ_at p.now (lowered w.now) l) }
 {
-    if same == l {
-        return base_text::letter_case::differ_at(p, w, l);
-    }
-    false
+    same == l && base_text::letter_case::differ_at(p, w, l)
 }
 
 // The search for w, whatever its letter case or known to be in small letters, at the node at i, whose path shares so many bytes
@@ -139,20 +116,18 @@ fn look(t: &[u8], d: &Decoded, w: &[u8], small: bool, i: usize, shared: u8, s: S
     if s.same < l {
         return count_differing(s);
     }
-    let p = node_text(t, &d.at, &d.len, i);
+    let p = text_at(t, &d.at, &d.len, i);
     if differs_after(p, w, s.same, l) {
         return count_differing(s);
     }
     let n = base_text::letter_case::common_lowered_next(p, w, small, s.same, l);
-    let k = i as u8 + 1;
-    meet(p, w, d.inner[i], k, n, s)
+    meet(p, w, d.inner[i], i as u8 + 1, n, s)
 }
 
-// The search for w in category c, over the n nodes in their order.
-fn search_nodes(t: &[u8], d: &Decoded, c: u8, w: &[u8], n: usize) -> Search
-    requires { n ≤ most_nodes }
+// The search for w in category c, over the nodes in their order.
+fn search_nodes(t: &[u8], d: &Decoded, c: u8, w: &[u8]) -> Search
     ensures { result ≡ search_from t.now d.now.category d.now.at d.now.len d.now.shared d.now.inner
-        c (lowered w.now) 0 n nothing }
+        c (lowered w.now) 0 (min d.now.nodes most_nodes) nothing }
 {
     let mut s = Search {
         ends: false,
@@ -162,7 +137,7 @@ fn search_nodes(t: &[u8], d: &Decoded, c: u8, w: &[u8], n: usize) -> Search
         compared: 0,
     };
     let small = base_text::letter_case::is_lowered(w);
-    for i in 0..n {
+    for i in 0..d.nodes.min(MOST_NODES) {
         if d.category[i] == c {
             s = look(t, d, w, small, i, d.shared[i], s);
             if s.ends {
@@ -174,6 +149,7 @@ fn search_nodes(t: &[u8], d: &Decoded, c: u8, w: &[u8], n: usize) -> Search
 }
 
 // What a URI is to the table t that was decoded, or nothing if it is skipped.
+#[tactic(auto, unfolding(crate::specs::Search::uses_of))]
 pub fn uses(t: &[u8], d: &Decoded, uri: &[u8]) -> Option<Used>
     ensures { result ≡ uses_of t.now d.now.name_at d.now.name_len d.now.categories
         d.now.category d.now.at d.now.len d.now.shared d.now.inner d.now.nodes uri.now }
@@ -185,9 +161,9 @@ pub fn uses(t: &[u8], d: &Decoded, uri: &[u8]) -> Option<Used>
     let s = base_text::cut::part(uri, 10, n);
     let colon = base_text::cut::find(s, b':');
     let name = base_text::cut::part(s, 0, colon);
-    let c = find_name(t, d, name, d.categories.min(MOST_CATEGORIES))?;
+    let c = find_name(t, d, name)?;
     let w = base_text::cut::part(s, colon + 1, n);
-    let e = search_nodes(t, d, c, w, d.nodes.min(MOST_NODES));
+    let e = search_nodes(t, d, c, w);
     Some(Used {
         category: c,
         node: e.node,

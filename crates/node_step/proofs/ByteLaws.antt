@@ -7,7 +7,7 @@ use lib.Dec.{ltb, eqb}
 use lib.ListN.{length, get_or, set, length-replicate, length-set}
 use lib.Seq.{get_or-set_same, get_or-set_other, ext_get_or}
 use native.Mathlib.Nat.{add-zero, zero-add, pow-succ'}
-use borrow.Author.Tests.{lt-ltb, le-ltb, eq-eqb, ne_eqb, ltb-true}
+use borrow.Author.Tests.{lt-ltb, ne_eqb, ltb-true}
 use native.Mathlib.Omega.{arith}
 use native.Mathlib.Decide.{ℕ_discrete}
 use Rattle.base_numbers.specs.Numbers.{most_nodes}
@@ -23,15 +23,6 @@ use Rattle.node_step.proofs.PackedLaws.{Bytes, pack-digit}
 module _ (s : Status) where
   pub byte-held : (n : ℕ) → s ≡ Held n → n < 255 → n + 1 ≡ byte_of s
   byte-held n e h = sym (ap byte_of e ∙ rw (lt-ltb n 255 h))
-
-  pub byte-most : (n : ℕ) → s ≡ Held n → 255 ≤ n → 255 ≡ byte_of s
-  byte-most n e h = sym (ap byte_of e ∙ rw (le-ltb n 255 h))
-
-pub of_zero : (b : ℕ) → b ≡ 0 → Open ≡ status_of b
-of_zero b e = simp (eq-eqb b 0 e)
-
-pub of_one : (b : ℕ) → (b ≡ 0 → ⊥) → b ≡ 1 → Shut ≡ status_of b
-of_one b n e = simp (ne_eqb b 0 n, eq-eqb b 1 e)
 
 pub of-more : (b : ℕ) → (b ≡ 0 → ⊥) → (b ≡ 1 → ⊥) → Held (b - 1) ≡ status_of b
 of-more b n m = simp (ne_eqb b 0 n, ne_eqb b 1 m)

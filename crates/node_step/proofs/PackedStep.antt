@@ -1,5 +1,5 @@
 -- Laws of the step over states whose categories' bytes are in one number.
-use Prim.Native.Nat.{ℕ, zero, suc, ◌+◌, ◌-◌, ◌*◌, ◌/◌, ◌%◌, ◌^◌, ◌≤◌, ◌<◌, min}
+use Prim.Native.Nat.{ℕ, zero, suc, ◌+◌, ◌*◌, ◌/◌, ◌%◌, ◌^◌, ◌≤◌, ◌<◌, min}
 use mathlib.Core.Path.{◌≡◌, refl, sym, ap, ap₂, ◌∙◌}
 use mathlib.Core.Bool.{Bool, true, false, ◌&&◌, and-eq-true_iff}
 use mathlib.Core.List.{List}
@@ -8,19 +8,19 @@ use lib.Arith.{mod-mul}
 use lib.Pow.{pow-add}
 use lib.ListN.{length, get_or, set, length-set}
 use lib.Seq.{get_or-set_same, get_or-set_other, ext_get_or}
-use borrow.Author.Tests.{eqb-true, eq-eqb, ne_eqb, le-leb, lt-leb, lt-ltb, le-ltb}
+use borrow.Author.Tests.{eqb-true, eq-eqb, le-leb, lt-leb}
 use native.Mathlib.Nat.{zero-add, div-div-eq-div-mul, pow-succ', one-le-pow}
 use native.Mathlib.Decide.{ℕ_discrete}
 use native.Mathlib.Omega.{arith}
-use Rattle.base_numbers.specs.Numbers.{most_nodes, most_signals, most_tries}
+use Rattle.base_numbers.specs.Numbers.{most_signals, most_tries}
 use Rattle.base_lists.proofs.Lists.{Exact}
 use Rattle.node_step.specs.declared.Status.{Status}
 use Rattle.node_step.specs.declared.Status.TheVariants.{Open}
 use Rattle.std.specs.Prelude.{Option, Some, None}
 use Rattle.node_step.specs.declared.Hit.{Hit}
 use Rattle.node_step.specs.declared.stored.Packed.{Packed}
-use Rattle.node_step.specs.Step.{digit, put, row_at, seek, extends, status_in, takes, status_from, moved, step_numbers}
-use Rattle.node_step.specs.StatusByte.{byte_of, status_of, packed, unpacked, packed_of, of_packed, same_packed, step_packed, moved_packed, fits_by}
+use Rattle.node_step.specs.Step.{digit, put, row_at, seek, status_in, takes, status_from, moved, step_numbers}
+use Rattle.node_step.specs.StatusByte.{byte_of, status_of, packed, unpacked, packed_of, of_packed, same_packed, step_packed, moved_packed}
 use Rattle.node_step.specs.Rows.{pack}
 use Rattle.node_step.proofs.PackedLaws.{pack-set}
 use Rattle.node_step.proofs.ByteLaws.{byte-status, bytes_from, bytes-pack, bytes_small, bytes-at, bytes-long, unpacked-length, unpacked-at}
@@ -88,17 +88,6 @@ packed-set l c s e h =
             ∙ ap (λ z. byte_of (status_in l z)) (sym (zero-add k)) ∙ sym (bytes-at l 0 8 k i)
             ∙ sym (get_or-set_other (bytes_from l 0 8) c k (byte_of s) 0 z)
 
--- the state after a search
-module _ (inner : List Bool) (st : Packed) (c d : ℕ) (whole : Bool) (i : Option Hit) where
-  pub moved-found : (h : Hit) → i ≡ Some h → {x : ℕ} → x ≡ put st.statuses c (byte_of (status_from inner d whole h.node))
-      → record { signal = h.signal; statuses = x } ≡ moved_packed inner st c d whole i
-  unfolding moved_packed
-  moved-found h f e = ap (λ z. record { signal = h.signal; statuses = z }) e ∙ sym (rw f)
-
-  pub moved-lost : i ≡ None → st ≡ moved_packed inner st c d whole i
-  unfolding moved_packed
-  moved-lost f = sym (rw f)
-
 -- the step, test by test
 module _ (rows ps : List ℕ) (inner : List Bool) (n : ℕ) (st : Packed) (c d : ℕ) (whole : Bool) (fits : st.statuses < 2 ^ 64) where
   again : packed_of (of_packed st) ≡ st
@@ -143,33 +132,3 @@ module _ (rows ps : List ℕ) (inner : List Bool) (n : ℕ) (st : Packed) (c d :
       pub packed-goes : res ≡ step_packed rows ps inner n st c d whole
       unfolding step_packed step_numbers
       packed-goes = let a = test-is ∙ z in er ∙ ap (moved_packed inner st c d whole) hit-is ∙ sym (rw (lt-leb 8 c h, a) (moved-is h hit))
-
--- a byte that a category can have, test by test
-module _ (rows ps : List ℕ) (inner : List Bool) (ca : List ℕ) (n s c b : ℕ) where
-  pub fits_low : b ≤ 1 → true ≡ fits_by rows ps inner ca n s c b
-  unfolding fits_by
-  fits_low h = sym (rw (le-leb b 1 h))
-
-  module _ (h : 1 < b) where
-    pub fits-past : 8 ≤ c → false ≡ fits_by rows ps inner ca n s c b
-    unfolding fits_by
-    fits-past l = sym (rw (lt-leb b 1 h, le-leb 8 c l))
-
-    module _ (l : c < 8) {m : ℕ} (e : m ≡ min n most_nodes) where
-      pub fits_out : m ≤ b - 2 → false ≡ fits_by rows ps inner ca n s c b
-      unfolding fits_by
-      fits_out k = sym (rw (lt-leb b 1 h, lt-leb 8 c l, ← e, le-ltb (b - 2) m k))
-
-      module _ (k : b - 2 < m) {x : ℕ} (f : x ≡ get_or ca (b - 2) 0) where
-        pub fits-other : (x ≡ c → ⊥) → false ≡ fits_by rows ps inner ca n s c b
-        unfolding fits_by
-        fits-other z = sym (rw (lt-leb b 1 h, lt-leb 8 c l, ← e, lt-ltb (b - 2) m k, ← f, ne_eqb x c z))
-
-        module _ (g : x ≡ c) {y : Bool} (i : y ≡ get_or inner (b - 2) false) where
-          pub fits-leaf : y ≡ false → false ≡ fits_by rows ps inner ca n s c b
-          unfolding fits_by
-          fits-leaf z = sym (rw (lt-leb b 1 h, lt-leb 8 c l, ← e, lt-ltb (b - 2) m k, ← f, eq-eqb x c g, ← i, z))
-
-          pub fits-rest : y ≡ true → {r : Bool} → r ≡ extends ps (digit (row_at rows s) c) (b - 1) true → r ≡ fits_by rows ps inner ca n s c b
-          unfolding fits_by
-          fits-rest z t = t ∙ sym (rw (lt-leb b 1 h, lt-leb 8 c l, ← e, lt-ltb (b - 2) m k, ← f, eq-eqb x c g, ← i, z))

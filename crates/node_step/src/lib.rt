@@ -13,12 +13,12 @@ pub mod rows;
 pub mod stored;
 pub mod tries;
 
-ghost use Rattle.std.specs.Prelude.{◌≡◌, ◌&&◌, ◌≤◌, ◌<◌, min, eqb};
+ghost use Rattle.std.specs.Prelude.{◌≡◌, ◌<◌, min, eqb, position};
 ghost use Rattle.base_numbers.specs.Numbers.{most_categories, most_signals, most_tries};
 ghost use Rattle.node_step.specs.Step.{row_at, digit, put, parent_of, inner_at, reaches, find_row, found_at, seek, extends, is_shut, last_taken};
 ghost use Rattle.node_step.specs.Step.{takes_past, status_from, moved, hit_numbers, step_numbers};
 
-use base_numbers::{LAST_NODE, MOST_CATEGORIES, MOST_NODES, MOST_SIGNALS, MOST_TRIES};
+use base_numbers::{MOST_CATEGORIES, MOST_NODES, MOST_SIGNALS, MOST_TRIES};
 use node_search::decoded::Decoded;
 
 // What is kept of the last URN that a category took: the category is open at its place, held at a node, or shut for good.
@@ -47,20 +47,15 @@ pub struct Hit {
 pub fn row_at(rows: &[u64; MOST_SIGNALS], s: u8) -> u64
     ensures { result ≡ row_at rows.now s }
 {
-    let i = s as usize;
-    if i < MOST_SIGNALS {
-        return rows[i];
-    }
-    0
+    rows.get(usize::from(s)).copied().unwrap_or(0)
 }
 
 // The place in category c.
-pub(crate) fn digit_at(row: u64, c: usize) -> u8
+pub fn digit_at(row: u64, c: usize) -> u8
     requires { c < most_categories }
     ensures { result ≡ digit row c }
 {
-    let k = 8 * c;
-    ((row >> k) % 256) as u8
+    ((row >> (8 * c)) % 256) as u8
 }
 
 // The row with p for its place q in category c.
@@ -69,9 +64,7 @@ pub(crate) fn put_at(row: u64, c: usize, q: u8, p: u8) -> u64
     ensures { result ≡ put row c p }
 {
     let k = 8 * c;
-    let was = q as u64;
-    let new = p as u64;
-    row - (was << k) + (new << k)
+    row - (u64::from(q) << k) + (u64::from(p) << k)
 }
 
 // The number of a node's parent.
@@ -79,27 +72,17 @@ fn parent(parents: &[u8; MOST_NODES], d: u8) -> u8
     ensures { result ≡ parent_of parents.now d }
 {
     if d == 0 {
-        return 0;
+        0
+    } else {
+        parents.get(usize::from(d) - 1).copied().unwrap_or(0)
     }
-    if d <= LAST_NODE {
-        let i = d as usize - 1;
-        return parents[i];
-    }
-    0
 }
 
 // Node d has nodes under it.
 pub fn inner_at(inner: &[bool; MOST_NODES], d: u8) -> bool
     ensures { result ≡ inner_at inner.now d }
 {
-    if d == 0 {
-        return false;
-    }
-    if d <= LAST_NODE {
-        let i = d as usize - 1;
-        return inner[i];
-    }
-    false
+    d != 0 && inner.get(usize::from(d) - 1).copied().unwrap_or(false)
 }
 
 // The node or root q is d or an ancestor of d, at most 8 nodes above it.
@@ -107,8 +90,7 @@ pub fn reaches_of(parents: &[u8; MOST_NODES], q: u8, d: u8) -> bool
     ensures { result ≡ reaches parents.now q most_tries d }
 {
     let mut p = d;
-    let mut n: usize = MOST_TRIES;
-    while 0 < n {
+    for _ in 0..MOST_TRIES {
         if p == q {
             return true;
         }
@@ -116,29 +98,23 @@ pub fn reaches_of(parents: &[u8; MOST_NODES], q: u8, d: u8) -> bool
             return false;
         }
         p = parent(parents, p);
-        n -= 1;
     }
     false
 }
 
-// The first of the n signals that has these places.
-fn find_row(rows: &[u64; MOST_SIGNALS], n: usize, key: u64) -> Option<u8>
-    requires { n ≤ most_signals }
-    ensures { result ≡ found_at (find_row rows.now key 0 n) }
+// The first of the rows that is the key.
+fn first_row(rows: &[u64], key: u64) -> Option<usize>
+    ensures { result ≡ position (λ r. eqb r key) rows.now }
 {
-    for i in 0..n {
-        if rows[i] == key {
-            return Some(i as u8);
-        }
-    }
-    None
+    rows.iter().position(|r| *r == key)
 }
 
 // The signal with this row among the first n, at most 32.
 pub fn find_signal(rows: &[u64; MOST_SIGNALS], n: usize, key: u64) -> Option<u8>
     ensures { result ≡ found_at (find_row rows.now key 0 (min n most_signals)) }
 {
-    find_row(rows, n.min(MOST_SIGNALS), key)
+    let i = first_row(&rows[..n.min(MOST_SIGNALS)], key)?;
+    Some(i as u8)
 }
 
 // The first of k and its ancestors down to q at which there is a signal with that place in c and the row's places elsewhere.
@@ -147,8 +123,7 @@ pub(crate) fn seek_from(d: &Decoded, row: u64, c: usize, q: u8, k: u8) -> Option
     ensures { result ≡ seek d.now.rows d.now.parent (min d.now.signals most_signals) row c q most_tries k }
 {
     let mut p = k;
-    let mut left: usize = MOST_TRIES;
-    while 0 < left {
+    for _ in 0..MOST_TRIES {
         let key = put_at(row, c, q, p);
         if let Some(signal) = find_signal(&d.rows, d.signals, key) {
             return Some(Hit { node: p, signal });
@@ -157,54 +132,39 @@ pub(crate) fn seek_from(d: &Decoded, row: u64, c: usize, q: u8, k: u8) -> Option
             return None;
         }
         p = parent(&d.parent, p);
-        left -= 1;
     }
     None
 }
 
-// Both: said whole, and at the node.
-fn whole_at(whole: bool, p: u8, d: u8) -> bool
-    ensures { result ≡ (whole && eqb p d) }
-{
-    if whole {
-        return p == d;
-    }
-    false
-}
-
 // The node or root q is a proper ancestor of what is said: d itself if whole, something under d if not.
+#[tactic(auto, unfolding(crate::specs::Step::extends))]
 pub fn extends_of(parents: &[u8; MOST_NODES], q: u8, d: u8, whole: bool) -> bool
     ensures { result ≡ extends parents.now q d whole }
 {
-    if whole_at(whole, d, q) {
-        return false;
-    }
-    reaches_of(parents, q, d)
+    !(whole && d == q) && reaches_of(parents, q, d)
 }
 
 // A category with this status is shut.
+#[tactic(auto, unfolding(crate::specs::Step::is_shut))]
 fn is_shut(status: Status) -> bool
     ensures { result ≡ is_shut status }
 {
-    match status {
-        Status::Open => false,
-        Status::Held(_) => false,
-        Status::Shut => true,
-    }
+    matches!(status, Status::Shut)
 }
 
 // The node of the URN last taken in a category with the place q, or the root.
+#[tactic(auto, unfolding(crate::specs::Step::last_taken))]
 pub(crate) fn last_taken(status: Status, q: u8) -> u8
     ensures { result ≡ last_taken status q }
 {
     match status {
-        Status::Open => q,
         Status::Held(w) => w,
-        Status::Shut => q,
+        Status::Open | Status::Shut => q,
     }
 }
 
 // A category takes what is said: it is not shut, and what is said properly extends the URN last taken there.
+#[tactic(auto, unfolding(crate::specs::Step::takes_past))]
 pub(crate) fn takes_at(
     parents: &[u8; MOST_NODES],
     status: Status,
@@ -214,29 +174,27 @@ pub(crate) fn takes_at(
 ) -> bool
     ensures { result ≡ takes_past parents.now status last d whole }
 {
-    if is_shut(status) {
-        return false;
-    }
-    extends_of(parents, last, d, whole)
+    !is_shut(status) && extends_of(parents, last, d, whole)
 }
 
 // A category's status after a signal was found at node p: open if all of what is said was found, else held at d, or shut.
+#[tactic(auto, unfolding(crate::specs::Step::status_from))]
 pub(crate) fn status_from(inner: &[bool; MOST_NODES], d: u8, whole: bool, p: u8) -> Status
     ensures { result ≡ status_from inner.now d whole p }
 {
     if !whole {
-        return Status::Shut;
+        Status::Shut
+    } else if p == d {
+        Status::Open
+    } else if inner_at(inner, d) {
+        Status::Held(d)
+    } else {
+        Status::Shut
     }
-    if p == d {
-        return Status::Open;
-    }
-    if inner_at(inner, d) {
-        return Status::Held(d);
-    }
-    Status::Shut
 }
 
 // The state after a search.
+#[tactic(auto, unfolding(crate::specs::Step::moved))]
 fn moved_by(d: &Decoded, st: State, c: usize, k: u8, whole: bool, found: Option<Hit>) -> State
     requires { c < most_categories }
     ensures { result ≡ moved d.now.inner st c k whole found }
@@ -255,6 +213,7 @@ fn moved_by(d: &Decoded, st: State, c: usize, k: u8, whole: bool, found: Option<
 }
 
 // The signal found for what is said at the node or root with number k, in category c, if the category takes it.
+#[tactic(auto, unfolding(crate::specs::Step::hit_numbers))]
 fn hit_for(d: &Decoded, st: State, c: usize, k: u8, whole: bool) -> Option<Hit>
     requires { c < most_categories }
     ensures { result ≡ hit_numbers d.now.rows d.now.parent d.now.signals st c k whole }
@@ -264,18 +223,20 @@ fn hit_for(d: &Decoded, st: State, c: usize, k: u8, whole: bool) -> Option<Hit>
     let status = st.categories[c];
     let last = last_taken(status, q);
     if takes_at(&d.parent, status, last, k, whole) {
-        return seek_from(d, row, c, q, k);
+        seek_from(d, row, c, q, k)
+    } else {
+        None
     }
-    None
 }
 
 // One step at the node or root with number k, in category c.
+#[tactic(auto, unfolding(crate::specs::Step::step_numbers))]
 pub fn step(d: &Decoded, st: State, c: usize, k: u8, whole: bool) -> State
     ensures { result ≡ step_numbers d.now.rows d.now.parent d.now.inner d.now.signals st c k whole }
 {
-    if MOST_CATEGORIES <= c {
-        return st;
+    if c < MOST_CATEGORIES {
+        moved_by(d, st, c, k, whole, hit_for(d, st, c, k, whole))
+    } else {
+        st
     }
-    let found = hit_for(d, st, c, k, whole);
-    moved_by(d, st, c, k, whole, found)
 }

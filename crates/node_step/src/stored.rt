@@ -18,6 +18,7 @@ pub struct Packed {
 }
 
 // Two states are the same.
+#[tactic(auto, unfolding(crate::specs::StatusByte::same_packed))]
 pub fn same(a: Packed, b: Packed) -> bool
     ensures { result ≡ same_packed a b }
 {
@@ -30,12 +31,7 @@ pub fn byte_of(status: Status) -> u8
 {
     match status {
         Status::Open => 0,
-        Status::Held(n) => {
-            if n < 255 {
-                return n + 1;
-            }
-            255
-        }
+        Status::Held(n) => n.saturating_add(1),
         Status::Shut => 1,
     }
 }
@@ -44,16 +40,15 @@ pub fn byte_of(status: Status) -> u8
 pub fn status_of(b: u8) -> Status
     ensures { result ≡ status_of b }
 {
-    if b == 0 {
-        return Status::Open;
+    match b {
+        0 => Status::Open,
+        1 => Status::Shut,
+        _ => Status::Held(b - 1),
     }
-    if b == 1 {
-        return Status::Shut;
-    }
-    Status::Held(b - 1)
 }
 
 // The state after a search; b is the byte of category c.
+#[tactic(auto, unfolding(crate::specs::StatusByte::moved_packed))]
 fn moved_packed(
     d: &Decoded,
     st: Packed,
@@ -91,10 +86,10 @@ pub fn step_packed(d: &Decoded, st: Packed, c: usize, k: u8, whole: bool) -> Pac
     let status = status_of(b);
     let last = last_taken(status, q);
     if takes_at(&d.parent, status, last, k, whole) {
-        let found = seek_from(d, row, c, q, k);
-        return moved_packed(d, st, c, b, k, whole, found);
+        moved_packed(d, st, c, b, k, whole, seek_from(d, row, c, q, k))
+    } else {
+        st
     }
-    st
 }
 
 // The place of signal s in category c is a proper ancestor of node k.
@@ -107,25 +102,17 @@ fn beyond(d: &Decoded, s: u8, c: usize, k: u8) -> bool
 }
 
 // Category c can have the byte b at signal s: 0, 1, or 1 + n for a node n of c that has nodes under it and lies beyond its place.
+#[tactic(auto, unfolding(crate::specs::StatusByte::fits_by))]
 pub fn fits(d: &Decoded, s: u8, c: usize, b: u8) -> bool
     ensures { result ≡ fits_by d.now.rows d.now.parent d.now.inner d.now.category d.now.nodes s c b }
 {
     if b <= 1 {
         return true;
     }
-    if MOST_CATEGORIES <= c {
-        return false;
-    }
-    let n = d.nodes.min(MOST_NODES);
-    let i = b as usize - 2;
-    if n <= i {
-        return false;
-    }
-    if usize::from(d.category[i]) != c {
-        return false;
-    }
-    if !d.inner[i] {
-        return false;
-    }
-    beyond(d, s, c, b - 1)
+    let i = usize::from(b - 2);
+    c < MOST_CATEGORIES
+        && i < d.nodes.min(MOST_NODES)
+        && usize::from(d.category[i]) == c
+        && d.inner[i]
+        && beyond(d, s, c, b - 1)
 }

@@ -16,19 +16,18 @@ pub struct Counted {
 }
 
 // How many nodes lie from d up to the root, d counted, at most 9.
+#[tactic(auto, unfolding(crate::specs::Tries::depth))]
 fn depth_of(parents: &[u8; MOST_NODES], d: u8) -> u8
     ensures { (result ≡ depth parents.now most_tries d) × (result ≤ most_tries) }
 {
     let mut p = d;
-    let mut n: u8 = 0;
-    while n < MOST_DEPTH {
+    for n in 0..MOST_DEPTH {
         if p == 0 {
             return n;
         }
         p = crate::parent(parents, p);
-        n += 1;
     }
-    n
+    MOST_DEPTH
 }
 
 // The candidates from k to where the signal was found, both counted.
@@ -39,13 +38,14 @@ fn tries_to(d: &Decoded, k: u8, found: Option<Hit>) -> u8
         Some(h) => {
             let from = depth_of(&d.parent, k) + 1;
             let to = depth_of(&d.parent, h.node);
-            if to <= from { from - to } else { 0 }
+            from.saturating_sub(to)
         }
         None => 0,
     }
 }
 
 // One step at the node or root with number k, in category c, with its tries.
+#[tactic(auto, unfolding(crate::specs::Step::step_numbers, crate::specs::Tries::tries_numbers))]
 pub fn step(d: &Decoded, st: State, c: usize, k: u8, whole: bool) -> Counted
     ensures state_value { result.state ≡ step_numbers d.now.rows d.now.parent d.now.inner d.now.signals st c k whole }
     ensures tries_value { (result.tries ≡ tries_numbers d.now.rows d.now.parent d.now.signals st c k whole) × (result.tries ≤ 10) }

@@ -1,4 +1,4 @@
-use Prim.Native.Nat.{ℕ, ◌+◌, ◌-◌, ◌≤◌, ◌<◌}
+use Prim.Native.Nat.{ℕ, ◌+◌, ◌<◌}
 use mathlib.Core.Path.{◌≡◌}
 use mathlib.Core.Bool.{false, not}
 use lib.ListN.{length, get_or}
@@ -7,7 +7,4 @@ use Rattle.node_search.specs.Arrays.{childless}
 use Rattle.node_search.proofs.marks.mark_parents.Given as goal
 
 abbrev pub invariant-loop-i : goal.invariant-loop-i
-invariant-loop-i l = (l.i ≤ l.n) × (length l.inner ≡ most_nodes) × ((k : ℕ) → k < most_nodes → get_or l.inner k false ≡ not (childless l.parents (k + 1) l.i))
-
-abbrev pub decreases-loop-i : goal.decreases-loop-i
-decreases-loop-i l = l.n - l.i
+invariant-loop-i l = (length l.inner ≡ most_nodes) × ((k : ℕ) → k < most_nodes → get_or l.inner k false ≡ not (childless l.parents (k + 1) l.i))

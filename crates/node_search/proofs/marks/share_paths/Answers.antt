@@ -8,28 +8,21 @@ use Rattle.node_search.proofs.MarkLaws.{shared-more}
 use Rattle.node_search.proofs.TextLaws.{text_in_lem}
 use Rattle.node_search.proofs.marks.share_paths.Goals as goal
 
-pub loop-i-init : goal.loop-i-init
-loop-i-init c = (omega arith, c.requires.1, (λ j h. absurd (omega arith)), λ k _. c.requires.2 k)
-
 pub loop-i-preserved : goal.loop-i-preserved
 loop-i-preserved c = (
-  omega arith,
-  length-set c.loop-i.shared c.loop-i.i c.small.result ∙ c.loop-i.invariant.1,
-  shared-more c.args.t.now c.args.category.now c.args.at.now c.args.len.now c.loop-i.shared c.loop-i.i c.loop-i.invariant.2 (omega (
+  length-set c.loop-i.shared c.loop-i.i c.small.result ∙ c.loop-i.invariant.0,
+  shared-more c.args.t.now c.args.category.now c.args.at.now c.args.len.now c.loop-i.shared c.loop-i.i c.loop-i.invariant.1 (omega (
     arith,
-    c.loop-i.invariant.1,
+    c.loop-i.invariant.0,
     c.requires.0,
-  )) c.path_before-before.ensures (text_in_lem _ _ _ _ _ c.node_text-path.ensures.result_value (omega (
+  )) c.path_before-before.ensures (text_in_lem _ _ _ _ _ c.text_at-path.ensures.result_value (omega (
     arith,
     c.requires.0,
   ))) c.common_from-k.ensures (one_byte c.small.ensures (omega (
     arith,
     c.common_from-k.ensures,
-    common-le c.path_before-before.result.now c.node_text-path.result.now,
-    c.node_text-path.ensures.short,
+    common-le c.path_before-before.result.now c.text_at-path.result.now,
+    c.text_at-path.ensures.short,
   ))),
-  λ k h. get_or-set_other c.loop-i.shared c.loop-i.i k c.small.result 0 (λ q. omega arith) ∙ c.loop-i.invariant.3 k (omega arith),
+  λ k h. get_or-set_other c.loop-i.shared c.loop-i.i k c.small.result 0 (λ q. omega arith) ∙ c.loop-i.invariant.2 k (omega arith),
 )
-
-pub returns : goal.returns
-returns c = let inv = c.loop-i.invariant in record { shared_len = (inv.1, λ k h. inv.3 k (omega (arith, inv.0))); shared_in = λ j h. inv.2 j (omega (arith, c.loop-i-test.false)) }

@@ -1,19 +1,5 @@
-use native.Mathlib.Omega.{arith}
-use Rattle.node_step.proofs.TriesLaws.{depth-start, depth-root, depth-more, depth-end}
+use Rattle.node_step.proofs.TriesLaws.{depth-more}
 use Rattle.node_step.proofs.tries.depth_of.Goals as goal
 
-pub loop-n-init : goal.loop-n-init
-loop-n-init c = (omega arith, depth-start _ _)
-
-pub returns-then-p-eq0 : goal.returns-then-p-eq0
-returns-then-p-eq0 c = (depth-root _ _ _ _ c.loop-n.invariant.1 c.if-p-eq0.true, omega arith)
-
 pub loop-n-preserved : goal.loop-n-preserved
-loop-n-preserved c = (
-  omega arith,
-  depth-more _ _ _ _ c.loop-n.invariant.1 c.loop-n-test.true
-      c.if-p-eq0.false c.parent-p.ensures,
-)
-
-pub returns : goal.returns
-returns c = (depth-end _ _ _ _ c.loop-n.invariant.1 c.loop-n-test.false, omega arith)
+loop-n-preserved c = depth-more _ _ _ _ c.loop-n.invariant c.loop-n-test.true c.if-p-eq0.false c.parent-p.ensures

@@ -1,10 +1,7 @@
 use native.Mathlib.Omega.{arith}
-use Rattle.node_step.proofs.StepLaws.{step-out, step-by-hit}
-use Rattle.node_step.proofs.TriesLaws.{tries-out, tries-by-hit}
+use Rattle.node_step.proofs.StepLaws.{step-by-hit}
+use Rattle.node_step.proofs.TriesLaws.{tries-by-hit}
 use Rattle.node_step.proofs.tries.step.Goals as goal
-
-pub returns-then-c-ge-MOST_CATEGORIES : goal.returns-then-c-ge-MOST_CATEGORIES
-returns-then-c-ge-MOST_CATEGORIES c = record { state_value = step-out _ _ _ _ _ _ _ _ c.if-c-ge-MOST_CATEGORIES.true; tries_value = (tries-out _ _ _ _ _ _ _ c.if-c-ge-MOST_CATEGORIES.true, omega arith) }
 
 pub returns : goal.returns
 returns c = record {
