@@ -7,7 +7,7 @@ ghost use Rattle.base_lists.specs.Lists.{tabulate};
 ghost use Rattle.urn_names.specs.Urn.{urn_ok};
 
 use base_numbers::MOST_TABLE_URNS;
-use node_search::texts::urn_text;
+use node_search::texts::text_at;
 
 // Every URN has its form.
 pub(crate) fn urns_formed(
@@ -19,13 +19,5 @@ pub(crate) fn urns_formed(
     requires { m ≤ most_table_urns }
     ensures { result ≡ all urn_ok (tabulate (stretch t.now at.now len.now) m) }
 {
-    let mut i = 0;
-    while i < m {
-        if urn_names::urn::urn_formed(urn_text(t, at, len, i)) {
-            i += 1;
-        } else {
-            return false;
-        }
-    }
-    true
+    (0..m).all(|i| urn_names::urn::urn_formed(text_at(t, at, len, i)))
 }

@@ -61,9 +61,9 @@ index-over q x [] h = refl
 index-over q x (y ∷ l) h = by_test (q x y) (λ e. absurd (omega (arith, rw e at h))) (λ e. rw e (index-over q x l (omega (arith, rw e at h))))
 
 -- the i-th URN: k bytes before its first colon, and the number of its category
-module _ (names : List (List ℕ)) {u v : List ℕ} {k r : ℕ} (f : k ≡ length (up_to 58 u)) (g : r ≡ index_by same_name (take (k - 0) u) names) (e : u ≡ v) where
+module _ (names : List (List ℕ)) {u v : List ℕ} {k r : ℕ} (f : k ≡ length (up_to 58 u)) (g : r ≡ index_by same_name (take k u) names) (e : u ≡ v) where
   category : r ≡ index_by same_name (category_of v) names
-  category = g ∙ ap (λ (z : List ℕ). index_by same_name z names) (rw (sub-zero, f) (up_to-take 58 u) ∙ ap (up_to 58) e)
+  category = g ∙ ap (λ (z : List ℕ). index_by same_name z names) (rw f (up_to-take 58 u) ∙ ap (up_to 58) e)
 
   pub urn-listed : r < length names → is_listed names v ≡ true
   unfolding is_listed
@@ -120,7 +120,7 @@ at-stretch t at len i e = ap (λ a. take (get_or len i 0) (drop a t)) (sym e)
 module _ (t : List ℕ) (names : List (List ℕ)) (at len : List ℕ) (i : ℕ) (category path_at path_len : List ℕ)
     (x : Indexed t names at len i category path_at path_len)
     (l₁ : i < length category) (l₂ : i < length path_at) (l₃ : i < length path_len) {u : List ℕ} {k r e w c a n : ℕ} (f : k ≡ length (up_to 58 u))
-    (g : r ≡ index_by same_name (take (k - 0) u) names) (d : u ≡ stretch t at len i) (h : r < length names)
+    (g : r ≡ index_by same_name (take k u) names) (d : u ≡ stretch t at len i) (h : r < length names)
     (p : (e ≤ length u) × (k < length u → e ≡ k + 1) × (length u ≤ k → e ≡ length u)) (y : c ≡ r) (q : w ≡ get_or at i 0) (z : a ≡ w + e)
     (o : n ≡ length u - e) where
   pub urn-put : Indexed t names at len (i + 1) (set category i c) (set path_at i a) (set path_len i n)

@@ -1,5 +1,5 @@
 -- Which category a URN has, and how the arrays hold the categories and the paths of the URNs.
-use Rattle.std.specs.Prelude.{ℕ, ◌≤◌, ◌<◌, ◌≡◌, Bool, ◌&&◌, List, length, get_or, eqb, leb}
+use Rattle.std.specs.Prelude.{ℕ, ◌≤◌, ◌<◌, ◌≡◌, Bool, ◌&&◌, Option, None, Some, List, length, get_or, eqb, leb}
 use Rattle.base_numbers.specs.Numbers.{most_categories, most_table_bytes, most_table_urns}
 use Rattle.base_lists.specs.Cuts.{stretch}
 use Rattle.base_lists.specs.Tests.{all, any}
@@ -23,6 +23,11 @@ all_listed names t at len m = leb m most_table_urns && all (is_listed names) (ta
 -- each of n categories is that of one of m URNs, and an array has room for so many
 unfoldable pub all_used : List ℕ → ℕ → ℕ → Bool
 all_used category m n = leb m most_table_urns && all (λ c. any (λ x. eqb x c) (tabulate (λ j. get_or category j 0) m)) (tabulate (λ c. c) n)
+
+-- the number k of the first of n that is so, which is none where k is not below n
+abbrev pub IndexIn : ℕ → ℕ → Option ℕ → Type 0
+IndexIn n k None = n ≤ k
+IndexIn n k (Some i) = (i ≡ k) × (i < n)
 
 -- n categories and m URNs such as a table can have, with an array for their categories
 abbrev pub Fits : (t : List ℕ) (n m : ℕ) (category : List ℕ) → Type 0

@@ -26,7 +26,8 @@ use Rattle.theory_resolution.proofs.Nodes.{urn-exact}
 use Rattle.theory_resolution.proofs.Numbers.{number-node}
 use Rattle.table_sections.specs.Held.{Padded}
 use Rattle.table_sections.proofs.Padding.{pad-set}
-use Rattle.table_nodes.specs.Nodes.{node_urn, Nodes, Numbered, AddedTo, AddsNode, AddedAll}
+use Rattle.std.specs.Prelude.{Option, None, Some}
+use Rattle.table_nodes.specs.Nodes.{node_urn, Nodes, Numbered, FoundAs, AddedTo, added_new, AddsNode, AddedAll}
 use Rattle.table_nodes.specs.declared.Added.{Added}
 use Rattle.table_sections.proofs.Readings.{stretch-set, stretch-keep}
 use Rattle.table_nodes.proofs.Ancestors.{adder, longer-other, other-absent, closed, bare, added-last}
@@ -94,27 +95,23 @@ module _ (t cats parents at len : List ℕ) (n : ℕ) (ns : List Urn) (N : Nodes
     on : r ≡ number ns c p
     on = e ∙ ap (λ (l : List Urn). number l c p) N.held
 
-    pub found : 0 < r → AddedTo t cats parents at len ns c p (record { node = r; count = n; new = false })
-    found h = record { over = λ z. absurd (omega arith); kept = λ _. (N, node-number ns c p on h) }
+    pub found : 0 < r → AddedTo t cats parents at len ns c p (Some (record { node = r; count = n; new = false }))
+    found h = (N, node-number ns c p on h)
 
-    pub found_add : 0 < r → AddedTo t cats parents at len (add_by same_urn ns (urn c p)) c p (record { node = r; count = n; new = false })
+    pub found_add : 0 < r → AddedTo t cats parents at len (add_by same_urn ns (urn c p)) c p (Some (record { node = r; count = n; new = false }))
     found_add h =
         let m : is_node ns c p ≡ true = some-node ns c p (omega (arith, on)) in
-        subst (λ (l : List Urn). AddedTo t cats parents at len l c p (record { node = r; count = n; new = false })) (sym (rw m)) (found h)
+        subst (λ (l : List Urn). AddedTo t cats parents at len l c p (Some (record { node = r; count = n; new = false }))) (sym (rw m)) (found h)
 
-    pub none_of : r ≤ 0 → is_node ns c p ≡ false
+    pub none_of : r ≡ 0 → is_node ns c p ≡ false
     none_of z = no-node ns c p (omega (arith, on))
 
     module _ (z : r ≡ 0) where
       new : add_by same_urn ns (urn c p) ≡ ns ++ urn c p ∷ []
       new = let m : is_node ns c p ≡ false = no-node ns c p (sym on ∙ z) in rw m
 
-      pub full : most_nodes ≤ n → AddedTo t cats parents at len (add_by same_urn ns (urn c p)) c p (record { node = 0; count = n; new = false })
-      full h =
-          record {
-            over = λ _. omega (arith, ap length new, length-append ns (urn c p ∷ []), count);
-            kept = λ l. absurd (omega arith);
-          }
+      pub full : most_nodes ≤ n → AddedTo t cats parents at len (add_by same_urn ns (urn c p)) c p None
+      full h = omega (arith, ap length new, length-append ns (urn c p ∷ []), count)
 
       module _ (h : n < most_nodes) (a l q : ℕ) (g : fields 58 (take l (drop a t)) ≡ p) (u : Parts) (x : Name) (j : p ≡ u ++ x ∷ [])
           (o : Numbered ns c u q) where
@@ -166,44 +163,41 @@ module _ (t cats parents at len : List ℕ) (n : ℕ) (ns : List Urn) (N : Nodes
         parent k i = by_test (eqb k n) (λ b. subst Parent (sym (eqb-true k n b)) parent-end) (λ b. let y = eqb-false k n b in parent-before k (omega arith))
 
         pub put : AddedTo t (set cats n c) (set parents n q) (set at n a) (set len n l) (add_by same_urn ns (urn c p)) c p
-            (record { node = n + 1; count = n + 1; new = true })
+            (Some (record { node = n + 1; count = n + 1; new = true }))
         put =
-            subst (λ (z : List Urn). AddedTo t (set cats n c) (set parents n q) (set at n a) (set len n l) z c p (record {
+            subst (λ (z : List Urn). AddedTo t (set cats n c) (set parents n q) (set at n a) (set len n l) z c p (Some (record {
               node = n + 1;
               count = n + 1;
               new = true;
-            })) (sym new)
-            (record {
-              over = λ y. absurd (omega arith);
-              kept = λ _. (
-                record {
-                  held = held;
-                  parent = parent;
-                  past-cats = pad-set most_nodes n cats c N.past-cats;
-                  past-parents = pad-set most_nodes n parents q N.past-parents;
-                  past-at = pad-set most_nodes n at a N.past-at;
-                  past-len = pad-set most_nodes n len l N.past-len;
-                },
-                inr (n, add-one n, omega (arith, length-append ns (urn c p ∷ []), count), at-end),
-              );
-            })
+            }))) (sym new)
+            (
+              record {
+                held = held;
+                parent = parent;
+                past-cats = pad-set most_nodes n cats c N.past-cats;
+                past-parents = pad-set most_nodes n parents q N.past-parents;
+                past-at = pad-set most_nodes n at a N.past-at;
+                past-len = pad-set most_nodes n len l N.past-len;
+              },
+              inr (n, add-one n, omega (arith, length-append ns (urn c p ∷ []), count), at-end),
+            )
 
 -- a node that was looked for, unless it was known to be none
-pub looked : (t cats parents at len : List ℕ) (n : ℕ) (ns : List Urn) → Nodes t cats parents at len n ns → (c : ℕ) {s w : List ℕ} {r : ℕ} {new : Bool} → s ≡ w
-    → ((new ≡ true → is_node (tabulate (node_urn t cats at len) n) c (fields 58 s) ≡ false) → r ≡ number (tabulate (node_urn t cats at len) n) c (fields 58 s))
-    → (new ≡ true → is_node ns c (fields 58 w) ≡ false) → r ≡ number (tabulate (node_urn t cats at len) n) c (fields 58 w)
-looked t cats parents at len n ns N c e f h =
-    f (λ z. ap₂ (λ (l : List Urn) (s : List ℕ). is_node l c (fields 58 s)) N.held e ∙ h z)
-    ∙ ap (λ s. number (tabulate (node_urn t cats at len) n) c (fields 58 s)) e
+pub looked : (t cats parents at len : List ℕ) (n : ℕ) (ns : List Urn) → Nodes t cats parents at len n ns → (c : ℕ) {s w : List ℕ} {new : Bool} (r : Option ℕ) → s ≡ w
+    → ((new ≡ true → is_node (tabulate (node_urn t cats at len) n) c (fields 58 s) ≡ false) → FoundAs (number (tabulate (node_urn t cats at len) n) c (fields 58 s)) r)
+    → (new ≡ true → is_node ns c (fields 58 w) ≡ false) → FoundAs (number (tabulate (node_urn t cats at len) n) c (fields 58 w)) r
+looked t cats parents at len n ns N c r e f h =
+    subst (λ s. FoundAs (number (tabulate (node_urn t cats at len) n) c (fields 58 s)) r) e
+    (f (λ z. ap₂ (λ (l : List Urn) (s : List ℕ). is_node l c (fields 58 s)) N.held e ∙ h z))
 
 -- a node put where the code puts it
 pub put-by : (t cats parents at len : List ℕ) (n : ℕ) (ns : List Urn) (N : Nodes t cats parents at len n ns) (c from k : ℕ) {r q₁ q a l : ℕ}
-    → r ≡ number (tabulate (node_urn t cats at len) n) c (fields 58 (take k (drop from t))) → r ≤ 0 → n < most_nodes → q₁ ≡ q → a ≡ from → l ≡ k
+    → r ≡ number (tabulate (node_urn t cats at len) n) c (fields 58 (take k (drop from t))) → r ≡ 0 → n < most_nodes → q₁ ≡ q → a ≡ from → l ≡ k
     → (u : Parts) (x : Name) → fields 58 (take k (drop from t)) ≡ u ++ x ∷ [] → Numbered ns c u q
     → AddedTo t (set cats n c) (set parents n q₁) (set at n a) (set len n l) (add_by same_urn ns (urn c (fields 58 (take k (drop from t)))))
-    c (fields 58 (take k (drop from t))) (record { node = n + 1; count = n + 1; new = true })
+    c (fields 58 (take k (drop from t))) (Some (record { node = n + 1; count = n + 1; new = true }))
 put-by t cats parents at len n ns N c from k {r} {q₁} {q} {a} {l} e z h f g i u x j o =
-    put t cats parents at len n ns N c (fields 58 (take k (drop from t))) r e (omega arith) h a l q₁ (ap₂ (λ a l. fields 58 (take l (drop a t))) g i) u x j
+    put t cats parents at len n ns N c (fields 58 (take k (drop from t))) r e z h a l q₁ (ap₂ (λ a l. fields 58 (take l (drop a t))) g i) u x j
     (subst (λ (y : ℕ). Numbered ns c u y) (sym f) o)
 
 -- the nodes only grow
@@ -232,11 +226,11 @@ front t w from k i e h =
 
 -- the prefixes of w that end in its first i bytes have been added to ns; if the last is new there is nothing under it, and w is no node
 -- while there is more to come
-pub record PathDone (t w : List ℕ) (c : ℕ) (ns : List Urn) (cats parents at len : List ℕ) (i : ℕ) (r : Added) : Type 0 where
+pub record PathDone (t w : List ℕ) (c : ℕ) (ns : List Urn) (cats parents at len : List ℕ) (i : ℕ) (r : Option Added) : Type 0 where
   pub us : List Urn
   pub so_far : add_urn ns (urn c (fields 58 w)) ≡ foldl (adder c) (foldl add_urn [] us) (coming w i)
   pub added : AddedTo t cats parents at len (foldl add_urn [] us) c (fields 58 (take i w)) r
-  pub none-under : r.new ≡ true → (x : Name) → is_node (foldl add_urn [] us) c (fields 58 (take i w) ++ x ∷ []) ≡ false
+  pub none-under : added_new r ≡ true → (x : Name) → is_node (foldl add_urn [] us) c (fields 58 (take i w) ++ x ∷ []) ≡ false
   pub none_yet : i < length w → is_node (foldl add_urn [] us) c (fields 58 w) ≡ false
 
 -- what ends at a colon is shorter than the whole
@@ -264,8 +258,8 @@ module _ (w : List ℕ) (i j : ℕ) (d : j ≡ length (up_to 58 (take (length w 
       sym (get_or-drop (i + 1) w j 0) ∙ rw q (up_to-stop 58 (drop (i + 1) w) l)
 
 module _ (t w : List ℕ) (c from k : ℕ) (y : w ≡ take k (drop from t)) where
-  pub path-start : {cats parents at len cats₁ parents₁ at₁ len₁ : List ℕ} (us : List Urn) (n i : ℕ) {r : Added} {new : Bool} → i ≡ length (up_to 58 w)
-      → new ≡ (false || eqb i (length w)) → AddsNode t c from i 0 n new cats parents at len cats₁ parents₁ at₁ len₁ r
+  pub path-start : {cats parents at len cats₁ parents₁ at₁ len₁ : List ℕ} (us : List Urn) (n i : ℕ) {r : Option Added} {new : Bool} → i ≡ length (up_to 58 w)
+      → new ≡ eqb i (length w) → AddsNode t c from i 0 n new cats parents at len cats₁ parents₁ at₁ len₁ r
       → Nodes t cats parents at len n (foldl add_urn [] us)
       → is_node (foldl add_urn [] us) c (fields 58 (take k (drop from t))) ≡ false → PathDone t w c (foldl add_urn [] us) cats₁ parents₁ at₁ len₁ i r
   path-start {cats} {parents} {at} {len} {cats₁} {parents₁} {at₁} {len₁} us n i {r} {new} e b A N m =
@@ -292,20 +286,20 @@ module _ (t w : List ℕ) (c from k : ℕ) (y : w ≡ take k (drop from t)) wher
             (longer-other (fields 58 (take i w)) (fields 58 w) (front-shorter w i l (colon-start w i e l))));
       }
 
-  module _ (ns : List Urn) {cats parents at len : List ℕ} (i : ℕ) {r : Added} (D : PathDone t w c ns cats parents at len i r) where
+  module _ (ns : List Urn) {cats parents at len : List ℕ} (i : ℕ) (r : Added) (D : PathDone t w c ns cats parents at len i (Some r)) where
     abbrev ds : List Urn
     ds = foldl add_urn [] D.us
 
-    pub path-more : {cats₁ parents₁ at₁ len₁ : List ℕ} (j : ℕ) {r₁ : Added} {new : Bool} → i < length w → get_or w i 0 ≡ 58
-        → j ≡ length (up_to 58 (take (length w - (i + 1)) (drop (i + 1) w))) → (r.node ≡ 0 → ⊥) → new ≡ (r.new || eqb (i + 1 + j) (length w))
+    pub path-more : {cats₁ parents₁ at₁ len₁ : List ℕ} (j : ℕ) {r₁ : Option Added} {new : Bool} → i < length w → get_or w i 0 ≡ 58
+        → j ≡ length (up_to 58 (take (length w - (i + 1)) (drop (i + 1) w))) → new ≡ (r.new || eqb (i + 1 + j) (length w))
         → AddsNode t c from (i + 1 + j) r.node r.count new cats parents at len cats₁ parents₁ at₁ len₁ r₁
         → PathDone t w c ns cats₁ parents₁ at₁ len₁ (i + 1 + j) r₁
-    path-more {cats₁} {parents₁} {at₁} {len₁} j {r₁} {new} h e d z b A =
+    path-more {cats₁} {parents₁} {at₁} {len₁} j {r₁} {new} h e d b A =
         let q : j ≡ length (up_to 58 (drop (i + 1) w)) = rw part_end at d in
         let l : i + 1 + j ≤ length w = omega (arith, q, up_to-le 58 (drop (i + 1) w), length-drop (i + 1) w) in
         let f : take (i + 1 + j) w ≡ take (i + 1 + j) (drop from t) = front t w from k (i + 1 + j) y l in
         let g : fields 58 (take (i + 1 + j) w) ≡ fields 58 (take i w) ++ up_to 58 (drop (i + 1) w) ∷ [] = fields-front w i j h e q in
-        let K = D.added.kept (omega (arith, z)) in
+        let K = D.added in
         let one : adder c ds (fields 58 (take (i + 1 + j) w)) ≡ foldl add_urn [] (D.us ++ urn c (fields 58 (take (i + 1 + j) w)) ∷ []) =
         ap (adder c ds) g ∙ added-last D.us c (fields 58 (take i w)) (numbered-root ds c (fields 58 (take i w)) r.node K.1) (up_to 58 (drop (i + 1) w))
         ∙ ap (λ z. foldl add_urn [] (D.us ++ urn c z ∷ [])) (sym g) in
@@ -334,57 +328,54 @@ module _ (t w : List ℕ) (c from k : ℕ) (y : w ≡ take k (drop from t)) wher
               (longer-other (fields 58 (take (i + 1 + j) w)) (fields 58 w) (front-shorter w (i + 1 + j) m (colon-next w i j d m))));
         }
 
-    whole : AddedTo t cats parents at len (add_urn ns (urn c (fields 58 w))) c (fields 58 w) r
-        → AddedTo t cats parents at len (add_urn ns (urn c (fields 58 (take k (drop from t))))) c (fields 58 (take k (drop from t))) r
-    whole = subst (λ (z : List ℕ). AddedTo t cats parents at len (add_urn ns (urn c (fields 58 z))) c (fields 58 z) r) y
-
-    pub path-over : r.node ≡ 0 → AddedTo t cats parents at len (add_urn ns (urn c (fields 58 (take k (drop from t))))) c (fields 58 (take k (drop from t))) r
-    path-over z = whole (record {
-      over = λ _. omega (arith, D.added.over z, extends-le (adds-extend c (coming w i) ds), ap length D.so_far);
-      kept = λ l. absurd (omega (arith, z));
-    })
-
-    pub path-end : length w ≤ i → AddedTo t cats parents at len (add_urn ns (urn c (fields 58 (take k (drop from t))))) c (fields 58 (take k (drop from t))) r
+    pub path-end : length w ≤ i
+        → AddedTo t cats parents at len (add_urn ns (urn c (fields 58 (take k (drop from t))))) c (fields 58 (take k (drop from t))) (Some r)
     path-end h =
         let e : add_urn ns (urn c (fields 58 w)) ≡ ds = D.so_far ∙ ap (foldl (adder c) ds) (coming-end w i h) in
         let f : take i w ≡ w = take_all i w h in
-        whole (subst (λ (l : List Urn). AddedTo t cats parents at len l c (fields 58 w) r) (sym e)
-        (subst (λ (z : List ℕ). AddedTo t cats parents at len ds c (fields 58 z) r) f D.added))
+        subst (λ (z : List ℕ). AddedTo t cats parents at len (add_urn ns (urn c (fields 58 z))) c (fields 58 z) (Some r)) y
+        (subst (λ (l : List Urn). AddedTo t cats parents at len l c (fields 58 w) (Some r)) (sym e)
+        (subst (λ (z : List ℕ). AddedTo t cats parents at len ds c (fields 58 z) (Some r)) f D.added))
+
+  -- there was no room for a prefix
+  pub path-over : (ns : List Urn) (cats parents at len : List ℕ) (i : ℕ) → PathDone t w c ns cats parents at len i None
+      → most_nodes < length (add_urn ns (urn c (fields 58 (take k (drop from t)))))
+  path-over ns cats parents at len i D =
+      subst (λ (z : List ℕ). most_nodes < length (add_urn ns (urn c (fields 58 z)))) y
+      (omega (arith, D.added, extends-le (adds-extend c (coming w i) (foldl add_urn [] D.us)), ap length D.so_far))
 
 pub whole-found : (t cats parents at len : List ℕ) (n : ℕ) (us : List Urn) → Nodes t cats parents at len n (foldl add_urn [] us) → (c : ℕ) (p : Parts) (r : ℕ)
     → r ≡ number (tabulate (node_urn t cats at len) n) c p → 0 < r → AddedTo t cats parents at len (add_urn (foldl add_urn [] us) (urn c p)) c
-    p (record { node = r; count = n; new = false })
+    p (Some (record { node = r; count = n; new = false }))
 whole-found t cats parents at len n us N c p r e h =
     let f : r ≡ number (foldl add_urn [] us) c p = e ∙ ap (λ (l : List Urn). number l c p) N.held in
     let m : is_node (foldl add_urn [] us) c p ≡ true = some-node (foldl add_urn [] us) c p (omega (arith, f)) in
-    subst (λ (l : List Urn). AddedTo t cats parents at len l c p (record { node = r; count = n; new = false })) (sym (closed us c p m))
+    subst (λ (l : List Urn). AddedTo t cats parents at len l c p (Some (record { node = r; count = n; new = false }))) (sym (closed us c p m))
     (found t cats parents at len n (foldl add_urn [] us) N c p r e h)
 
 -- all URNs
 fold_more : (f : ℕ → Urn) (i : ℕ) → foldl add_urn [] (tabulate f (i + 1)) ≡ add_urn (foldl add_urn [] (tabulate f i)) (f i)
 fold_more f i = ap (foldl add_urn []) (tab-suc f i) ∙ foldl-append add_urn [] (tabulate f i) (f i ∷ [])
 
-module _ (t : List ℕ) (f : ℕ → Urn) (i : ℕ) {cats parents at len : List ℕ} {r : Added} {c : ℕ} {p : Parts} (e : urn c p ≡ f i)
-    (A : AddedTo t cats parents at len (add_urn (foldl add_urn [] (tabulate f i)) (urn c p)) c p r) where
-  B : AddedTo t cats parents at len (foldl add_urn [] (tabulate f (i + 1))) (f i).cat (f i).path r
-  B = subst (λ (l : List Urn). AddedTo t cats parents at len l (f i).cat (f i).path r) (sym (fold_more f i))
+module _ (t : List ℕ) (f : ℕ → Urn) (i : ℕ) (cats parents at len : List ℕ) (c : ℕ) (p : Parts) (e : urn c p ≡ f i) where
+  one-more : (r : Option Added) → AddedTo t cats parents at len (add_urn (foldl add_urn [] (tabulate f i)) (urn c p)) c p r
+      → AddedTo t cats parents at len (foldl add_urn [] (tabulate f (i + 1))) (f i).cat (f i).path r
+  one-more r A = subst (λ (l : List Urn). AddedTo t cats parents at len l (f i).cat (f i).path r) (sym (fold_more f i))
       (subst (λ (u : Urn). AddedTo t cats parents at len (add_urn (foldl add_urn [] (tabulate f i)) u) u.cat u.path r) e A)
 
-  pub all-over : (m : ℕ) → i < m → r.node ≡ 0 → most_nodes < length (foldl add_urn [] (tabulate f m))
-  all-over m h z =
+  pub all-over : (m : ℕ) → i < m → AddedTo t cats parents at len (add_urn (foldl add_urn [] (tabulate f i)) (urn c p)) c p None
+      → most_nodes < length (foldl add_urn [] (tabulate f m))
+  all-over m h A =
       let s = tab-split f i m h in
       let x : foldl add_urn [] (tabulate f m) ≡ foldl add_urn (foldl add_urn [] (tabulate f (i + 1))) s.0 =
       ap (foldl add_urn []) s.1 ∙ foldl-append add_urn [] (tabulate f i) (f i ∷ s.0) ∙ ap (λ (l : List Urn). foldl add_urn l s.0) (sym (fold_more f i)) in
-      omega (arith, B.over z, extends-le (urns-extend s.0 (foldl add_urn [] (tabulate f (i + 1)))), ap length x)
+      omega (arith, one-more None A, extends-le (urns-extend s.0 (foldl add_urn [] (tabulate f (i + 1)))), ap length x)
 
-  module _ (node : List ℕ) (v : (j : ℕ) → j < i → Numbered (foldl add_urn [] (tabulate f i)) (f j).cat (f j).path (get_or node j 0)) (z : r.node ≡ 0 → ⊥)
+  module _ (r : Added) (A : AddedTo t cats parents at len (add_urn (foldl add_urn [] (tabulate f i)) (urn c p)) c p (Some r)) (node : List ℕ)
+      (v : (j : ℕ) → j < i → Numbered (foldl add_urn [] (tabulate f i)) (f j).cat (f j).path (get_or node j 0))
       (h : i < length node) {w : ℕ} (g : w ≡ r.node) where
-    K : Nodes t cats parents at len r.count (foldl add_urn [] (tabulate f (i + 1)))
-        × Numbered (foldl add_urn [] (tabulate f (i + 1))) (f i).cat (f i).path r.node
-    K = B.kept (omega (arith, z))
-
     pub all-nodes : Nodes t cats parents at len r.count (foldl add_urn [] (tabulate f (i + 1)))
-    all-nodes = K.0
+    all-nodes = (one-more (Some r) A).0
 
     grows : Extends (foldl add_urn [] (tabulate f i)) (foldl add_urn [] (tabulate f (i + 1)))
     grows = subst (λ (l : List Urn). Extends (foldl add_urn [] (tabulate f i)) l) (sym (fold_more f i))
@@ -396,7 +387,7 @@ module _ (t : List ℕ) (f : ℕ → Urn) (i : ℕ) {cats parents at len : List 
     pub all-numbered : (j : ℕ) → j < i + 1 → Numbered (foldl add_urn [] (tabulate f (i + 1))) (f j).cat (f j).path (get_or (set node i w) j 0)
     unfolding N
     all-numbered j k = by_test (eqb j i)
-        (λ b. subst (λ (x : ℕ). N x (get_or (set node i w) x 0)) (sym (eqb-true j i b)) (subst (N i) (sym (get_or-set_same node i w 0 h ∙ g)) K.1))
+        (λ b. subst (λ (x : ℕ). N x (get_or (set node i w) x 0)) (sym (eqb-true j i b)) (subst (N i) (sym (get_or-set_same node i w 0 h ∙ g)) (one-more (Some r) A).1))
         (λ b.
         let y = eqb-false j i b in
         subst (N j) (sym (get_or-set_other node i j w 0 y)) (numbered-extends (f j).cat (f j).path (get_or node j 0) grows (v j (omega arith))))

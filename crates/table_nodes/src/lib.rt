@@ -3,17 +3,17 @@
 // In: the URNs' categories and paths as places in the bytes. Out: the nodes in their order, in arrays, or none if there are over 64.
 #![tactic(auto)]
 
-ghost use Rattle.std.specs.Prelude.{◌≡◌, true, false, ◌||◌, ◌≤◌, ◌<◌, eqb};
+ghost use Rattle.std.specs.Prelude.{◌≡◌, true, false, ◌≤◌, ◌<◌};
 ghost use Rattle.base_numbers.specs.Numbers.{most_nodes, most_table_urns};
 ghost use Rattle.base_lists.specs.Lists.{tabulate};
 ghost use Rattle.theory_resolution.specs.Table.{urn};
 ghost use Rattle.theory_resolution.specs.Nodes.{same_urn, is_node, number};
 ghost use Rattle.base_text.specs.Text.{fields};
-ghost use Rattle.table_nodes.specs.Nodes.{node_urn, Clear, AddsNode, AddsPath, AddsUrn, AllAdded};
+ghost use Rattle.table_nodes.specs.Nodes.{node_urn, Clear, FoundAs, found_at_most, few_added, AddsNode, AddsPath, AddsUrn, AllAdded};
 
 use base_bytes::numbers::{short, small};
 use base_numbers::{MOST_NODES, MOST_TABLE_URNS};
-use node_search::texts::node_text;
+use node_search::texts::text_at;
 
 // Node i + 1 has the category c and the path s.
 fn node_is(
@@ -28,18 +28,14 @@ fn node_is(
     requires { i < most_nodes }
     ensures { result ≡ same_urn (urn c (fields 58 s.now)) (node_urn t.now cats.now at.now len.now i) }
 {
-    let x = cats[i];
-    if c == x {
-        let p = node_text(t, at, len, i);
-        if base_text::compare::ends_differ(s, p) {
-            return false;
-        }
-        return base_text::compare::same(s, p);
+    if c == cats[i] {
+        let p = text_at(t, at, len, i);
+        return !base_text::compare::ends_differ(s, p) && base_text::compare::same(s, p);
     }
     false
 }
 
-// The number of the node of category c with the path s, from 1, or 0.
+// The number of the node of category c with the path s, from 1.
 fn find_node(
     t: &[u8],
     c: u8,
@@ -48,18 +44,17 @@ fn find_node(
     cats: &[u8; MOST_NODES],
     at: &[u16; MOST_NODES],
     len: &[u8; MOST_NODES],
-) -> usize
+) -> Option<usize>
     requires { n ≤ most_nodes }
-    ensures { (result ≡ number (tabulate (node_urn t.now cats.now at.now len.now) n) c (fields 58 s.now)) × (result ≤ n) }
+    ensures number { FoundAs (number (tabulate (node_urn t.now cats.now at.now len.now) n) c (fields 58 s.now)) result }
+    ensures few { found_at_most n result }
 {
-    let mut i = 0;
-    while i < n {
+    for i in 0..n {
         if node_is(t, c, s, i, cats, at, len) {
-            return i + 1;
+            return Some(i + 1);
         }
-        i += 1;
     }
-    0
+    None
 }
 
 // The same, not looked for if it is known to be no node.
@@ -72,18 +67,20 @@ fn find_unless(
     cats: &[u8; MOST_NODES],
     at: &[u16; MOST_NODES],
     len: &[u8; MOST_NODES],
-) -> usize
+) -> Option<usize>
     requires { n ≤ most_nodes }
-    ensures { ((new ≡ true → is_node (tabulate (node_urn t.now cats.now at.now len.now) n) c (fields 58 s.now) ≡ false)
-        → result ≡ number (tabulate (node_urn t.now cats.now at.now len.now) n) c (fields 58 s.now)) × (result ≤ n) }
+    ensures number { (new ≡ true → is_node (tabulate (node_urn t.now cats.now at.now len.now) n) c (fields 58 s.now) ≡ false)
+        → FoundAs (number (tabulate (node_urn t.now cats.now at.now len.now) n) c (fields 58 s.now)) result }
+    ensures few { found_at_most n result }
 {
     if new {
-        return 0;
+        None
+    } else {
+        find_node(t, c, s, n, cats, at, len)
     }
-    find_node(t, c, s, n, cats, at, len)
 }
 
-// A node's number, 0 if there is no room, how many nodes there are, and whether it is new among them.
+// A node's number, how many nodes there are, and whether it is new among them.
 #[derive(Clone, Copy)]
 pub struct Added {
     pub node: usize,
@@ -91,7 +88,8 @@ pub struct Added {
     pub new: bool,
 }
 
-// The node of category c with the path in the k bytes at `from`, under the node `parent`, is added unless it is there.
+// The node of category c with the path in the k bytes at `from`, under the node `parent`, is added unless it is there; none if there
+// is no room.
 fn add_node(
     t: &[u8],
     c: u8,
@@ -104,28 +102,19 @@ fn add_node(
     parents: &mut [u8; MOST_NODES],
     at: &mut [u16; MOST_NODES],
     len: &mut [u8; MOST_NODES],
-) -> Added
+) -> Option<Added>
     requires { (n ≤ most_nodes) × (from < 65536) × (k < 256) × (parent ≤ most_nodes) }
     ensures adds_node { AddsNode t.now c from k parent n new cats.old parents.old at.old len.old
         cats.new parents.new at.new len.new result }
-    ensures few { (result.node ≤ most_nodes) × (result.count ≤ most_nodes) }
+    ensures few { few_added result }
 {
-    let m = find_unless(
-        t,
-        c,
-        base_text::cut::part(t, from, k),
-        n,
-        new,
-        cats,
-        at,
-        len,
-    );
-    if 0 < m {
-        return Added {
-            node: m,
+    let path = base_text::cut::part(t, from, k);
+    if let Some(node) = find_unless(t, c, path, n, new, cats, at, len) {
+        return Some(Added {
+            node,
             count: n,
             new: false,
-        };
+        });
     }
     if n < MOST_NODES {
         cats[n] = c;
@@ -133,30 +122,17 @@ fn add_node(
         at[n] = short(from);
         len[n] = small(k);
         let next = n + 1;
-        return Added {
+        return Some(Added {
             node: next,
             count: next,
             new: true,
-        };
+        });
     }
-    Added {
-        node: 0,
-        count: n,
-        new: false,
-    }
+    None
 }
 
-// The path that ends before the byte i of e is no node: its parent is new, or it is the whole path, which is none.
-fn surely_new(parent_new: bool, i: usize, e: usize) -> bool
-    ensures { result ≡ (parent_new || eqb i e) }
-{
-    if parent_new {
-        return true;
-    }
-    i == e
-}
-
-// The ancestors of a path that is no node, and the path itself, are added, shortest first.
+// The ancestors of a path that is no node, and the path itself, are added, shortest first. A path that ends before the byte i is no
+// node if its parent is new, or if it is the whole path.
 fn add_path(
     t: &[u8],
     c: u8,
@@ -167,27 +143,23 @@ fn add_path(
     parents: &mut [u8; MOST_NODES],
     at: &mut [u16; MOST_NODES],
     len: &mut [u8; MOST_NODES],
-) -> Added
+) -> Option<Added>
     requires { (n ≤ most_nodes) × (from < 65536) × (k < 256) }
     ensures adds_path { AddsPath t.now c from k n cats.old parents.old at.old len.old
         cats.new parents.new at.new len.new result }
-    ensures few { (result.node ≤ most_nodes) × (result.count ≤ most_nodes) }
+    ensures few { few_added result }
 {
     let w = base_text::cut::part(t, from, k);
     let e = w.len();
-    let mut i = base_text::cut::find(w, 58);
-    let first = surely_new(false, i, e);
-    let mut r = add_node(t, c, from, i, 0, n, first, cats, parents, at, len);
+    let mut i = base_text::cut::find(w, b':');
+    let mut r = add_node(t, c, from, i, 0, n, i == e, cats, parents, at, len)?;
     while i < e {
-        if r.node == 0 {
-            return r;
-        }
-        let a = i + 1;
-        i = a + base_text::cut::find(&w[a..e], 58);
-        let new = surely_new(r.new, i, e);
-        r = add_node(t, c, from, i, r.node, r.count, new, cats, parents, at, len);
+        let start = i + 1;
+        i = start + base_text::cut::find(&w[start..], b':');
+        let new = r.new || i == e;
+        r = add_node(t, c, from, i, r.node, r.count, new, cats, parents, at, len)?;
     }
-    r
+    Some(r)
 }
 
 // The nodes of one URN are added, unless its path is a node already: then its ancestors are nodes too.
@@ -201,19 +173,18 @@ fn add_urn(
     parents: &mut [u8; MOST_NODES],
     at: &mut [u16; MOST_NODES],
     len: &mut [u8; MOST_NODES],
-) -> Added
+) -> Option<Added>
     requires { (n ≤ most_nodes) × (from < 65536) × (k < 256) }
     ensures adds_urn { AddsUrn t.now c from k n cats.old parents.old at.old len.old
         cats.new parents.new at.new len.new result }
-    ensures few { (result.node ≤ most_nodes) × (result.count ≤ most_nodes) }
+    ensures few { few_added result }
 {
-    let m = find_node(t, c, base_text::cut::part(t, from, k), n, cats, at, len);
-    if 0 < m {
-        return Added {
-            node: m,
+    if let Some(node) = find_node(t, c, base_text::cut::part(t, from, k), n, cats, at, len) {
+        return Some(Added {
+            node,
             count: n,
             new: false,
-        };
+        });
     }
     add_path(t, c, from, k, n, cats, parents, at, len)
 }
@@ -244,10 +215,7 @@ pub fn add_all(
     for i in 0..m {
         let from = usize::from(path_at[i]);
         let k = usize::from(path_len[i]);
-        let r = add_urn(t, category[i], from, k, n, cats, parents, at, len);
-        if r.node == 0 {
-            return None;
-        }
+        let r = add_urn(t, category[i], from, k, n, cats, parents, at, len)?;
         node[i] = small(r.node);
         n = r.count;
     }

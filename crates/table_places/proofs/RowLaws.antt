@@ -15,7 +15,7 @@ use Rattle.base_lists.proofs.Tests.{two-fails, two-next}
 use Rattle.base_lists.specs.Tests.{no_two}
 use Rattle.base_lists.proofs.Tabulated.{tabulate-length, tabulate-at, tabulate-same, tab-list}
 use Rattle.base_lists.specs.Lists.{tabulate}
-use Rattle.base_lists.proofs.Bools.{by_test}
+use Rattle.base_lists.proofs.Bools.{by_test, same_test}
 use Rattle.theory_resolution.specs.Names.{same_name}
 use Rattle.node_step.specs.Step.{digit, put}
 use Rattle.node_step.specs.Rows.{pack}
@@ -144,13 +144,14 @@ module _ (signal category node rows : List ℕ) (i x y : ℕ) (e : x ≡ get_or 
       ∙ ap pack (tabulate-same (λ c. node_in f node s c i) (λ c. node_in f node s c (i + 1)) 8 (λ c j. stays s c (λ o. z o.0))))
 
 module _ (t at len : List ℕ) (x y : ℕ) where
-  pub slot-first : x ≡ 0 → eqb y 0 ≡ same_slots t at len x y
+  pub slot-first : x ≡ 0 → eqb x y ≡ same_slots t at len x y
   unfolding same_slots
-  slot-first e = sym (rw (eq-eqb x 0 e))
+  slot-first e = same_test (eqb x y) (eqb y 0) (λ b. eq-eqb y 0 (omega (arith, e, eqb-true x y b))) (λ b. eq-eqb x y (omega (arith, e, eqb-true y 0 b)))
+      ∙ sym (rw (eq-eqb x 0 e))
 
-  pub slot-second : (x ≡ 0 → ⊥) → y ≡ 0 → false ≡ same_slots t at len x y
+  pub slot-second : (x ≡ 0 → ⊥) → y ≡ 0 → eqb x y ≡ same_slots t at len x y
   unfolding same_slots
-  slot-second n e = sym (rw (ne_eqb x 0 n, eq-eqb y 0 e))
+  slot-second n e = ne_eqb x y (λ z. n (z ∙ e)) ∙ sym (rw (ne_eqb x 0 n, eq-eqb y 0 e))
 
   pub slot-both : {u v : List ℕ} {b : Bool} → (x ≡ 0 → ⊥) → (y ≡ 0 → ⊥) → b ≡ same_name u v → u ≡ stretch t at len (x - 1)
       → v ≡ stretch t at len (y - 1) → b ≡ same_slots t at len x y

@@ -7,9 +7,8 @@ ghost use Rattle.base_lists.specs.Lists.{tabulate};
 ghost use Rattle.table_places.specs.Slots.{key_at, same_key, row_in, Fillable, same_slots, same_places_at};
 ghost use Rattle.table_places.specs.Filled.{rows_from};
 
-use base_bytes::numbers::{wide, wider};
 use base_numbers::{LAST_SIGNAL, MOST_SIGNALS, MOST_TABLE_URNS, Refusal};
-use node_search::texts::urn_text;
+use node_search::texts::text_at;
 use node_step::rows::{place_in, with_place};
 
 // The places of the signals: each of m URNs gives its signal a node in its category; false if a signal has two of one.
@@ -26,20 +25,17 @@ pub(crate) fn fill_rows(
         → (length rows.new ≡ most_signals) × ((s : ℕ) → s < most_signals → get_or rows.new s 0 ≡ row_in (key_at signal.now category.now) node.now s m) }
     ensures all { rows_from signal.now category.now node.now 0 m rows.old ≡ record { ok = result; held = rows.new } }
 {
-    let mut i = 0;
-    while i < m {
-        let s = wide(signal[i]);
+    for i in 0..m {
+        let s = usize::from(signal[i]);
         if LAST_SIGNAL < s {
             return false;
         }
-        let c = wide(category[i]);
+        let c = usize::from(category[i]);
         let row = rows[s];
-        if place_in(row, c) == 0 {
-            rows[s] = with_place(row, c, node[i]);
-            i += 1;
-        } else {
+        if place_in(row, c) != 0 {
             return false;
         }
+        rows[s] = with_place(row, c, node[i]);
     }
     true
 }
@@ -49,16 +45,7 @@ fn row_again(rows: &[u64; MOST_SIGNALS], i: usize) -> bool
     requires { i < most_signals }
     ensures { result ≡ any (λ x. eqb x (get_or rows.now i 0)) (tabulate (λ s. get_or rows.now s 0) i) }
 {
-    let x = rows[i];
-    let mut j = 0;
-    while j < i {
-        let y = rows[j];
-        if y == x {
-            return true;
-        }
-        j += 1;
-    }
-    false
+    (0..i).any(|j| rows[j] == rows[i])
 }
 
 // No two of n rows are the same.
@@ -66,14 +53,7 @@ pub(crate) fn rows_distinct(n: usize, rows: &[u64; MOST_SIGNALS]) -> bool
     requires { n ≤ most_signals }
     ensures { result ≡ no_two eqb (tabulate (λ s. get_or rows.now s 0) n) }
 {
-    let mut i = 0;
-    while i < n {
-        if row_again(rows, i) {
-            return false;
-        }
-        i += 1;
-    }
-    true
+    (0..n).all(|i| !row_again(rows, i))
 }
 
 // Two slots have the same path, or none.
@@ -87,15 +67,10 @@ fn same_slot(
     requires { (x ≤ most_table_urns) × (y ≤ most_table_urns) }
     ensures { result ≡ same_slots t.now at.now len.now x y }
 {
-    if x == 0 {
-        return y == 0;
+    if x == 0 || y == 0 {
+        return x == y;
     }
-    if y == 0 {
-        return false;
-    }
-    let i = x - 1;
-    let j = y - 1;
-    base_text::compare::same(urn_text(t, at, len, i), urn_text(t, at, len, j))
+    base_text::compare::same(text_at(t, at, len, x - 1), text_at(t, at, len, y - 1))
 }
 
 // Signals a and b have the same places in n categories.
@@ -111,17 +86,11 @@ fn same_places(
     requires { (a < most_signals) × (b < most_signals) × (n ≤ most_categories) × ((j : ℕ) → get_or slots.now j 0 ≤ most_table_urns) }
     ensures { result ≡ same_places_at t.now slots.now at.now len.now n a b }
 {
-    let mut c = 0;
-    while c < n {
-        let x = wider(slots[8 * a + c]);
-        let y = wider(slots[8 * b + c]);
-        if same_slot(t, x, y, at, len) {
-            c += 1;
-        } else {
-            return false;
-        }
-    }
-    true
+    (0..n).all(|c| {
+        let x = usize::from(slots[8 * a + c]);
+        let y = usize::from(slots[8 * b + c]);
+        same_slot(t, x, y, at, len)
+    })
 }
 
 // Some signal before signal b has the same places.
@@ -136,14 +105,7 @@ fn places_again(
     requires { (b < most_signals) × (n ≤ most_categories) × ((j : ℕ) → get_or slots.now j 0 ≤ most_table_urns) }
     ensures { result ≡ any (λ a. same_places_at t.now slots.now at.now len.now n a b) (tabulate (λ a. a) b) }
 {
-    let mut a = 0;
-    while a < b {
-        if same_places(t, a, b, n, slots, at, len) {
-            return true;
-        }
-        a += 1;
-    }
-    false
+    (0..b).any(|a| same_places(t, a, b, n, slots, at, len))
 }
 
 // No two of `count` signals have the same places, by their texts.
@@ -158,14 +120,7 @@ fn texts_distinct(
     requires { (count ≤ most_signals) × (n ≤ most_categories) × ((j : ℕ) → get_or slots.now j 0 ≤ most_table_urns) }
     ensures { result ≡ no_two (same_places_at t.now slots.now at.now len.now n) (tabulate (λ a. a) count) }
 {
-    let mut b = 0;
-    while b < count {
-        if places_again(t, b, n, slots, at, len) {
-            return false;
-        }
-        b += 1;
-    }
-    true
+    (0..count).all(|b| !places_again(t, b, n, slots, at, len))
 }
 
 // The refusal of a table with too many nodes: 11 if two signals have the same places, by their texts, else 12.

@@ -6,7 +6,7 @@ ghost use Rattle.base_lists.specs.Lists.{tabulate};
 ghost use Rattle.table_places.specs.Slots.{InRange, key_at, same_key, slot_in};
 ghost use Rattle.table_places.specs.Filled.{slots_from, first_silent};
 
-use base_bytes::numbers::{short, wide};
+use base_bytes::numbers::short;
 use base_numbers::{LAST_SLOT, MOST_TABLE_URNS};
 
 // One more than the number of the URN of a signal and category, at 8 * signal + category; false if a signal has two of one.
@@ -23,18 +23,15 @@ pub(crate) fn fill_slots(
     ensures few { (j : ℕ) → get_or slots.new j 0 ≤ most_table_urns }
     ensures all { slots_from signal.now category.now 0 m slots.old ≡ record { ok = result; held = slots.new } }
 {
-    let mut i = 0;
-    while i < m {
-        let k = 8 * wide(signal[i]) + wide(category[i]);
+    for i in 0..m {
+        let k = 8 * usize::from(signal[i]) + usize::from(category[i]);
         if LAST_SLOT < k {
             return false;
         }
-        if slots[k] == 0 {
-            i += 1;
-            slots[k] = short(i);
-        } else {
+        if slots[k] != 0 {
             return false;
         }
+        slots[k] = short(i + 1);
     }
     true
 }
@@ -43,8 +40,5 @@ pub(crate) fn fill_slots(
 pub(crate) fn silent(m: usize, signal: &[u8; MOST_TABLE_URNS]) -> bool
     ensures { result ≡ first_silent m signal.now }
 {
-    if 0 < m {
-        return 0 < signal[0];
-    }
-    true
+    m == 0 || 0 < signal[0]
 }

@@ -1,4 +1,5 @@
 pub mod Padding
+pub mod Ranges
 pub mod Readings
 pub mod FaultLaws
 pub mod SectionLaws

@@ -1,24 +1,23 @@
+use mathlib.Core.Path.{◌≡◌, refl, sym, ◌∙◌}
 use native.Mathlib.Omega.{arith}
-use Rattle.base_lists.proofs.Tests.{all_start, all-next, all-fails, all-ends}
+use Rattle.std.proofs.Common.{rules}
+use Rattle.std.proofs.lemmas.Iterator.{YieldsList-from_range}
+use Rattle.std.proofs.lemmas.Iterator.Search.{all_from_yields_List, any_from_yields_List}
+use Rattle.table_sections.proofs.Ranges.{all-range, any-range, none-again}
+use Prim.Native.Nat.{ℕ}
+use lib.ListN.{get_or}
+use lib.Dec.{eqb}
+use borrow.Author.Tests.{lt-leb}
+use Rattle.base_lists.specs.Tests.{any}
+use Rattle.base_lists.specs.Lists.{tabulate}
 use Rattle.table_names.proofs.RoomLaws.{no_room, used-as}
 use Rattle.table_names.proofs.all_used.Goals as goal
 
-pub returns-then-m-gt-MOST_TABLE_URNS : goal.returns-then-m-gt-MOST_TABLE_URNS
-returns-then-m-gt-MOST_TABLE_URNS c = no_room c.args.category.now c.args.m c.args.n c.if-m-gt-MOST_TABLE_URNS.true
+pub returns-then-m-le-MOST_TABLE_URNS : goal.returns-then-m-le-MOST_TABLE_URNS
+returns-then-m-le-MOST_TABLE_URNS c = let p = λ (k : ℕ). any (λ x. eqb x k) (tabulate (λ j. get_or c.args.category.now j 0) c.args.m) in
+    used-as c.args.category.now c.args.m c.args.n (omega arith)
+    (all_from_yields_List p _ _ _ c.all.ensures.ran (YieldsList-from_range 0 c.args.n c.args.n refl (omega arith)) (λ x b q k. search rules)
+    ∙ all-range p p (λ i. i) c.args.n (λ i h. refl))
 
-pub loop-c-init : goal.loop-c-init
-loop-c-init c = (omega arith, all_start _ _)
-
-pub loop-c-preserved : goal.loop-c-preserved
-loop-c-preserved c = (omega arith, all-next _ _ _ c.loop-c.invariant.1 c.has_category.ensures c.if-has_category.true)
-
-pub returns-else-has_category : goal.returns-else-has_category
-returns-else-has_category c = let if1 = c.if-m-gt-MOST_TABLE_URNS.false in
-    used-as c.args.category.now c.args.m c.args.n (omega (
-      arith,
-      if1,
-    )) (all-fails _ _ _ _ c.loop-c-test.true c.has_category.ensures c.if-has_category.false)
-
-pub returns : goal.returns
-returns c = let inv = c.loop-c.invariant in
-    used-as c.args.category.now c.args.m c.args.n (omega (arith, c.if-m-gt-MOST_TABLE_URNS.false)) (all-ends _ _ _ _ inv.1 inv.0 c.loop-c-test.false)
+pub returns-else-m-le-MOST_TABLE_URNS : goal.returns-else-m-le-MOST_TABLE_URNS
+returns-else-m-le-MOST_TABLE_URNS c = lt-leb c.args.m 256 c.if-m-le-MOST_TABLE_URNS.false ∙ no_room c.args.category.now c.args.m c.args.n c.if-m-le-MOST_TABLE_URNS.false

@@ -1,18 +1,15 @@
+use mathlib.Core.Path.{◌≡◌, refl, sym, ◌∙◌}
 use native.Mathlib.Omega.{arith}
-use mathlib.Core.Path.{sym, ◌∙◌}
-use borrow.Author.Tests.{eq-eqb, ne_eqb}
-use Rattle.base_lists.proofs.Tests.{any-start, any_next, any_found, any-ends}
+use Rattle.std.proofs.Common.{rules}
+use Rattle.std.proofs.lemmas.Iterator.{YieldsList-from_range}
+use Rattle.std.proofs.lemmas.Iterator.Search.{all_from_yields_List, any_from_yields_List}
+use Rattle.table_sections.proofs.Ranges.{all-range, any-range, none-again}
+use Prim.Native.Nat.{ℕ}
+use lib.ListN.{get_or}
+use lib.Dec.{eqb}
 use Rattle.table_names.proofs.has_category.Goals as goal
 
-pub loop-i-init : goal.loop-i-init
-loop-i-init c = (omega arith, any-start _ _)
-
-pub returns-then-wide-c : goal.returns-then-wide-c
-returns-then-wide-c c = any_found _ _ _ _ c.loop-i.invariant.1 c.loop-i-test.true (eq-eqb _ _ (sym c.wide.ensures.0 ∙ c.if-wide-c.true))
-
-pub loop-i-preserved : goal.loop-i-preserved
-loop-i-preserved c = let inv = c.loop-i.invariant in
-    (omega arith, any_next _ _ _ inv.1 (ne_eqb _ _ (λ e. c.if-wide-c.false (c.wide.ensures.0 ∙ e))))
-
 pub returns : goal.returns
-returns c = any-ends _ _ _ _ c.loop-i.invariant.1 c.loop-i.invariant.0 c.loop-i-test.false
+returns c = any_from_yields_List (λ (j : ℕ). eqb (get_or c.args.category.now j 0) c.args.c) _ _ _ c.any.ensures.ran
+    (YieldsList-from_range 0 c.args.m c.args.m refl (omega arith)) (λ x b q k. search rules)
+    ∙ any-range (λ j. eqb (get_or c.args.category.now j 0) c.args.c) (λ x. eqb x c.args.c) (λ j. get_or c.args.category.now j 0) c.args.m (λ i h. refl)

@@ -11,9 +11,6 @@ use Rattle.table_names.specs.Categories.{is_listed, names_in, Fits, Indexed}
 use Rattle.table_names.proofs.index_urns.Given as goal
 
 abbrev pub invariant-loop-i : goal.invariant-loop-i
-invariant-loop-i l = (l.i ≤ l.m) × (length l.at ≡ most_table_urns) × (length l.len ≡ most_table_urns) × (all (is_listed (names_in l.t l.name_at l.name_len l.n)) (tabulate (stretch l.t l.initial.at l.initial.len) l.i)
+invariant-loop-i l = (length l.at ≡ most_table_urns) × (length l.len ≡ most_table_urns) × (all (is_listed (names_in l.t l.name_at l.name_len l.n)) (tabulate (stretch l.t l.initial.at l.initial.len) l.i)
     ≡ true) × Rest l.i l.at l.initial.at × Rest l.i l.len l.initial.len
     × (Fits l.t l.n l.m l.initial.category → (length l.category ≡ most_table_urns) × Indexed l.t (names_in l.t l.name_at l.name_len l.n) l.initial.at l.initial.len l.i l.category l.at l.len)
-
-abbrev pub decreases-loop-i : goal.decreases-loop-i
-decreases-loop-i l = l.m - l.i

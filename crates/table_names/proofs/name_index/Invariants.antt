@@ -7,7 +7,4 @@ use Rattle.node_search.specs.Arrays.{text_in}
 use Rattle.table_names.proofs.name_index.Given as goal
 
 abbrev pub invariant-loop-i : goal.invariant-loop-i
-invariant-loop-i l = (l.i ≤ l.n) × (member_by same_name l.s (tabulate (text_in 8 l.t l.at l.len) l.i) ≡ false)
-
-abbrev pub decreases-loop-i : goal.decreases-loop-i
-decreases-loop-i l = l.n - l.i
+invariant-loop-i l = member_by same_name l.s (tabulate (text_in 8 l.t l.at l.len) l.i) ≡ false

@@ -1,18 +1,18 @@
+use mathlib.Core.Path.{◌≡◌, refl, sym, ◌∙◌}
 use native.Mathlib.Omega.{arith}
-use Rattle.base_lists.proofs.Tests.{two-start, two_ends}
-use Rattle.table_names.proofs.NameLaws.{name-twice, name-once}
+use Rattle.std.proofs.Common.{rules}
+use Rattle.std.proofs.lemmas.Iterator.{YieldsList-from_range}
+use Rattle.std.proofs.lemmas.Iterator.Search.{all_from_yields_List, any_from_yields_List}
+use Rattle.table_sections.proofs.Ranges.{all-range, any-range, none-again}
+use Prim.Native.Nat.{ℕ}
+use mathlib.Core.Bool.{not}
+use Rattle.base_lists.specs.Tests.{any}
+use Rattle.base_lists.specs.Lists.{tabulate}
+use Rattle.theory_resolution.specs.Names.{same_name}
+use Rattle.node_search.specs.Arrays.{text_in}
 use Rattle.table_names.proofs.names_distinct.Goals as goal
 
-pub loop-i-init : goal.loop-i-init
-loop-i-init c = (omega arith, two-start _ _)
-
-pub returns-then-name_index-i : goal.returns-then-name_index-i
-returns-then-name_index-i c = name-twice _ _ _ c.name_text.ensures.result_value c.name_index.ensures.value c.loop-i-test.true c.if-name_index-i.true
-
-pub loop-i-preserved : goal.loop-i-preserved
-loop-i-preserved c = let inv = c.loop-i.invariant in
-    let n = c.args.n in
-    (omega arith, name-once _ _ n c.name_text.ensures.result_value c.name_index.ensures.value inv.1 c.if-name_index-i.false)
-
 pub returns : goal.returns
-returns c = two_ends _ _ _ _ c.loop-i.invariant.1 c.loop-i.invariant.0 c.loop-i-test.false
+returns c = let name = text_in 8 c.args.t.now c.args.at.now c.args.len.now in
+    all_from_yields_List (λ (i : ℕ). not (any (λ x. same_name x (name i)) (tabulate name i))) _ _ _ c.all.ensures.ran
+    (YieldsList-from_range 0 c.args.n c.args.n refl (omega arith)) (λ x b q k. search rules) ∙ none-again same_name name c.args.n

@@ -1,18 +1,16 @@
+use mathlib.Core.Path.{◌≡◌, refl, sym, ◌∙◌}
 use native.Mathlib.Omega.{arith}
-use mathlib.Core.Path.{ap, ◌∙◌}
-use Rattle.base_lists.proofs.Tests.{all_start, all-next, all-fails, all-ends}
+use Rattle.std.proofs.Common.{rules}
+use Rattle.std.proofs.lemmas.Iterator.{YieldsList-from_range}
+use Rattle.std.proofs.lemmas.Iterator.Search.{all_from_yields_List, any_from_yields_List}
+use Rattle.table_sections.proofs.Ranges.{all-range, any-range, none-again}
+use Prim.Native.Nat.{ℕ}
 use Rattle.urn_names.specs.Urn.{stored_name}
+use Rattle.node_search.specs.Arrays.{text_in}
 use Rattle.table_names.proofs.names_formed.Goals as goal
 
-pub loop-i-init : goal.loop-i-init
-loop-i-init c = (omega arith, all_start _ _)
-
-pub loop-i-preserved : goal.loop-i-preserved
-loop-i-preserved c = let inv = c.loop-i.invariant in
-    (omega arith, all-next _ _ _ inv.1 (c.stored_name.ensures ∙ ap stored_name c.name_text.ensures.result_value) c.if-stored_name.true)
-
-pub returns-else-stored_name : goal.returns-else-stored_name
-returns-else-stored_name c = all-fails _ _ _ _ c.loop-i-test.true (c.stored_name.ensures ∙ ap stored_name c.name_text.ensures.result_value) c.if-stored_name.false
-
 pub returns : goal.returns
-returns c = all-ends _ _ _ _ c.loop-i.invariant.1 c.loop-i.invariant.0 c.loop-i-test.false
+returns c = let name = text_in 8 c.args.t.now c.args.at.now c.args.len.now in
+    all_from_yields_List (λ (i : ℕ). stored_name (name i)) _ _ _ c.all.ensures.ran
+    (YieldsList-from_range 0 c.args.n c.args.n refl (omega arith)) (λ x b q k. search rules)
+    ∙ all-range (λ i. stored_name (name i)) stored_name name c.args.n (λ i h. refl)

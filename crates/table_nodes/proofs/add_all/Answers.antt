@@ -24,26 +24,27 @@ loop-i-init c = let t = c.args.t.now in (
   ),
 )
 
-pub add_urn-r-requires : goal.add_urn-r-requires
-add_urn-r-requires c = (c.loop-i.invariant.0, omega arith, omega arith)
+pub add_urn-requires : goal.add_urn-requires
+add_urn-requires c = (c.loop-i.invariant.0, omega arith, omega arith)
 
-pub returns-then-r-eq0 : goal.returns-then-r-eq0
-returns-then-r-eq0 c = let category = c.args.category.now in let t = c.args.t.now in
+pub returns-in_err-r : goal.returns-in_err-r
+returns-in_err-r c = let category = c.args.category.now in let t = c.args.t.now in
     let f = node_urn t category c.args.path_at.now c.args.path_len.now in
-    λ _ k. all-over t f c.loop-i.i (ap₂ (λ x y. urn (get_or category c.loop-i.i 0) (fields 58 (take y (drop x t)))) c.from-from.ensures
-    c.from-k.ensures) (c.add_urn-r.ensures.adds_urn (tabulate f c.loop-i.i) (c.loop-i.invariant.1 k).1) c.args.m c.loop-i-test.true c.if-r-eq0.true
+    rw c.from_residual.ensures
+    (λ _ k. all-over t f c.loop-i.i c.add_urn.new.cats c.add_urn.new.parents c.add_urn.new.at c.add_urn.new.len _ _ (ap₂ (λ x y. urn (get_or category c.loop-i.i 0) (fields 58 (take y (drop x t)))) c.from-from.ensures
+    c.from-k.ensures) c.args.m c.loop-i-test.true (c.in_err-r.ensures.adds_urn (tabulate f c.loop-i.i) (c.loop-i.invariant.1 k).1))
 
 pub loop-i-preserved : goal.loop-i-preserved
-loop-i-preserved c = let category = c.args.category.now in let t = c.args.t.now in let if2 = c.if-r-eq0.false in
+loop-i-preserved c = let category = c.args.category.now in let t = c.args.t.now in
     let f = node_urn t category c.args.path_at.now c.args.path_len.now in
     let e = ap₂ (λ x y. urn (get_or category c.loop-i.i 0) (fields 58 (take y (drop x t)))) c.from-from.ensures c.from-k.ensures in
-    let g = one_byte c.small.ensures (omega (arith, c.add_urn-r.ensures.few.0)) in (
-      c.add_urn-r.ensures.few.1,
-      λ k. let v = c.loop-i.invariant.1 k in let A = c.add_urn-r.ensures.adds_urn (tabulate f c.loop-i.i) v.1 in
+    let g = one_byte c.small.ensures (omega (arith, c.in_ok-r.ensures.few.0)) in (
+      c.in_ok-r.ensures.few.1,
+      λ k. let v = c.loop-i.invariant.1 k in let A = c.in_ok-r.ensures.adds_urn (tabulate f c.loop-i.i) v.1 in
           let h : c.loop-i.i < length c.loop-i.node = omega (arith, v.0) in (
             length-set c.loop-i.node c.loop-i.i c.small.result ∙ v.0,
-            all-nodes t f c.loop-i.i e A c.loop-i.node v.2 if2 h g,
-            all-numbered t f c.loop-i.i e A c.loop-i.node v.2 if2 h g,
+            all-nodes t f c.loop-i.i _ _ _ _ _ _ e c.in_ok-r.r A c.loop-i.node v.2 h g,
+            all-numbered t f c.loop-i.i _ _ _ _ _ _ e c.in_ok-r.r A c.loop-i.node v.2 h g,
           ),
     )
 

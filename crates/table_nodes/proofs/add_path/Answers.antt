@@ -1,77 +1,81 @@
 use native.Mathlib.Omega.{arith}
-use mathlib.Core.Path.{ap}
+use mathlib.Core.Path.{◌≡◌, refl, ap, sym, ◌∙◌}
+use mathlib.Core.Bool.{◌||◌}
 use mathlib.Core.List.{[], foldl}
 use lib.ListN.{length, drop, length-take}
+use lib.Dec.{eqb}
+use Prim.Native.Nat.{◌+◌, ◌≤◌}
+use Rattle.std.specs.Prelude.{None, Some}
 use Rattle.base_lists.proofs.Cuts.{up_to-le}
 use Rattle.theory_resolution.specs.Nodes.{add_urn}
 use Rattle.table_nodes.proofs.NodeArrays.{path-start, path-more, path-over, path-end, colon-start, colon-next, next_le}
 use Rattle.table_nodes.proofs.add_path.Goals as goal
+use Rattle.table_nodes.proofs.add_path.Goals.{then-r, else-r}
 
-pub add_node-r-requires : goal.add_node-r-requires
-add_node-r-requires c = let find = c.find-i.ensures in
-    let part = c.part-w.ensures in
-    let part-result = c.part-w.result.now in
-    let from = c.args.from in
-    let k = c.args.k in
-    let t = c.args.t.now in
-    (omega arith, omega arith, omega (arith, find, up_to-le 58 part-result, ap length part, length-take k (drop from t)), omega arith)
+pub add_node-requires : goal.add_node-requires
+add_node-requires c =
+    (omega arith, omega arith, omega (arith, c.find-i.ensures, up_to-le 58 c.part-w.result.now, ap length c.part-w.ensures, length-take c.args.k (drop c.args.from c.args.t.now)), omega arith)
+
+pub returns-in_err-r-clause-adds_path : goal.returns-in_err-r-clause-adds_path
+returns-in_err-r-clause-adds_path c = rw c.from_residual.ensures
+    (λ us N m. path-over _ _ c.args.c _ _ c.part-w.ensures (foldl add_urn [] us) c.add_node.new.cats c.add_node.new.parents c.add_node.new.at c.add_node.new.len c.find-i.result
+    (path-start _ _ c.args.c _ _ c.part-w.ensures us c.args.n _ c.find-i.ensures refl c.in_err-r.ensures.adds_node N m))
 
 pub loop-i-init : goal.loop-i-init
-loop-i-init c = let find = c.find-i.ensures in
-    let part-result = c.part-w.result.now in
-    (omega (arith, find, up_to-le 58 part-result), colon-start _ _ find, c.add_node-r.ensures.few.0, c.add_node-r.ensures.few.1, λ ns x. x)
-
-pub returns-then-r-eq0 : goal.returns-then-r-eq0
-returns-then-r-eq0 c = let t = c.args.t.now in let from = c.args.from in let k = c.args.k in
-    let w = c.part-w.result.now in record {
-      adds_path = (λ us N m. path-over t w c.args.c from k c.part-w.ensures (foldl add_urn [] us) c.loop-i.i
-          (c.loop-i.invariant.4 (foldl add_urn [] us) (path-start t w c.args.c from k c.part-w.ensures us c.args.n _ c.find-i.ensures
-          c.surely_new-first.ensures c.add_node-r.ensures.adds_node N m)) c.if-r-eq0.true);
-      few = (c.loop-i.invariant.2, c.loop-i.invariant.3);
-    }
-
-pub overflow_add-i : goal.overflow_add-i
-overflow_add-i c = let loop-test = c.loop-i-test.true in
-    let i = c.loop-i.i in
-    let part-result = c.part-w.result.now in
-    omega (arith, next_le part-result i c.find.result c.find.ensures loop-test)
-
-pub add_node-r-requires-in-loop-i : goal.add_node-r-requires-in-loop-i
-add_node-r-requires-in-loop-i c = let find2 = c.find.ensures in
-    let find2-result = c.find.result in
-    let loop-test = c.loop-i-test.true in
-    let i = c.loop-i.i in
-    let inv = c.loop-i.invariant in
-    let part = c.part-w.ensures in
-    let part-result = c.part-w.result.now in
-    let from = c.args.from in
-    let k = c.args.k in
-    let t = c.args.t.now in
-    (inv.3, omega arith, omega (arith, next_le part-result i find2-result find2 loop-test, ap length part, length-take k (drop from t)), inv.2)
-
-pub loop-i-smaller : goal.loop-i-smaller
-loop-i-smaller c = let find2 = c.find.ensures in
-    let find2-result = c.find.result in
-    let loop-test = c.loop-i-test.true in
-    let i = c.loop-i.i in
-    let part-result = c.part-w.result.now in
-    omega (arith, next_le part-result i find2-result find2 loop-test)
-
-pub loop-i-preserved : goal.loop-i-preserved
-loop-i-preserved c = let w = c.part-w.result.now in (
-  next_le w c.loop-i.i c.find.result c.find.ensures c.loop-i-test.true,
-  colon-next w c.loop-i.i c.find.result c.find.ensures,
-  c.add_node-r-in-loop-i.ensures.few.0,
-  c.add_node-r-in-loop-i.ensures.few.1,
-  λ ns D. path-more c.args.t.now w c.args.c c.args.from c.args.k c.part-w.ensures ns c.loop-i.i (c.loop-i.invariant.4 ns D) c.find.result c.loop-i-test.true
-      (c.loop-i.invariant.1 c.loop-i-test.true) c.find.ensures c.if-r-eq0.false c.surely_new-new.ensures c.add_node-r-in-loop-i.ensures.adds_node,
+loop-i-init c = (
+  omega (arith, c.find-i.ensures, up_to-le 58 c.part-w.result.now),
+  colon-start _ _ c.find-i.ensures,
+  c.in_ok-r.ensures.few.0,
+  c.in_ok-r.ensures.few.1,
+  λ ns x. x,
 )
 
-pub returns : goal.returns
-returns c = let t = c.args.t.now in let from = c.args.from in let k = c.args.k in
-    let w = c.part-w.result.now in record {
-      adds_path = (λ us N m. path-end t w c.args.c from k c.part-w.ensures (foldl add_urn [] us) c.loop-i.i
-          (c.loop-i.invariant.4 (foldl add_urn [] us) (path-start t w c.args.c from k c.part-w.ensures us c.args.n _ c.find-i.ensures
-          c.surely_new-first.ensures c.add_node-r.ensures.adds_node N m)) c.loop-i-test.false);
-      few = (c.loop-i.invariant.2, c.loop-i.invariant.3);
-    }
+pub overflow_add-i : goal.overflow_add-i
+overflow_add-i c = omega (arith, next_le c.part-w.result.now c.loop-i.i c.find.result c.find.ensures c.loop-i-test.true)
+
+pub add_node-requires-in-loop-i : goal.add_node-requires-in-loop-i
+add_node-requires-in-loop-i c = (
+  c.loop-i.invariant.3,
+  omega arith,
+  omega (
+    arith,
+    next_le c.part-w.result.now c.loop-i.i c.find.result c.find.ensures c.loop-i-test.true,
+    ap length c.part-w.ensures,
+    length-take c.args.k (drop c.args.from c.args.t.now),
+  ),
+  c.loop-i.invariant.2,
+)
+
+pub returns-in_err-r-2-clause-adds_path : goal.returns-in_err-r-2-clause-adds_path
+returns-in_err-r-2-clause-adds_path c = let w = c.part-w.result.now in
+    let b : c.if-r.new ≡ (c.loop-i.r.new || eqb (c.loop-i.i + 1 + c.find.result) (length w)) = elim c.if-r.branch [
+      then-r x ↦ rw (x.new-is, x.if-r.true)
+      | else-r x ↦ rw (x.new-is, x.if-r.false) ] in
+    rw c.from_residual-in_err-r-2.ensures
+    (λ us N m. let ns = foldl add_urn [] us in
+    path-over _ w c.args.c _ _ c.part-w.ensures ns c.add_node-in-loop-i.new.cats c.add_node-in-loop-i.new.parents c.add_node-in-loop-i.new.at
+    c.add_node-in-loop-i.new.len _
+    (path-more _ w c.args.c _ _ c.part-w.ensures ns c.loop-i.i c.loop-i.r
+    (c.loop-i.invariant.4 ns (path-start _ w c.args.c _ _ c.part-w.ensures us c.args.n _ c.find-i.ensures refl c.in_ok-r.ensures.adds_node N m))
+    c.find.result c.loop-i-test.true (c.loop-i.invariant.1 c.loop-i-test.true) c.find.ensures b c.in_err-r-2.ensures.adds_node))
+
+pub loop-i-smaller : goal.loop-i-smaller
+loop-i-smaller c = omega (arith, next_le c.part-w.result.now c.loop-i.i c.find.result c.find.ensures c.loop-i-test.true)
+
+pub loop-i-preserved : goal.loop-i-preserved
+loop-i-preserved c = let w = c.part-w.result.now in
+    let b : c.if-r.new ≡ (c.loop-i.r.new || eqb (c.loop-i.i + 1 + c.find.result) (length w)) = elim c.if-r.branch [
+      then-r x ↦ rw (x.new-is, x.if-r.true)
+      | else-r x ↦ rw (x.new-is, x.if-r.false) ] in (
+      next_le w c.loop-i.i c.find.result c.find.ensures c.loop-i-test.true,
+      colon-next w c.loop-i.i c.find.result c.find.ensures,
+      c.in_ok-r-2.ensures.few.0,
+      c.in_ok-r-2.ensures.few.1,
+      λ ns D. path-more _ w c.args.c _ _ c.part-w.ensures ns c.loop-i.i c.loop-i.r (c.loop-i.invariant.4 ns D) c.find.result c.loop-i-test.true
+          (c.loop-i.invariant.1 c.loop-i-test.true) c.find.ensures b c.in_ok-r-2.ensures.adds_node,
+    )
+
+pub returns-clause-adds_path : goal.returns-clause-adds_path
+returns-clause-adds_path c = λ us N m. path-end _ c.part-w.result.now c.args.c _ _ c.part-w.ensures (foldl add_urn [] us) c.loop-i.i c.loop-i.r
+    (c.loop-i.invariant.4 (foldl add_urn [] us)
+    (path-start _ _ c.args.c _ _ c.part-w.ensures us c.args.n _ c.find-i.ensures refl c.in_ok-r.ensures.adds_node N m)) c.loop-i-test.false

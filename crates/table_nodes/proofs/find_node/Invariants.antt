@@ -9,7 +9,4 @@ use Rattle.table_nodes.specs.Nodes.{node_urn}
 use Rattle.table_nodes.proofs.find_node.Given as goal
 
 abbrev pub invariant-loop-i : goal.invariant-loop-i
-invariant-loop-i l = (l.i ≤ l.n) × (member_by same_urn (urn l.c (fields 58 l.s)) (tabulate (node_urn l.t l.cats l.at l.len) l.i) ≡ false)
-
-abbrev pub decreases-loop-i : goal.decreases-loop-i
-decreases-loop-i l = l.n - l.i
+invariant-loop-i l = member_by same_urn (urn l.c (fields 58 l.s)) (tabulate (node_urn l.t l.cats l.at l.len) l.i) ≡ false

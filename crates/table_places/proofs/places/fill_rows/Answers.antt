@@ -13,7 +13,6 @@ use Rattle.table_places.proofs.places.fill_rows.Goals as goal
 
 pub loop-i-init : goal.loop-i-init
 loop-i-init c = (
-  omega arith,
   λ r. (
     r.2.0,
     two-start _ _,
@@ -26,26 +25,25 @@ loop-i-init c = (
 pub returns-then-s-gt-LAST_SIGNAL : goal.returns-then-s-gt-LAST_SIGNAL
 returns-then-s-gt-LAST_SIGNAL c = let category = c.args.category.now in let m = c.args.m in
     let node = c.args.node.now in let the-rows = c.args.rows.now in let signal = c.args.signal.now in
-    let wide = c.wide-s.ensures in let loop-test = c.loop-i-test.true in
+    let wide = c.from-s.ensures in let loop-test = c.loop-i-test.true in
     let i = c.loop-i.i in let inv = c.loop-i.invariant in
     let rows = c.loop-i.rows in
-    let far : Fillable signal category node the-rows m → ⊥ = λ r. omega (arith, c.if-s-gt-LAST_SIGNAL.true, wide.0, r.0.0 _ loop-test) in record { value = λ r. absurd (far r); filled = λ r. absurd (far r); all = rows-far signal category node m the-rows i rows inv.2 loop-test c.wide-s.result _ wide.0 refl c.if-s-gt-LAST_SIGNAL.true }
+    let far : Fillable signal category node the-rows m → ⊥ = λ r. omega (arith, c.if-s-gt-LAST_SIGNAL.true, wide, r.0.0 _ loop-test) in record { value = λ r. absurd (far r); filled = λ r. absurd (far r); all = rows-far signal category node m the-rows i rows inv.1 loop-test c.from-s.result _ wide refl c.if-s-gt-LAST_SIGNAL.true }
 
 pub loop-i-preserved : goal.loop-i-preserved
 loop-i-preserved c = let category = c.args.category.now in let node = c.args.node.now in let signal = c.args.signal.now in
-    let if2 = c.if-place_in-eq0.true in let the-place-in = c.place_in.ensures in
-    let wide2 = c.wide-c.ensures in
-    let wide2-result = c.wide-c.result in
+    let if2 = c.if-place_in-ne0.false in let the-place-in = c.place_in.ensures in
+    let wide2 = c.from-c.ensures in
+    let wide2-result = c.from-c.result in
     let if1 = c.if-s-gt-LAST_SIGNAL.false in
-    let wide = c.wide-s.ensures in
-    let wide-result = c.wide-s.result in
+    let wide = c.from-s.ensures in
+    let wide-result = c.from-s.result in
     let i = c.loop-i-test.true in
     let the-i = c.loop-i.i in
     let inv = c.loop-i.invariant in
     let rows = c.loop-i.rows in (
-      omega arith,
-      λ r. let v = inv.1 r in let h : wide2-result < 8 = omega (arith, wide2.0, r.0.1 _ i) in let k : wide-result < most_signals =
-          omega (arith, if1) in let e = wide.0 in let g = wide2.0 in (
+      λ r. let v = inv.0 r in let h : wide2-result < 8 = omega (arith, wide2, r.0.1 _ i) in let k : wide-result < most_signals =
+          omega (arith, if1) in let e = wide in let g = wide2 in (
             length-set rows wide-result c.with_place.result ∙ v.0,
             row-once signal category node rows the-i wide-result wide2-result e g h v.2 v.3 k (λ j w. (r.1 j (omega arith)).0) v.1
                 (sym (the-place-in ∙ place-in _ _ h) ∙ if2),
@@ -53,34 +51,34 @@ loop-i-preserved c = let category = c.args.category.now in let node = c.args.nod
             row_put signal category node rows the-i wide-result wide2-result e g h v.2 v.3 k c.with_place.result _
                 (c.with_place.ensures ∙ put_in _ _ _ h) refl v.0,
           ),
-      rows-put signal category node c.args.m c.args.rows.now the-i rows inv.2 i wide-result wide2-result wide.0 wide2.0
+      rows-put signal category node c.args.m c.args.rows.now the-i rows inv.1 i wide-result wide2-result wide wide2
           (omega (arith, if1)) (sym the-place-in ∙ if2) c.with_place.ensures,
     )
 
-pub returns-else-place_in-eq0 : goal.returns-else-place_in-eq0
-returns-else-place_in-eq0 c = let category = c.args.category.now in let m = c.args.m in let node = c.args.node.now in let signal = c.args.signal.now in
-    let the-place-in = c.place_in.ensures in let wide2 = c.wide-c.ensures in
-    let wide2-result = c.wide-c.result in
+pub returns-then-place_in-ne0 : goal.returns-then-place_in-ne0
+returns-then-place_in-ne0 c = let category = c.args.category.now in let m = c.args.m in let node = c.args.node.now in let signal = c.args.signal.now in
+    let the-place-in = c.place_in.ensures in let wide2 = c.from-c.ensures in
+    let wide2-result = c.from-c.result in
     let if1 = c.if-s-gt-LAST_SIGNAL.false in
-    let wide = c.wide-s.ensures in
-    let wide-result = c.wide-s.result in
+    let wide = c.from-s.ensures in
+    let wide-result = c.from-s.result in
     let i = c.loop-i-test.true in
     let the-i = c.loop-i.i in
     let inv = c.loop-i.invariant in
     let rows = c.loop-i.rows in record {
-      value = λ r. let v = inv.1 r in let h : wide2-result < 8 = omega (arith, wide2.0, r.0.1 _ i) in let k : wide-result < most_signals = omega (
+      value = λ r. let v = inv.0 r in let h : wide2-result < 8 = omega (arith, wide2, r.0.1 _ i) in let k : wide-result < most_signals = omega (
         arith,
         if1,
-      ) in row-twice signal category node rows the-i wide-result wide2-result wide.0 wide2.0 h v.2 v.3 k m i
-          (λ z. c.if-place_in-eq0.false (the-place-in ∙ place-in _ _ h ∙ z));
+      ) in row-twice signal category node rows the-i wide-result wide2-result wide wide2 h v.2 v.3 k m i
+          (λ z. c.if-place_in-ne0.true (the-place-in ∙ place-in _ _ h ∙ z));
       filled = λ r e. absurd (false≢true e);
-      all = rows_taken signal category node m c.args.rows.now the-i rows inv.2 i wide-result wide2-result wide.0 wide2.0 (omega (
+      all = rows_taken signal category node m c.args.rows.now the-i rows inv.1 i wide-result wide2-result wide wide2 (omega (
         arith,
         if1,
-      )) (λ z. c.if-place_in-eq0.false (the-place-in ∙ z));
+      )) (λ z. c.if-place_in-ne0.true (the-place-in ∙ z));
     }
 
 pub returns : goal.returns
 returns c = let category = c.args.category.now in let m = c.args.m in let node = c.args.node.now in
     let signal = c.args.signal.now in let i = c.loop-i.i in let inv = c.loop-i.invariant in
-    let e : i ≡ m = omega arith in record { value = λ r. two_ends _ _ _ _ (inv.1 r).1 inv.0 c.loop-i-test.false; filled = (λ r _. let v = inv.1 r in (v.0, λ s h. v.3 s h ∙ ap (row_in (key_at signal category) node s) e)); all = rows_all signal category node m c.args.rows.now i c.loop-i.rows inv.2 c.loop-i-test.false }
+    let e : i ≡ m = omega arith in record { value = λ r. two_ends _ _ _ _ (inv.0 r).1 (omega arith) c.loop-i-test.false; filled = (λ r _. let v = inv.0 r in (v.0, λ s h. v.3 s h ∙ ap (row_in (key_at signal category) node s) e)); all = rows_all signal category node m c.args.rows.now i c.loop-i.rows inv.1 c.loop-i-test.false }

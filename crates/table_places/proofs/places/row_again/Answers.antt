@@ -1,16 +1,20 @@
+use Prim.Native.Nat.{ℕ, ◌+◌, ◌*◌}
+use mathlib.Core.Path.{◌≡◌, refl, ◌∙◌, ap₂}
+use mathlib.Core.Bool.{not}
 use native.Mathlib.Omega.{arith}
-use borrow.Author.Tests.{eq-eqb, ne_eqb}
-use Rattle.base_lists.proofs.Tests.{any-start, any_next, any_found, any-ends}
+use lib.ListN.{get_or}
+use lib.Dec.{eqb}
+use Rattle.std.proofs.Common.{rules}
+use Rattle.std.proofs.lemmas.Iterator.{YieldsList-from_range}
+use Rattle.std.proofs.lemmas.Iterator.Search.{all_from_yields_List, any_from_yields_List}
+use Rattle.base_lists.specs.Tests.{any}
+use Rattle.base_lists.specs.Lists.{tabulate}
+use Rattle.table_places.specs.Slots.{same_slots, same_places_at}
+use Rattle.table_sections.proofs.Ranges.{all-range, any-range, none-again}
 use Rattle.table_places.proofs.places.row_again.Goals as goal
 
-pub loop-j-init : goal.loop-j-init
-loop-j-init c = (omega arith, any-start _ _)
-
-pub returns-then-y-x : goal.returns-then-y-x
-returns-then-y-x c = any_found _ _ _ _ c.loop-j.invariant.1 c.loop-j-test.true (eq-eqb _ _ c.if-y-x.true)
-
-pub loop-j-preserved : goal.loop-j-preserved
-loop-j-preserved c = (omega arith, any_next _ _ _ c.loop-j.invariant.1 (ne_eqb _ _ c.if-y-x.false))
-
 pub returns : goal.returns
-returns c = any-ends _ _ _ _ c.loop-j.invariant.1 c.loop-j.invariant.0 c.loop-j-test.false
+returns c = let row = λ (s : ℕ). get_or c.args.rows.now s 0 in
+    any_from_yields_List (λ (j : ℕ). eqb (row j) (row c.args.i)) _ _ _ c.any.ensures.ran
+    (YieldsList-from_range 0 c.args.i c.args.i refl (omega arith)) (λ x b q k. search rules)
+    ∙ any-range (λ (j : ℕ). eqb (row j) (row c.args.i)) (λ x. eqb x (row c.args.i)) row c.args.i (λ j h. refl)

@@ -1,17 +1,19 @@
+use Prim.Native.Nat.{ℕ, ◌+◌, ◌*◌}
+use mathlib.Core.Path.{◌≡◌, refl, ◌∙◌, ap₂}
+use mathlib.Core.Bool.{not}
 use native.Mathlib.Omega.{arith}
-use mathlib.Core.Path.{sym, ◌∙◌}
-use Rattle.base_lists.proofs.Tests.{two-start, two-next, two-fails, two_ends}
+use lib.ListN.{get_or}
+use lib.Dec.{eqb}
+use Rattle.std.proofs.Common.{rules}
+use Rattle.std.proofs.lemmas.Iterator.{YieldsList-from_range}
+use Rattle.std.proofs.lemmas.Iterator.Search.{all_from_yields_List, any_from_yields_List}
+use Rattle.base_lists.specs.Tests.{any}
+use Rattle.base_lists.specs.Lists.{tabulate}
+use Rattle.table_places.specs.Slots.{same_slots, same_places_at}
+use Rattle.table_sections.proofs.Ranges.{all-range, any-range, none-again}
 use Rattle.table_places.proofs.places.rows_distinct.Goals as goal
 
-pub loop-i-init : goal.loop-i-init
-loop-i-init c = (omega arith, two-start _ _)
-
-pub returns-then-row_again : goal.returns-then-row_again
-returns-then-row_again c = two-fails _ _ _ _ c.loop-i-test.true (sym c.row_again.ensures ∙ c.if-row_again.true)
-
-pub loop-i-preserved : goal.loop-i-preserved
-loop-i-preserved c = let inv = c.loop-i.invariant in let n = c.args.n in
-    (omega arith, two-next _ _ _ n inv.1 (sym c.row_again.ensures ∙ c.if-row_again.false))
-
 pub returns : goal.returns
-returns c = two_ends _ _ _ _ c.loop-i.invariant.1 c.loop-i.invariant.0 c.loop-i-test.false
+returns c = let row = λ (s : ℕ). get_or c.args.rows.now s 0 in
+    all_from_yields_List (λ (i : ℕ). not (any (λ x. eqb x (row i)) (tabulate row i))) _ _ _ c.all.ensures.ran
+    (YieldsList-from_range 0 c.args.n c.args.n refl (omega arith)) (λ x b q k. search rules) ∙ none-again eqb row c.args.n

@@ -1,33 +1,19 @@
+use Prim.Native.Nat.{ℕ, ◌+◌, ◌*◌}
+use mathlib.Core.Path.{◌≡◌, refl, ◌∙◌, ap₂}
+use mathlib.Core.Bool.{not}
 use native.Mathlib.Omega.{arith}
-use Prim.Native.Nat.{◌+◌, ◌*◌}
-use mathlib.Core.Path.{ap₂, ◌∙◌}
-use Rattle.base_lists.proofs.Tests.{all_start, all-next, all-fails, all-ends}
-use Rattle.table_places.specs.Slots.{same_slots}
+use lib.ListN.{get_or}
+use lib.Dec.{eqb}
+use Rattle.std.proofs.Common.{rules}
+use Rattle.std.proofs.lemmas.Iterator.{YieldsList-from_range}
+use Rattle.std.proofs.lemmas.Iterator.Search.{all_from_yields_List, any_from_yields_List}
+use Rattle.base_lists.specs.Tests.{any}
+use Rattle.base_lists.specs.Lists.{tabulate}
+use Rattle.table_places.specs.Slots.{same_slots, same_places_at}
+use Rattle.table_sections.proofs.Ranges.{all-range, any-range, none-again}
 use Rattle.table_places.proofs.places.same_places.Goals as goal
 
-pub loop-c-init : goal.loop-c-init
-loop-c-init c = (omega arith, all_start _ _)
-
-pub same_slot-requires : goal.same_slot-requires
-same_slot-requires c = let the-c = c.loop-c.c in
-    let a = c.args.a in
-    let b = c.args.b in
-    (omega (arith, c.wider-x.ensures.0, c.requires.3 (8 * a + the-c)), omega (arith, c.wider-y.ensures.0, c.requires.3 (8 * b + the-c)))
-
-pub loop-c-preserved : goal.loop-c-preserved
-loop-c-preserved c = let wider = c.wider-x.ensures in
-    let inv = c.loop-c.invariant in
-    let at = c.args.at.now in
-    let len = c.args.len.now in
-    let t = c.args.t.now in (
-      omega arith,
-      all-next _ _ _ inv.1 (c.same_slot.ensures
-          ∙ ap₂ (same_slots t at len) wider.0 c.wider-y.ensures.0) c.if-same_slot.true,
-    )
-
-pub returns-else-same_slot : goal.returns-else-same_slot
-returns-else-same_slot c = all-fails _ _ _ _ c.loop-c-test.true (c.same_slot.ensures ∙ ap₂ (same_slots c.args.t.now c.args.at.now c.args.len.now)
-    c.wider-x.ensures.0 c.wider-y.ensures.0) c.if-same_slot.false
-
 pub returns : goal.returns
-returns c = all-ends _ _ _ _ c.loop-c.invariant.1 c.loop-c.invariant.0 c.loop-c-test.false
+returns c = let p = λ (k : ℕ). same_slots c.args.t.now c.args.at.now c.args.len.now (get_or c.args.slots.now (8 * c.args.a + k) 0) (get_or c.args.slots.now (8 * c.args.b + k) 0) in
+    all_from_yields_List p _ _ _ c.all.ensures.ran
+    (YieldsList-from_range 0 c.args.n c.args.n refl (omega arith)) (λ x b q k. search rules) ∙ all-range p p (λ i. i) c.args.n (λ i h. refl)

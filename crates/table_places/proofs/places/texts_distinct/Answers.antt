@@ -1,17 +1,19 @@
+use Prim.Native.Nat.{ℕ, ◌+◌, ◌*◌}
+use mathlib.Core.Path.{◌≡◌, refl, ◌∙◌, ap₂}
+use mathlib.Core.Bool.{not}
 use native.Mathlib.Omega.{arith}
-use mathlib.Core.Path.{sym, ◌∙◌}
-use Rattle.base_lists.proofs.Tests.{two-start, two-next, two-fails, two_ends}
+use lib.ListN.{get_or}
+use lib.Dec.{eqb}
+use Rattle.std.proofs.Common.{rules}
+use Rattle.std.proofs.lemmas.Iterator.{YieldsList-from_range}
+use Rattle.std.proofs.lemmas.Iterator.Search.{all_from_yields_List, any_from_yields_List}
+use Rattle.base_lists.specs.Tests.{any}
+use Rattle.base_lists.specs.Lists.{tabulate}
+use Rattle.table_places.specs.Slots.{same_slots, same_places_at}
+use Rattle.table_sections.proofs.Ranges.{all-range, any-range, none-again}
 use Rattle.table_places.proofs.places.texts_distinct.Goals as goal
 
-pub loop-b-init : goal.loop-b-init
-loop-b-init c = (omega arith, two-start _ _)
-
-pub returns-then-places_again : goal.returns-then-places_again
-returns-then-places_again c = two-fails _ _ _ _ c.loop-b-test.true (sym c.places_again.ensures ∙ c.if-places_again.true)
-
-pub loop-b-preserved : goal.loop-b-preserved
-loop-b-preserved c = let inv = c.loop-b.invariant in let count = c.args.count in
-    (omega arith, two-next _ _ _ count inv.1 (sym c.places_again.ensures ∙ c.if-places_again.false))
-
 pub returns : goal.returns
-returns c = two_ends _ _ _ _ c.loop-b.invariant.1 c.loop-b.invariant.0 c.loop-b-test.false
+returns c = let same = same_places_at c.args.t.now c.args.slots.now c.args.at.now c.args.len.now c.args.n in
+    all_from_yields_List (λ (i : ℕ). not (any (λ x. same x i) (tabulate (λ a. a) i))) _ _ _ c.all.ensures.ran
+    (YieldsList-from_range 0 c.args.count c.args.count refl (omega arith)) (λ x b q k. search rules) ∙ none-again same (λ a. a) c.args.count

@@ -14,15 +14,14 @@ use Rattle.table_places.proofs.signals.fill_slots.Goals as goal
 pub loop-i-init : goal.loop-i-init
 loop-i-init c = (
   omega arith,
-  omega arith,
   λ j. omega (arith, c.requires.2 j),
   λ r. (two-start _ _, slot-start c.args.signal.now c.args.category.now c.args.slots.now c.requires.2),
   slots-start _ _ _ _,
 )
 
 pub returns-then-k-gt-LAST_SLOT : goal.returns-then-k-gt-LAST_SLOT
-returns-then-k-gt-LAST_SLOT c = let wide2 = c.wide-in-loop-i.ensures in let wide = c.wide.ensures in
-    let wide-result = c.wide.result in
+returns-then-k-gt-LAST_SLOT c = let wide2 = c.from-in-loop-i.ensures in let wide = c.from.ensures in
+    let wide-result = c.from.result in
     let loop-test = c.loop-i-test.true in
     let i = c.loop-i.i in
     let inv = c.loop-i.invariant in
@@ -31,48 +30,47 @@ returns-then-k-gt-LAST_SLOT c = let wide2 = c.wide-in-loop-i.ensures in let wide
     let m = c.args.m in
     let signal = c.args.signal.now in
     let the-slots = c.args.slots.now in
-    let far : InRange signal category m → ⊥ = λ r. omega (arith, c.if-k-gt-LAST_SLOT.true, wide2.0, wide.0, r.0 _ loop-test, r.1 _ loop-test) in record { value = λ r. absurd (far r); filled = λ r. absurd (far r); few = inv.2; all = slots-far signal category m the-slots i slots inv.4 loop-test wide-result c.wide-in-loop-i.result wide.0 wide2.0 c.if-k-gt-LAST_SLOT.true }
+    let far : InRange signal category m → ⊥ = λ r. omega (arith, c.if-k-gt-LAST_SLOT.true, wide2, wide, r.0 _ loop-test, r.1 _ loop-test) in record { value = λ r. absurd (far r); filled = λ r. absurd (far r); few = inv.1; all = slots-far signal category m the-slots i slots inv.3 loop-test wide-result c.from-in-loop-i.result wide wide2 c.if-k-gt-LAST_SLOT.true }
 
 pub loop-i-preserved : goal.loop-i-preserved
-loop-i-preserved c = let category = c.args.category.now in let m = c.args.m in let signal = c.args.signal.now in let if2 = c.if-slots-k-eq0.true in
-    let if1 = c.if-k-gt-LAST_SLOT.false in let wide2 = c.wide-in-loop-i.ensures in
-    let y = c.wide-in-loop-i.result in
-    let wide = c.wide.ensures in
-    let x = c.wide.result in
+loop-i-preserved c = let category = c.args.category.now in let m = c.args.m in let signal = c.args.signal.now in let if2 = c.if-slots-k-ne0.false in
+    let if1 = c.if-k-gt-LAST_SLOT.false in let wide2 = c.from-in-loop-i.ensures in
+    let y = c.from-in-loop-i.result in
+    let wide = c.from.ensures in
+    let x = c.from.result in
     let loop-test = c.loop-i-test.true in
     let i = c.loop-i.i in
     let inv = c.loop-i.invariant in
     let slots = c.loop-i.slots in
-    let k : 8 * x + y < length slots = omega (arith, if1, inv.1) in
+    let k : 8 * x + y < length slots = omega (arith, if1, inv.0) in
     let w = two_bytes c.short.ensures (omega arith) in (
-      omega arith,
-      length-set slots (8 * x + y) c.short.result ∙ inv.1,
-      slots-within slots (8 * x + y) c.short.result most_table_urns inv.2 (omega (arith, w)) k,
-      λ r. let h : y < 8 = omega (arith, wide2.0, r.1 _ loop-test) in let v = inv.3 r in (
-        slot-once signal category slots i m x y wide.0 wide2.0 h v.1 v.0 if2,
-        slot-put signal category slots i m x y wide.0 wide2.0 h v.1 _ w k,
+      length-set slots (8 * x + y) c.short.result ∙ inv.0,
+      slots-within slots (8 * x + y) c.short.result most_table_urns inv.1 (omega (arith, w)) k,
+      λ r. let h : y < 8 = omega (arith, wide2, r.1 _ loop-test) in let v = inv.2 r in (
+        slot-once signal category slots i m x y wide wide2 h v.1 v.0 if2,
+        slot-put signal category slots i m x y wide wide2 h v.1 _ w k,
       ),
-      slots-put signal category m c.args.slots.now i slots inv.4 loop-test x y wide.0 wide2.0 (omega (arith, if1)) if2 w,
+      slots-put signal category m c.args.slots.now i slots inv.3 loop-test x y wide wide2 (omega (arith, if1)) if2 w,
     )
 
-pub returns-else-slots-k-eq0 : goal.returns-else-slots-k-eq0
-returns-else-slots-k-eq0 c = let category = c.args.category.now in let m = c.args.m in let signal = c.args.signal.now in
-    let wide2 = c.wide-in-loop-i.ensures in let wide2-result = c.wide-in-loop-i.result in
-    let wide = c.wide.ensures in
-    let wide-result = c.wide.result in
+pub returns-then-slots-k-ne0 : goal.returns-then-slots-k-ne0
+returns-then-slots-k-ne0 c = let category = c.args.category.now in let m = c.args.m in let signal = c.args.signal.now in
+    let wide2 = c.from-in-loop-i.ensures in let wide2-result = c.from-in-loop-i.result in
+    let wide = c.from.ensures in
+    let wide-result = c.from.result in
     let loop-test = c.loop-i-test.true in
     let i = c.loop-i.i in
     let inv = c.loop-i.invariant in
     let slots = c.loop-i.slots in record {
-      value = λ r. let h : wide2-result < 8 = omega (arith, wide2.0, r.1 _ loop-test) in
-          slot_twice signal category slots i m _ _ wide.0 wide2.0 h (inv.3 r).1 loop-test c.if-slots-k-eq0.false;
+      value = λ r. let h : wide2-result < 8 = omega (arith, wide2, r.1 _ loop-test) in
+          slot_twice signal category slots i m _ _ wide wide2 h (inv.2 r).1 loop-test c.if-slots-k-ne0.true;
       filled = λ r e. absurd (false≢true e);
-      few = inv.2;
-      all = slots-taken signal category m c.args.slots.now i slots inv.4 loop-test wide-result wide2-result wide.0 wide2.0
-          (omega (arith, c.if-k-gt-LAST_SLOT.false)) c.if-slots-k-eq0.false;
+      few = inv.1;
+      all = slots-taken signal category m c.args.slots.now i slots inv.3 loop-test wide-result wide2-result wide wide2
+          (omega (arith, c.if-k-gt-LAST_SLOT.false)) c.if-slots-k-ne0.true;
     }
 
 pub returns : goal.returns
 returns c = let i = c.loop-i.i in let inv = c.loop-i.invariant in let category = c.args.category.now in
     let m = c.args.m in let signal = c.args.signal.now in
-    let e : i ≡ m = omega arith in record { value = λ r. two_ends _ _ _ _ (inv.3 r).0 inv.0 c.loop-i-test.false; filled = λ r _ s k h. (inv.3 r).1 s k h ∙ ap (slot_in (key_at signal category) s k) e; few = inv.2; all = slots-all signal category m c.args.slots.now i c.loop-i.slots inv.4 c.loop-i-test.false }
+    let e : i ≡ m = omega arith in record { value = λ r. two_ends _ _ _ _ (inv.2 r).0 (omega arith) c.loop-i-test.false; filled = λ r _ s k h. (inv.2 r).1 s k h ∙ ap (slot_in (key_at signal category) s k) e; few = inv.1; all = slots-all signal category m c.args.slots.now i c.loop-i.slots inv.3 c.loop-i-test.false }

@@ -10,10 +10,7 @@ use Rattle.table_places.specs.Filled.{slots_from}
 use Rattle.table_places.proofs.signals.fill_slots.Given as goal
 
 abbrev pub invariant-loop-i : goal.invariant-loop-i
-invariant-loop-i l = (l.i ≤ l.m) × (length l.slots ≡ most_table_urns) × ((j : ℕ) → get_or l.slots j 0 ≤ most_table_urns)
+invariant-loop-i l = (length l.slots ≡ most_table_urns) × ((j : ℕ) → get_or l.slots j 0 ≤ most_table_urns)
     × (InRange l.signal l.category l.m → (no_two same_key (tabulate (key_at l.signal l.category) l.i) ≡ true)
     × ((s c : ℕ) → c < 8 → get_or l.slots (8 * s + c) 0 ≡ slot_in (key_at l.signal l.category) s c l.i))
     × (slots_from l.signal l.category 0 l.m l.initial.slots ≡ slots_from l.signal l.category l.i (l.m - l.i) l.slots)
-
-abbrev pub decreases-loop-i : goal.decreases-loop-i
-decreases-loop-i l = l.m - l.i
