@@ -94,6 +94,7 @@ pub(crate) fn common_taken<T: Taking>(p: &[u8], w: &[u8], from: usize) -> usize
     ensures { result ≡ from + common (drop from p.now) (drop from (map T.taken w.now)) }
 {
     let n = p.len().min(w.len());
+    // Two texts in steps of eight from a place that may be past their end: no chain over them is plainer.
     let mut i = from;
     while i < n && 8 <= n - i && word_at::<AsIs>(p, i) == word_at::<T>(w, i) {
         i += 8;

@@ -47,6 +47,7 @@ impl Cursor {
         requires { (class < 5) × Classes classes.now }
         ensures { run_at (in_class class) s.now self.at ≡ run_at (in_class class) s.now result.at }
     {
+        // The cursor itself goes on: it may stand past the end, where no slice begins for a chain to go over.
         let mut c = self;
         while c.at < s.len() && 4 <= s.len() - c.at && c.four(classes, s, class) {
             c.at += 4;
