@@ -1,7 +1,7 @@
 // What a URI is to a table: the deepest node that is its URN or above it.
 //
-// In: a table's bytes, arrays that hold its names and nodes, a URI. Out: skipped, or used, with category, node, whether it is that
-// whole node, and the bytes compared to find it.
+// In: a table's bytes, the table as it was decoded, a URI. Out: nothing if it is skipped, or its category, its node, whether it
+// is that whole node, and the bytes compared to find it.
 //
 //   decoded.rt  a decoded table, which the search goes by
 //   uses.rt     the search

@@ -1,7 +1,7 @@
 // The step of direct resolution, on the numbers of nodes and signals.
 //
-// In: arrays that hold the signals' places and the nodes' parents, a state, and what is said: a category, a node or the root, and
-// whether that is all of it. Out: the next state.
+// In: a decoded table, a state, and what is said: a category, a node or the root, and whether that is all of it. Out: the next
+// state.
 //
 //   lib.rt     the step: which category takes what is said, the search for a signal, and the state after it
 //   tries.rt   the step with the candidates that it tries
