@@ -168,8 +168,7 @@ module _ (t cats parents at len : List ℕ) (n : ℕ) (ns : List Urn) (N : Nodes
             subst (λ (z : List Urn). AddedTo t (set cats n c) (set parents n q) (set at n a) (set len n l) (n + 1) z c p (Some (record {
               node = n + 1;
               new = true;
-            }))) (sym new)
-            (
+            }))) (sym new) (
               record {
                 held = held;
                 parent = parent;

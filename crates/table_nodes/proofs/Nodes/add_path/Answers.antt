@@ -49,8 +49,9 @@ add-requires-in-loop-i c = (
 pub returns-in_err-r-2-clause-adds_path : goal.returns-in_err-r-2-clause-adds_path
 returns-in_err-r-2-clause-adds_path c = let w = c.part-w.result.now in
     let b : c.if-r.new ≡ (c.loop-i.r.new || eqb (c.loop-i.i + 1 + c.find.result) (length w)) = elim c.if-r.branch [
-      then-r x ↦ rw (x.new-is, x.if-r.true)
-      | else-r x ↦ rw (x.new-is, x.if-r.false) ] in
+      | then-r x ↦ rw (x.new-is, x.if-r.true)
+      | else-r x ↦ rw (x.new-is, x.if-r.false)
+    ] in
     rw c.from_residual-in_err-r-2.ensures
     (λ us N m. let ns = foldl add_urn [] us in
     path-over _ w c.args.c _ _ c.part-w.ensures ns c.add-in-loop-i.new.self.category c.add-in-loop-i.new.self.parent c.add-in-loop-i.new.self.at
@@ -65,8 +66,9 @@ loop-i-smaller c = omega (arith, next_le c.part-w.result.now c.loop-i.i c.find.r
 pub loop-i-preserved : goal.loop-i-preserved
 loop-i-preserved c = let w = c.part-w.result.now in
     let b : c.if-r.new ≡ (c.loop-i.r.new || eqb (c.loop-i.i + 1 + c.find.result) (length w)) = elim c.if-r.branch [
-      then-r x ↦ rw (x.new-is, x.if-r.true)
-      | else-r x ↦ rw (x.new-is, x.if-r.false) ] in (
+      | then-r x ↦ rw (x.new-is, x.if-r.true)
+      | else-r x ↦ rw (x.new-is, x.if-r.false)
+    ] in (
       next_le w c.loop-i.i c.find.result c.find.ensures c.loop-i-test.true,
       colon-next w c.loop-i.i c.find.result c.find.ensures,
       c.in_ok-r-2.ensures.few.0,
