@@ -1,11 +1,10 @@
 use native.Mathlib.Omega.{arith}
-use mathlib.Core.Path.{◌≡◌, refl, ap, sym, ◌∙◌}
+use mathlib.Core.Path.{◌≡◌, refl, ap}
 use mathlib.Core.Bool.{◌||◌}
 use mathlib.Core.List.{[], foldl}
 use lib.ListN.{length, drop, length-take}
 use lib.Dec.{eqb}
-use Prim.Native.Nat.{◌+◌, ◌≤◌}
-use Rattle.std.specs.Prelude.{None, Some}
+use Prim.Native.Nat.{◌+◌}
 use Rattle.base_lists.proofs.Cuts.{up_to-le}
 use Rattle.theory_resolution.specs.Nodes.{add_urn}
 use Rattle.table_nodes.proofs.NodeArrays.{path-start, path-more, path-over, path-end, colon-start, colon-next, next_le}

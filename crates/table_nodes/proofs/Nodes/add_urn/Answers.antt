@@ -1,4 +1,3 @@
-use native.Mathlib.Omega.{arith}
 use mathlib.Core.Path.{sym, ap, ◌∙◌, refl}
 use mathlib.Core.List.{foldl, []}
 use Rattle.base_lists.specs.Lists.{tabulate}
