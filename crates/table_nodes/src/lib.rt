@@ -141,7 +141,7 @@ impl Nodes {
 
 // The nodes of all URNs, and each URN's node: how many nodes there are, or none if there are more than 64.
 // Promised for at most 256 URNs and arrays that are lent clear, so that nothing stands past the nodes. For more URNs and for other
-// arrays all is left open, and so is what the arrays hold where none is answered.
+// arrays all is left open, and so is what the arrays hold where none is answered. They are lent singly (a), as the clause has them.
 pub fn add_all(
     t: &[u8],
     m: usize,
