@@ -95,13 +95,13 @@ module _ (t cats parents at len : List ℕ) (n : ℕ) (ns : List Urn) (N : Nodes
     on : r ≡ number ns c p
     on = e ∙ ap (λ (l : List Urn). number l c p) N.held
 
-    pub found : 0 < r → AddedTo t cats parents at len ns c p (Some (record { node = r; count = n; new = false }))
+    pub found : 0 < r → AddedTo t cats parents at len n ns c p (Some (record { node = r; new = false }))
     found h = (N, node-number ns c p on h)
 
-    pub found_add : 0 < r → AddedTo t cats parents at len (add_by same_urn ns (urn c p)) c p (Some (record { node = r; count = n; new = false }))
+    pub found_add : 0 < r → AddedTo t cats parents at len n (add_by same_urn ns (urn c p)) c p (Some (record { node = r; new = false }))
     found_add h =
         let m : is_node ns c p ≡ true = some-node ns c p (omega (arith, on)) in
-        subst (λ (l : List Urn). AddedTo t cats parents at len l c p (Some (record { node = r; count = n; new = false }))) (sym (rw m)) (found h)
+        subst (λ (l : List Urn). AddedTo t cats parents at len n l c p (Some (record { node = r; new = false }))) (sym (rw m)) (found h)
 
     pub none_of : r ≡ 0 → is_node ns c p ≡ false
     none_of z = no-node ns c p (omega (arith, on))
@@ -110,7 +110,7 @@ module _ (t cats parents at len : List ℕ) (n : ℕ) (ns : List Urn) (N : Nodes
       new : add_by same_urn ns (urn c p) ≡ ns ++ urn c p ∷ []
       new = let m : is_node ns c p ≡ false = no-node ns c p (sym on ∙ z) in rw m
 
-      pub full : most_nodes ≤ n → AddedTo t cats parents at len (add_by same_urn ns (urn c p)) c p None
+      pub full : most_nodes ≤ n → AddedTo t cats parents at len n (add_by same_urn ns (urn c p)) c p None
       full h = omega (arith, ap length new, length-append ns (urn c p ∷ []), count)
 
       module _ (h : n < most_nodes) (a l q : ℕ) (g : fields 58 (take l (drop a t)) ≡ p) (u : Parts) (x : Name) (j : p ≡ u ++ x ∷ [])
@@ -162,15 +162,13 @@ module _ (t cats parents at len : List ℕ) (n : ℕ) (ns : List Urn) (N : Nodes
         parent : (k : ℕ) → k < n + 1 → Parent k
         parent k i = by_test (eqb k n) (λ b. subst Parent (sym (eqb-true k n b)) parent-end) (λ b. let y = eqb-false k n b in parent-before k (omega arith))
 
-        pub put : AddedTo t (set cats n c) (set parents n q) (set at n a) (set len n l) (add_by same_urn ns (urn c p)) c p
-            (Some (record { node = n + 1; count = n + 1; new = true }))
+        pub put : AddedTo t (set cats n c) (set parents n q) (set at n a) (set len n l) (n + 1) (add_by same_urn ns (urn c p)) c p
+            (Some (record { node = n + 1; new = true }))
         put =
-            subst (λ (z : List Urn). AddedTo t (set cats n c) (set parents n q) (set at n a) (set len n l) z c p (Some (record {
+            subst (λ (z : List Urn). AddedTo t (set cats n c) (set parents n q) (set at n a) (set len n l) (n + 1) z c p (Some (record {
               node = n + 1;
-              count = n + 1;
               new = true;
-            }))) (sym new)
-            (
+            }))) (sym new) (
               record {
                 held = held;
                 parent = parent;
@@ -194,8 +192,8 @@ looked t cats parents at len n ns N c r e f h =
 pub put-by : (t cats parents at len : List ℕ) (n : ℕ) (ns : List Urn) (N : Nodes t cats parents at len n ns) (c from k : ℕ) {r q₁ q a l : ℕ}
     → r ≡ number (tabulate (node_urn t cats at len) n) c (fields 58 (take k (drop from t))) → r ≡ 0 → n < most_nodes → q₁ ≡ q → a ≡ from → l ≡ k
     → (u : Parts) (x : Name) → fields 58 (take k (drop from t)) ≡ u ++ x ∷ [] → Numbered ns c u q
-    → AddedTo t (set cats n c) (set parents n q₁) (set at n a) (set len n l) (add_by same_urn ns (urn c (fields 58 (take k (drop from t)))))
-    c (fields 58 (take k (drop from t))) (Some (record { node = n + 1; count = n + 1; new = true }))
+    → AddedTo t (set cats n c) (set parents n q₁) (set at n a) (set len n l) (n + 1) (add_by same_urn ns (urn c (fields 58 (take k (drop from t)))))
+    c (fields 58 (take k (drop from t))) (Some (record { node = n + 1; new = true }))
 put-by t cats parents at len n ns N c from k {r} {q₁} {q} {a} {l} e z h f g i u x j o =
     put t cats parents at len n ns N c (fields 58 (take k (drop from t))) r e z h a l q₁ (ap₂ (λ a l. fields 58 (take l (drop a t))) g i) u x j
     (subst (λ (y : ℕ). Numbered ns c u y) (sym f) o)
@@ -226,10 +224,10 @@ front t w from k i e h =
 
 -- the prefixes of w that end in its first i bytes have been added to ns; if the last is new there is nothing under it, and w is no node
 -- while there is more to come
-pub record PathDone (t w : List ℕ) (c : ℕ) (ns : List Urn) (cats parents at len : List ℕ) (i : ℕ) (r : Option Added) : Type 0 where
+pub record PathDone (t w : List ℕ) (c : ℕ) (ns : List Urn) (cats parents at len : List ℕ) (n i : ℕ) (r : Option Added) : Type 0 where
   pub us : List Urn
   pub so_far : add_urn ns (urn c (fields 58 w)) ≡ foldl (adder c) (foldl add_urn [] us) (coming w i)
-  pub added : AddedTo t cats parents at len (foldl add_urn [] us) c (fields 58 (take i w)) r
+  pub added : AddedTo t cats parents at len n (foldl add_urn [] us) c (fields 58 (take i w)) r
   pub none-under : added_new r ≡ true → (x : Name) → is_node (foldl add_urn [] us) c (fields 58 (take i w) ++ x ∷ []) ≡ false
   pub none_yet : i < length w → is_node (foldl add_urn [] us) c (fields 58 w) ≡ false
 
@@ -258,11 +256,11 @@ module _ (w : List ℕ) (i j : ℕ) (d : j ≡ length (up_to 58 (take (length w 
       sym (get_or-drop (i + 1) w j 0) ∙ rw q (up_to-stop 58 (drop (i + 1) w) l)
 
 module _ (t w : List ℕ) (c from k : ℕ) (y : w ≡ take k (drop from t)) where
-  pub path-start : {cats parents at len cats₁ parents₁ at₁ len₁ : List ℕ} (us : List Urn) (n i : ℕ) {r : Option Added} {new : Bool} → i ≡ length (up_to 58 w)
-      → new ≡ eqb i (length w) → AddsNode t c from i 0 n new cats parents at len cats₁ parents₁ at₁ len₁ r
+  pub path-start : {cats parents at len cats₁ parents₁ at₁ len₁ : List ℕ} (us : List Urn) (n i : ℕ) {n₁ : ℕ} {r : Option Added} {new : Bool} → i ≡ length (up_to 58 w)
+      → new ≡ eqb i (length w) → AddsNode t c from i 0 n new cats parents at len cats₁ parents₁ at₁ len₁ n₁ r
       → Nodes t cats parents at len n (foldl add_urn [] us)
-      → is_node (foldl add_urn [] us) c (fields 58 (take k (drop from t))) ≡ false → PathDone t w c (foldl add_urn [] us) cats₁ parents₁ at₁ len₁ i r
-  path-start {cats} {parents} {at} {len} {cats₁} {parents₁} {at₁} {len₁} us n i {r} {new} e b A N m =
+      → is_node (foldl add_urn [] us) c (fields 58 (take k (drop from t))) ≡ false → PathDone t w c (foldl add_urn [] us) cats₁ parents₁ at₁ len₁ n₁ i r
+  path-start {cats} {parents} {at} {len} {cats₁} {parents₁} {at₁} {len₁} us n i {n₁} {r} {new} e b A N m =
       let h : i ≤ length w = omega (arith, e, up_to-le 58 w) in
       let f : take i w ≡ take i (drop from t) = front t w from k i y h in
       let g : fields 58 (take i w) ≡ up_to 58 w ∷ [] = rw (e, up_to-take 58 w) (fields-up_to 58 w) in
@@ -275,8 +273,8 @@ module _ (t w : List ℕ) (c from k : ℕ) (y : w ≡ take k (drop from t)) wher
       record {
         us = us ++ urn c (fields 58 (take i w)) ∷ [];
         so_far = ap (foldl (adder c) (foldl add_urn [] us)) s ∙ ap (λ (l : List Urn). foldl (adder c) l (coming w i)) one;
-        added = subst (λ (l : List Urn). AddedTo t cats₁ parents₁ at₁ len₁ l c (fields 58 (take i w)) r) one
-            (subst (λ (z : List ℕ). AddedTo t cats₁ parents₁ at₁ len₁ (add_by same_urn (foldl add_urn [] us) (urn c (fields 58 z))) c
+        added = subst (λ (l : List Urn). AddedTo t cats₁ parents₁ at₁ len₁ n₁ l c (fields 58 (take i w)) r) one
+            (subst (λ (z : List ℕ). AddedTo t cats₁ parents₁ at₁ len₁ n₁ (add_by same_urn (foldl add_urn [] us) (urn c (fields 58 z))) c
             (fields 58 z) r) (sym f) B.0);
         none-under = λ z x. subst (λ (l : List Urn). is_node l c (fields 58 (take i w) ++ x ∷ []) ≡ false) one
             (bare us c (fields 58 (take i w)) (λ q. omega (arith, ap length q, ap length g))
@@ -286,15 +284,15 @@ module _ (t w : List ℕ) (c from k : ℕ) (y : w ≡ take k (drop from t)) wher
             (longer-other (fields 58 (take i w)) (fields 58 w) (front-shorter w i l (colon-start w i e l))));
       }
 
-  module _ (ns : List Urn) {cats parents at len : List ℕ} (i : ℕ) (r : Added) (D : PathDone t w c ns cats parents at len i (Some r)) where
+  module _ (ns : List Urn) {cats parents at len : List ℕ} (n i : ℕ) (r : Added) (D : PathDone t w c ns cats parents at len n i (Some r)) where
     abbrev ds : List Urn
     ds = foldl add_urn [] D.us
 
-    pub path-more : {cats₁ parents₁ at₁ len₁ : List ℕ} (j : ℕ) {r₁ : Option Added} {new : Bool} → i < length w → get_or w i 0 ≡ 58
+    pub path-more : {cats₁ parents₁ at₁ len₁ : List ℕ} (j : ℕ) {n₁ : ℕ} {r₁ : Option Added} {new : Bool} → i < length w → get_or w i 0 ≡ 58
         → j ≡ length (up_to 58 (take (length w - (i + 1)) (drop (i + 1) w))) → new ≡ (r.new || eqb (i + 1 + j) (length w))
-        → AddsNode t c from (i + 1 + j) r.node r.count new cats parents at len cats₁ parents₁ at₁ len₁ r₁
-        → PathDone t w c ns cats₁ parents₁ at₁ len₁ (i + 1 + j) r₁
-    path-more {cats₁} {parents₁} {at₁} {len₁} j {r₁} {new} h e d b A =
+        → AddsNode t c from (i + 1 + j) r.node n new cats parents at len cats₁ parents₁ at₁ len₁ n₁ r₁
+        → PathDone t w c ns cats₁ parents₁ at₁ len₁ n₁ (i + 1 + j) r₁
+    path-more {cats₁} {parents₁} {at₁} {len₁} j {n₁} {r₁} {new} h e d b A =
         let q : j ≡ length (up_to 58 (drop (i + 1) w)) = rw part_end at d in
         let l : i + 1 + j ≤ length w = omega (arith, q, up_to-le 58 (drop (i + 1) w), length-drop (i + 1) w) in
         let f : take (i + 1 + j) w ≡ take (i + 1 + j) (drop from t) = front t w from k (i + 1 + j) y l in
@@ -313,8 +311,8 @@ module _ (t w : List ℕ) (c from k : ℕ) (y : w ≡ take k (drop from t)) wher
         record {
           us = D.us ++ urn c (fields 58 (take (i + 1 + j) w)) ∷ [];
           so_far = D.so_far ∙ ap (foldl (adder c) ds) (coming-more w i j h e q) ∙ ap (λ (l : List Urn). foldl (adder c) l (coming w (i + 1 + j))) one;
-          added = subst (λ (l : List Urn). AddedTo t cats₁ parents₁ at₁ len₁ l c (fields 58 (take (i + 1 + j) w)) r₁) one
-              (subst (λ (z : List ℕ). AddedTo t cats₁ parents₁ at₁ len₁ (add_by same_urn ds (urn c (fields 58 z))) c (fields 58 z) r₁) (sym f) B.0);
+          added = subst (λ (l : List Urn). AddedTo t cats₁ parents₁ at₁ len₁ n₁ l c (fields 58 (take (i + 1 + j) w)) r₁) one
+              (subst (λ (z : List ℕ). AddedTo t cats₁ parents₁ at₁ len₁ n₁ (add_by same_urn ds (urn c (fields 58 z))) c (fields 58 z) r₁) (sym f) B.0);
           none-under = λ v x. subst (λ (l : List Urn). is_node l c (fields 58 (take (i + 1 + j) w) ++ x ∷ []) ≡ false) one
               (bare D.us c (fields 58 (take (i + 1 + j) w)) (λ p. omega (
                 arith,
@@ -329,41 +327,41 @@ module _ (t w : List ℕ) (c from k : ℕ) (y : w ≡ take k (drop from t)) wher
         }
 
     pub path-end : length w ≤ i
-        → AddedTo t cats parents at len (add_urn ns (urn c (fields 58 (take k (drop from t))))) c (fields 58 (take k (drop from t))) (Some r)
+        → AddedTo t cats parents at len n (add_urn ns (urn c (fields 58 (take k (drop from t))))) c (fields 58 (take k (drop from t))) (Some r)
     path-end h =
         let e : add_urn ns (urn c (fields 58 w)) ≡ ds = D.so_far ∙ ap (foldl (adder c) ds) (coming-end w i h) in
         let f : take i w ≡ w = take_all i w h in
-        subst (λ (z : List ℕ). AddedTo t cats parents at len (add_urn ns (urn c (fields 58 z))) c (fields 58 z) (Some r)) y
-        (subst (λ (l : List Urn). AddedTo t cats parents at len l c (fields 58 w) (Some r)) (sym e)
-        (subst (λ (z : List ℕ). AddedTo t cats parents at len ds c (fields 58 z) (Some r)) f D.added))
+        subst (λ (z : List ℕ). AddedTo t cats parents at len n (add_urn ns (urn c (fields 58 z))) c (fields 58 z) (Some r)) y
+        (subst (λ (l : List Urn). AddedTo t cats parents at len n l c (fields 58 w) (Some r)) (sym e)
+        (subst (λ (z : List ℕ). AddedTo t cats parents at len n ds c (fields 58 z) (Some r)) f D.added))
 
   -- there was no room for a prefix
-  pub path-over : (ns : List Urn) (cats parents at len : List ℕ) (i : ℕ) → PathDone t w c ns cats parents at len i None
+  pub path-over : (ns : List Urn) (cats parents at len : List ℕ) (n i : ℕ) → PathDone t w c ns cats parents at len n i None
       → most_nodes < length (add_urn ns (urn c (fields 58 (take k (drop from t)))))
-  path-over ns cats parents at len i D =
+  path-over ns cats parents at len n i D =
       subst (λ (z : List ℕ). most_nodes < length (add_urn ns (urn c (fields 58 z)))) y
       (omega (arith, D.added, extends-le (adds-extend c (coming w i) (foldl add_urn [] D.us)), ap length D.so_far))
 
 pub whole-found : (t cats parents at len : List ℕ) (n : ℕ) (us : List Urn) → Nodes t cats parents at len n (foldl add_urn [] us) → (c : ℕ) (p : Parts) (r : ℕ)
-    → r ≡ number (tabulate (node_urn t cats at len) n) c p → 0 < r → AddedTo t cats parents at len (add_urn (foldl add_urn [] us) (urn c p)) c
-    p (Some (record { node = r; count = n; new = false }))
+    → r ≡ number (tabulate (node_urn t cats at len) n) c p → 0 < r → AddedTo t cats parents at len n (add_urn (foldl add_urn [] us) (urn c p)) c
+    p (Some (record { node = r; new = false }))
 whole-found t cats parents at len n us N c p r e h =
     let f : r ≡ number (foldl add_urn [] us) c p = e ∙ ap (λ (l : List Urn). number l c p) N.held in
     let m : is_node (foldl add_urn [] us) c p ≡ true = some-node (foldl add_urn [] us) c p (omega (arith, f)) in
-    subst (λ (l : List Urn). AddedTo t cats parents at len l c p (Some (record { node = r; count = n; new = false }))) (sym (closed us c p m))
+    subst (λ (l : List Urn). AddedTo t cats parents at len n l c p (Some (record { node = r; new = false }))) (sym (closed us c p m))
     (found t cats parents at len n (foldl add_urn [] us) N c p r e h)
 
 -- all URNs
 fold_more : (f : ℕ → Urn) (i : ℕ) → foldl add_urn [] (tabulate f (i + 1)) ≡ add_urn (foldl add_urn [] (tabulate f i)) (f i)
 fold_more f i = ap (foldl add_urn []) (tab-suc f i) ∙ foldl-append add_urn [] (tabulate f i) (f i ∷ [])
 
-module _ (t : List ℕ) (f : ℕ → Urn) (i : ℕ) (cats parents at len : List ℕ) (c : ℕ) (p : Parts) (e : urn c p ≡ f i) where
-  one-more : (r : Option Added) → AddedTo t cats parents at len (add_urn (foldl add_urn [] (tabulate f i)) (urn c p)) c p r
-      → AddedTo t cats parents at len (foldl add_urn [] (tabulate f (i + 1))) (f i).cat (f i).path r
-  one-more r A = subst (λ (l : List Urn). AddedTo t cats parents at len l (f i).cat (f i).path r) (sym (fold_more f i))
-      (subst (λ (u : Urn). AddedTo t cats parents at len (add_urn (foldl add_urn [] (tabulate f i)) u) u.cat u.path r) e A)
+module _ (t : List ℕ) (f : ℕ → Urn) (i : ℕ) (cats parents at len : List ℕ) (n c : ℕ) (p : Parts) (e : urn c p ≡ f i) where
+  one-more : (r : Option Added) → AddedTo t cats parents at len n (add_urn (foldl add_urn [] (tabulate f i)) (urn c p)) c p r
+      → AddedTo t cats parents at len n (foldl add_urn [] (tabulate f (i + 1))) (f i).cat (f i).path r
+  one-more r A = subst (λ (l : List Urn). AddedTo t cats parents at len n l (f i).cat (f i).path r) (sym (fold_more f i))
+      (subst (λ (u : Urn). AddedTo t cats parents at len n (add_urn (foldl add_urn [] (tabulate f i)) u) u.cat u.path r) e A)
 
-  pub all-over : (m : ℕ) → i < m → AddedTo t cats parents at len (add_urn (foldl add_urn [] (tabulate f i)) (urn c p)) c p None
+  pub all-over : (m : ℕ) → i < m → AddedTo t cats parents at len n (add_urn (foldl add_urn [] (tabulate f i)) (urn c p)) c p None
       → most_nodes < length (foldl add_urn [] (tabulate f m))
   all-over m h A =
       let s = tab-split f i m h in
@@ -371,10 +369,10 @@ module _ (t : List ℕ) (f : ℕ → Urn) (i : ℕ) (cats parents at len : List 
       ap (foldl add_urn []) s.1 ∙ foldl-append add_urn [] (tabulate f i) (f i ∷ s.0) ∙ ap (λ (l : List Urn). foldl add_urn l s.0) (sym (fold_more f i)) in
       omega (arith, one-more None A, extends-le (urns-extend s.0 (foldl add_urn [] (tabulate f (i + 1)))), ap length x)
 
-  module _ (r : Added) (A : AddedTo t cats parents at len (add_urn (foldl add_urn [] (tabulate f i)) (urn c p)) c p (Some r)) (node : List ℕ)
+  module _ (r : Added) (A : AddedTo t cats parents at len n (add_urn (foldl add_urn [] (tabulate f i)) (urn c p)) c p (Some r)) (node : List ℕ)
       (v : (j : ℕ) → j < i → Numbered (foldl add_urn [] (tabulate f i)) (f j).cat (f j).path (get_or node j 0))
       (h : i < length node) {w : ℕ} (g : w ≡ r.node) where
-    pub all-nodes : Nodes t cats parents at len r.count (foldl add_urn [] (tabulate f (i + 1)))
+    pub all-nodes : Nodes t cats parents at len n (foldl add_urn [] (tabulate f (i + 1)))
     all-nodes = (one-more (Some r) A).0
 
     grows : Extends (foldl add_urn [] (tabulate f i)) (foldl add_urn [] (tabulate f (i + 1)))

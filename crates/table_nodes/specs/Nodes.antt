@@ -37,14 +37,14 @@ abbrev pub found_at_most : ℕ → Option ℕ → Type 0
 found_at_most n None = Unit {0}
 found_at_most n (Some m) = m ≤ n
 
--- the nodes have become `new`, and the path p of category c is one of them; or there are too many
-abbrev pub AddedTo : (t cats parents at len : List ℕ) → List Urn → ℕ → Parts → Option Added → Type 0
-AddedTo t cats parents at len new c p None = most_nodes < length new
-AddedTo t cats parents at len new c p (Some r) = Nodes t cats parents at len r.count new × Numbered new c p r.node
+-- the nodes have become `new`, n in number, and the path p of category c is one of them; or there are too many
+abbrev pub AddedTo : (t cats parents at len : List ℕ) (n : ℕ) → List Urn → ℕ → Parts → Option Added → Type 0
+AddedTo t cats parents at len n new c p None = most_nodes < length new
+AddedTo t cats parents at len n new c p (Some r) = Nodes t cats parents at len n new × Numbered new c p r.node
 
 abbrev pub few_added : Option Added → Type 0
 few_added None = Unit {0}
-few_added (Some r) = (r.node ≤ most_nodes) × (r.count ≤ most_nodes)
+few_added (Some r) = r.node ≤ most_nodes
 
 -- a node was added that was none before
 abbrev pub added_new : Option Added → Bool
@@ -53,24 +53,24 @@ added_new (Some r) = r.new
 
 -- what adding a node promises, whatever nodes the arrays held: the path in k bytes is put under the node `parent`; it is called new only
 -- where it was no node
-abbrev pub AddsNode : (t : List ℕ) (c from k parent n : ℕ) (new : Bool) (cats parents at len cats₁ parents₁ at₁ len₁ : List ℕ) → Option Added → Type 0
-AddsNode t c from k parent n new cats parents at len cats₁ parents₁ at₁ len₁ r =
+abbrev pub AddsNode : (t : List ℕ) (c from k parent n : ℕ) (new : Bool) (cats parents at len cats₁ parents₁ at₁ len₁ : List ℕ) (n₁ : ℕ) → Option Added → Type 0
+AddsNode t c from k parent n new cats parents at len cats₁ parents₁ at₁ len₁ n₁ r =
     (ns : List Urn) (p : Parts) (x : Name) → Nodes t cats parents at len n ns → fields 58 (take k (drop from t)) ≡ p ++ x ∷ [] → Numbered ns c p parent
     → (new ≡ true → is_node ns c (fields 58 (take k (drop from t))) ≡ false)
-    → AddedTo t cats₁ parents₁ at₁ len₁ (add_by same_urn ns (urn c (fields 58 (take k (drop from t))))) c (fields 58 (take k (drop from t))) r
+    → AddedTo t cats₁ parents₁ at₁ len₁ n₁ (add_by same_urn ns (urn c (fields 58 (take k (drop from t))))) c (fields 58 (take k (drop from t))) r
     × (added_new r ≡ true → is_node ns c (fields 58 (take k (drop from t))) ≡ false)
 
 -- what adding a path that is no node, with its ancestors, to the nodes of URNs promises
-abbrev pub AddsPath : (t : List ℕ) (c from k n : ℕ) (cats parents at len cats₁ parents₁ at₁ len₁ : List ℕ) → Option Added → Type 0
-AddsPath t c from k n cats parents at len cats₁ parents₁ at₁ len₁ r =
+abbrev pub AddsPath : (t : List ℕ) (c from k n : ℕ) (cats parents at len cats₁ parents₁ at₁ len₁ : List ℕ) (n₁ : ℕ) → Option Added → Type 0
+AddsPath t c from k n cats parents at len cats₁ parents₁ at₁ len₁ n₁ r =
     (us : List Urn) → Nodes t cats parents at len n (foldl add_urn [] us) → is_node (foldl add_urn [] us) c (fields 58 (take k (drop from t))) ≡ false
-    → AddedTo t cats₁ parents₁ at₁ len₁ (add_urn (foldl add_urn [] us) (urn c (fields 58 (take k (drop from t))))) c (fields 58 (take k (drop from t))) r
+    → AddedTo t cats₁ parents₁ at₁ len₁ n₁ (add_urn (foldl add_urn [] us) (urn c (fields 58 (take k (drop from t))))) c (fields 58 (take k (drop from t))) r
 
 -- what adding a URN to the nodes of others promises
-abbrev pub AddsUrn : (t : List ℕ) (c from k n : ℕ) (cats parents at len cats₁ parents₁ at₁ len₁ : List ℕ) → Option Added → Type 0
-AddsUrn t c from k n cats parents at len cats₁ parents₁ at₁ len₁ r =
+abbrev pub AddsUrn : (t : List ℕ) (c from k n : ℕ) (cats parents at len cats₁ parents₁ at₁ len₁ : List ℕ) (n₁ : ℕ) → Option Added → Type 0
+AddsUrn t c from k n cats parents at len cats₁ parents₁ at₁ len₁ n₁ r =
     (us : List Urn) → Nodes t cats parents at len n (foldl add_urn [] us)
-    → AddedTo t cats₁ parents₁ at₁ len₁ (add_urn (foldl add_urn [] us) (urn c (fields 58 (take k (drop from t))))) c (fields 58 (take k (drop from t))) r
+    → AddedTo t cats₁ parents₁ at₁ len₁ n₁ (add_urn (foldl add_urn [] us) (urn c (fields 58 (take k (drop from t))))) c (fields 58 (take k (drop from t))) r
 
 -- the n nodes of m URNs, and the number of each URN's node
 pub record AddedAll (t : List ℕ) (f : ℕ → Urn) (m : ℕ) (node cats parents at len : List ℕ) (n : ℕ) : Type 0 where

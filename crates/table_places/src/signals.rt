@@ -10,6 +10,7 @@ use base_bytes::numbers::short;
 use base_numbers::{LAST_SLOT, MOST_TABLE_URNS};
 
 // One more than the number of the URN of a signal and category, at 8 * signal + category; false if a signal has two of one.
+// 0 says that there is none, and no Option does (a): the clause `value` of `by_texts` speaks of such slots.
 pub(crate) fn fill_slots(
     m: usize,
     signal: &[u8; MOST_TABLE_URNS],

@@ -62,7 +62,7 @@ loop-i-preserved c = let t = c.args.t.now in let the-at = c.args.at.now in let t
       rest-set c.small-in-loop-i.result v.4,
       λ f. let w = v.5 f in let q = c.from.ensures ∙ v.3.same i (omega arith) in
           let o : (c.min-e.result ≤ length x) × (c.find-k.result < length x → c.min-e.result ≡ c.find-k.result + 1)
-              × (length x ≤ c.find-k.result → c.min-e.result ≡ length x) = (omega arith, λ l. omega arith, λ l. omega arith) in
+          × (length x ≤ c.find-k.result → c.min-e.result ≡ length x) = (omega arith, λ l. omega arith, λ l. omega arith) in
           let p = part-inside t c.from.result (get_or the-len i 0) c.min-e.result (u ∙ at-stretch t the-at the-len i q) o.0 f.0 (omega arith) in (
             length-set category i c.small.result ∙ w.0,
             urn-put t names the-at the-len i category at len w.1 (omega (arith, w.0)) (omega (arith, v.0)) (omega (arith, v.1)) d g u

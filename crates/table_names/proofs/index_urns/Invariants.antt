@@ -3,7 +3,6 @@ use Rattle.base_lists.specs.Cuts.{stretch}
 use Rattle.base_lists.specs.Tests.{all}
 use Rattle.base_lists.specs.Lists.{tabulate}
 use Rattle.table_names.proofs.Indexing.{Rest}
-use Prim.Native.Nat.{◌≤◌, ◌-◌}
 use mathlib.Core.Path.{◌≡◌}
 use mathlib.Core.Bool.{true}
 use lib.ListN.{length}

@@ -31,7 +31,7 @@ pub returns-in_err-r : goal.returns-in_err-r
 returns-in_err-r c = let category = c.args.category.now in let t = c.args.t.now in
     let f = node_urn t category c.args.path_at.now c.args.path_len.now in
     rw c.from_residual.ensures
-    (λ _ k. all-over t f c.loop-i.i c.add_urn.new.cats c.add_urn.new.parents c.add_urn.new.at c.add_urn.new.len _ _ (ap₂ (λ x y. urn (get_or category c.loop-i.i 0) (fields 58 (take y (drop x t)))) c.from-from.ensures
+    (λ _ k. all-over t f c.loop-i.i c.add_urn.new.self.category c.add_urn.new.self.parent c.add_urn.new.self.at c.add_urn.new.self.len c.add_urn.new.self.count _ _ (ap₂ (λ x y. urn (get_or category c.loop-i.i 0) (fields 58 (take y (drop x t)))) c.from-from.ensures
     c.from-k.ensures) c.args.m c.loop-i-test.true (c.in_err-r.ensures.adds_urn (tabulate f c.loop-i.i) (c.loop-i.invariant.1 k).1))
 
 pub loop-i-preserved : goal.loop-i-preserved
@@ -43,8 +43,8 @@ loop-i-preserved c = let category = c.args.category.now in let t = c.args.t.now 
       λ k. let v = c.loop-i.invariant.1 k in let A = c.in_ok-r.ensures.adds_urn (tabulate f c.loop-i.i) v.1 in
           let h : c.loop-i.i < length c.loop-i.node = omega (arith, v.0) in (
             length-set c.loop-i.node c.loop-i.i c.small.result ∙ v.0,
-            all-nodes t f c.loop-i.i _ _ _ _ _ _ e c.in_ok-r.r A c.loop-i.node v.2 h g,
-            all-numbered t f c.loop-i.i _ _ _ _ _ _ e c.in_ok-r.r A c.loop-i.node v.2 h g,
+            all-nodes t f c.loop-i.i _ _ _ _ _ _ _ e c.in_ok-r.r A c.loop-i.node v.2 h g,
+            all-numbered t f c.loop-i.i _ _ _ _ _ _ _ e c.in_ok-r.r A c.loop-i.node v.2 h g,
           ),
     )
 

@@ -6,8 +6,9 @@ use Rattle.table_places.proofs.places.same_slot.Goals.{then-x-eq0-via-then-x-eq0
 
 pub returns-then-x-eq0 : goal.returns-then-x-eq0
 returns-then-x-eq0 c = elim c.then-x-eq0.branch [
-    then-x-eq0-via-then-x-eq0 w ↦ slot-first _ _ _ _ _ w.if-x-eq0.true
-    | then-x-eq0-via-else-x-eq0+then-y-eq0 w ↦ slot-second _ _ _ _ _ w.if-x-eq0.false w.if-y-eq0.true ]
+  | then-x-eq0-via-then-x-eq0 w ↦ slot-first _ _ _ _ _ w.if-x-eq0.true
+  | then-x-eq0-via-else-x-eq0+then-y-eq0 w ↦ slot-second _ _ _ _ _ w.if-x-eq0.false w.if-y-eq0.true
+]
 
 pub returns : goal.returns
 returns c = slot-both _ _ _ _ _ c.if-x-eq0.false c.if-y-eq0.false c.same.ensures

@@ -1,16 +1,14 @@
-use Prim.Native.Nat.{ℕ, ◌+◌, ◌*◌}
-use mathlib.Core.Path.{◌≡◌, refl, ◌∙◌, ap₂}
+use Prim.Native.Nat.{ℕ}
+use mathlib.Core.Path.{refl, ◌∙◌}
 use mathlib.Core.Bool.{not}
 use native.Mathlib.Omega.{arith}
-use lib.ListN.{get_or}
-use lib.Dec.{eqb}
 use Rattle.std.proofs.Common.{rules}
 use Rattle.std.proofs.lemmas.Iterator.{YieldsList-from_range}
-use Rattle.std.proofs.lemmas.Iterator.Search.{all_from_yields_List, any_from_yields_List}
+use Rattle.std.proofs.lemmas.Iterator.Search.{all_from_yields_List}
 use Rattle.base_lists.specs.Tests.{any}
 use Rattle.base_lists.specs.Lists.{tabulate}
-use Rattle.table_places.specs.Slots.{same_slots, same_places_at}
-use Rattle.table_sections.proofs.Ranges.{all-range, any-range, none-again}
+use Rattle.table_places.specs.Slots.{same_places_at}
+use Rattle.table_sections.proofs.Ranges.{none-again}
 use Rattle.table_places.proofs.places.texts_distinct.Goals as goal
 
 pub returns : goal.returns
