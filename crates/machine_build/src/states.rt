@@ -15,7 +15,7 @@ use base_numbers::{MOST_STATES, MOST_SYMBOLS, Refusal};
 use machine_symbols::Symbols;
 use machine_symbols::steps::next;
 use node_search::decoded::Decoded;
-use node_step::stored::{Packed, same};
+use node_step::stored::Packed;
 
 // The places of the hash table.
 const SLOTS: usize = 4096;
@@ -46,11 +46,12 @@ struct States {
 
 impl States {
     // State j is one of those that are kept, and it is st.
+    #[tactic(auto, unfolding(node_step::specs::StatusByte::same_packed))]
     fn is(&self, j: usize, st: Packed) -> bool
         requires { self.now.count ≤ most_states }
         ensures { result ≡ (ltb j self.now.count && same_packed (get_or self.now.kept j begin) st) }
     {
-        j < self.count && same(self.kept[j], st)
+        j < self.count && self.kept[j] == st
     }
 
     // The number of st among those that are kept, or how many they are.
@@ -59,7 +60,7 @@ impl States {
         ensures { (l : List Packed) → Kept self.now l → result ≡ index_by same_packed st l }
     {
         for j in 0..self.count {
-            if same(self.kept[j], st) {
+            if self.kept[j] == st {
                 return j;
             }
         }

@@ -38,7 +38,7 @@ fn statuses_formed(d: &Decoded, categories: usize, im: &[u8], i: usize, s: u8, j
 {
     for c in 0..categories {
         let b = byte(im, i + 1 + c);
-        if !fits(&d.rows, &d.parent, &d.inner, &d.category, d.nodes, s, c, b) {
+        if !fits(d, s, c, b) {
             return false;
         }
     }

@@ -19,10 +19,10 @@ ghost use Rattle.machine_check.specs.Checks.{check_by};
 use base_numbers::Refusal;
 use machine_symbols::Symbols;
 use node_search::decoded::Decoded;
-use node_step::stored::{Packed, same};
+use node_step::stored::Packed;
 
 // The image is a right machine of the table with these symbols, or what is wrong with it.
-#[tactic(auto, unfolding(crate::specs::Checks::check_by))]
+#[tactic(auto, unfolding(crate::specs::Checks::check_by, node_step::specs::StatusByte::same_packed))]
 pub fn check_by(d: &Decoded, symbols: &Symbols, im: &[u8]) -> Result<(), Refusal>
     ensures { result ≡ check_by (fits_by d.now.rows d.now.parent d.now.inner d.now.category d.now.nodes)
         (next_state d.now.rows d.now.parent d.now.inner d.now.signals symbols.now.bytes) symbols.now.bytes symbols.now.count d.now.signals d.now.categories im.now }
@@ -35,7 +35,7 @@ pub fn check_by(d: &Decoded, symbols: &Symbols, im: &[u8]) -> Result<(), Refusal
         statuses: 0,
     };
     let first = image::state(im, d.categories, 0);
-    if !same(first, begin) {
+    if first != begin {
         return Err(Refusal::ImageWrongStart);
     }
     let n = image::state_count(im);

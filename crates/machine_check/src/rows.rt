@@ -11,7 +11,7 @@ use base_numbers::MOST_STATES;
 use machine_symbols::Symbols;
 use machine_symbols::steps::next;
 use node_search::decoded::Decoded;
-use node_step::stored::{Packed, same};
+use node_step::stored::Packed;
 
 // The first states, as many as there is room for, each read once.
 fn read_states(im: &[u8], categories: usize, states: &mut [Packed])
@@ -24,13 +24,14 @@ fn read_states(im: &[u8], categories: usize, states: &mut [Packed])
 }
 
 // State j is st.
+#[tactic(auto, unfolding(node_step::specs::StatusByte::same_packed))]
 fn is_right(im: &[u8], categories: usize, read: &[Packed], j: usize, st: Packed) -> bool
     requires { (categories ≤ most_categories) × (j < 65536) × Read categories im.now read.now }
     ensures { result ≡ same_packed (packed_in categories im.now j) st }
 {
     match read.get(j) {
-        Some(kept) => same(*kept, st),
-        None => same(state(im, categories, j), st),
+        Some(kept) => *kept == st,
+        None => state(im, categories, j) == st,
     }
 }
 

@@ -17,5 +17,5 @@ pub fn next(d: &Decoded, symbols: &Symbols, st: Packed, k: usize) -> Packed
     let s = symbols.get(k);
     let whole = s.kind == 0;
     let c = usize::from(s.category);
-    step_packed(&d.rows, &d.parent, &d.inner, d.signals, st, c, s.node, whole)
+    step_packed(d, st, c, s.node, whole)
 }
