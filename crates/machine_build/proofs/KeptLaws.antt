@@ -73,15 +73,15 @@ last-at (y ∷ l) x = last-at l x
 
 module _ (s : States) (l : List Packed) (k : Kept s l) (p : Packed) where
   -- the state at j is that one: j is its number
-  pub found_at : (j : ℕ) → j < s.count → same_packed (get_or s.kept j begin) p ≡ true → j ≡ index_by same_packed p l
+  pub found_at : (j : ℕ) → j < s.count → same_packed (get_or s.kept j begin) p ≡ true → (j ≡ index_by same_packed p l) × (j < s.count)
   found_at j h e =
       let q : p ≡ get_or l j begin = sym (packed-exact.to (get_or s.kept j begin) p e) ∙ k.held j h in
-      sym (ap (λ z. index_by same_packed z l) q ∙ index_at same_packed packed-exact begin l k.distinct j (omega (arith, k.all-kept)))
+      (sym (ap (λ z. index_by same_packed z l) q ∙ index_at same_packed packed-exact begin l k.distinct j (omega (arith, k.all-kept))), h)
 
-  pub found-kept : {j : ℕ} {b : Bool} → b ≡ (ltb j s.count && same_packed (get_or s.kept j begin) p) → b ≡ true → j ≡ index_by same_packed p l
+  pub found-kept : {j : ℕ} {b : Bool} → b ≡ (ltb j s.count && same_packed (get_or s.kept j begin) p) → b ≡ true → (j ≡ index_by same_packed p l) × (j < s.count)
   found-kept {j} f u = go (ltb j s.count) refl
     where
-      go : (b : Bool) → ltb j s.count ≡ b → j ≡ index_by same_packed p l
+      go : (b : Bool) → ltb j s.count ≡ b → (j ≡ index_by same_packed p l) × (j < s.count)
       go true e = found_at j (ltb-true j s.count e) (sym (ap (λ z. z && same_packed (get_or s.kept j begin) p) e) ∙ sym f ∙ u)
       go false e = absurd (false≢true (sym (ap (λ z. z && same_packed (get_or s.kept j begin) p) e) ∙ sym f ∙ u))
 

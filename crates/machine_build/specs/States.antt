@@ -1,6 +1,6 @@
 -- Discovery as the code does it: a state has its categories' bytes in one number, and is written when its targets are found.
 use Rattle.std.specs.Prelude.{ℕ, zero, suc, ◌+◌, ◌-◌, ◌*◌, ◌/◌, ◌%◌, ◌≤◌, ◌<◌, ◌≡◌, cond, List, [], ◌∷◌, ◌++◌, ltb, length, get_or, take, replicate}
-use Rattle.std.specs.Prelude.{Result, Ok, Err}
+use Rattle.std.specs.Prelude.{Result, Ok, Err, Option, Some, None}
 use Rattle.base_numbers.specs.Numbers.{most_states}
 use Rattle.base_numbers.specs.Refusals.{refusal_number}
 use Rattle.base_numbers.specs.declared.refusal.Refusal.{Refusal}
@@ -37,6 +37,11 @@ pub record Kept (s : States) (l : List Packed) : Type 0 where
   pub held : (i : ℕ) → i < s.count → get_or s.kept i begin ≡ get_or l i begin
   pub distinct : Distinct same_packed l
   pub slotted : (i : ℕ) → 0 < i → i < s.count → 0 < get_or s.slots (slot_of (get_or l i begin)) 0
+
+-- the number of a state among the n of a list, or none if it is not one of them
+abbrev pub NumberIn : List Packed → Packed → ℕ → Option ℕ → Type 0
+NumberIn l st n (Some j) = (j ≡ index_by same_packed st l) × (j < n)
+NumberIn l st n None = n ≡ index_by same_packed st l
 
 -- a state is asked for among those of a list: its number, with the state kept; or it would be the 257th
 abbrev pub Keeps : List Packed → Packed → States → Result ℕ Refusal → Type 0

@@ -1,15 +1,15 @@
 // The states that are reached, by breadth-first discovery, each one's row in its own stretch of a lent part.
 //
-// The number of a state is found by a hash table: `slots` has at a state's hash the number of the last kept state that has this hash, or 0. A
-// number that is read there counts only if that state is the one looked for; else all kept states are gone through, unless it is 0: then no state
-// but the first has this hash.
+// The number of a state is found by a hash table: `slots` has at a state's hash the number of the last kept state that has this
+// hash, or 0. A number that is read there counts only if that state is the one looked for; else all kept states are gone through,
+// unless it is 0: then no state but the first has this hash.
 ghost use Rattle.std.specs.Prelude.{◌≡◌, ◌&&◌, ◌+◌, ◌*◌, List, ℕ, ◌≤◌, ◌<◌, ltb, get_or, length};
 ghost use Rattle.base_numbers.specs.Numbers.{most_categories, most_states, most_symbols};
-ghost use Rattle.base_lists.specs.Lists.{add_by, index_by};
+ghost use Rattle.base_lists.specs.Lists.{add_by};
 ghost use Rattle.node_step.specs.Step.{digit};
 ghost use Rattle.node_step.specs.StatusByte.{same_packed};
 ghost use Rattle.machine_symbols.specs.Steps.{begin, next_state};
-ghost use Rattle.machine_build.specs.States.{Kept, Keeps, pair_bytes, Placed, Turned, Discovered, slot_of};
+ghost use Rattle.machine_build.specs.States.{Kept, NumberIn, Keeps, pair_bytes, Placed, Turned, Discovered, slot_of};
 
 use base_numbers::{MOST_STATES, MOST_SYMBOLS, Refusal};
 use machine_symbols::Symbols;
@@ -20,7 +20,8 @@ use node_step::stored::Packed;
 // The places of the hash table.
 const SLOTS: usize = 4096;
 
-// What the two halves of a state's statuses, and its signal, are multiplied with in its hash. Any numbers are right: these spread the states.
+// What the two halves of a state's statuses, and its signal, are multiplied with in its hash. Any numbers are right: these
+// spread the states.
 const LOW_FACTOR: usize = 3635633;
 
 const HIGH_FACTOR: usize = 2442741;
@@ -54,29 +55,29 @@ impl States {
         j < self.count && self.kept[j] == st
     }
 
-    // The number of st among those that are kept, or how many they are.
-    fn find(&self, st: Packed) -> usize
+    // The number of st, if it is kept.
+    fn find(&self, st: Packed) -> Option<u8>
         requires { self.now.count ≤ most_states }
-        ensures { (l : List Packed) → Kept self.now l → result ≡ index_by same_packed st l }
+        ensures { (l : List Packed) → Kept self.now l → NumberIn l st self.now.count result }
     {
         for j in 0..self.count {
             if self.kept[j] == st {
-                return j;
+                return Some(j as u8);
             }
         }
-        self.count
+        None
     }
 
     // The same number, by the hash table.
-    fn number_of(&self, st: Packed) -> usize
+    fn number_of(&self, st: Packed) -> Option<u8>
         requires { self.now.count ≤ most_states }
-        ensures { (l : List Packed) → Kept self.now l → result ≡ index_by same_packed st l }
+        ensures { (l : List Packed) → Kept self.now l → NumberIn l st self.now.count result }
     {
-        let j = usize::from(self.slots[slot_of(st)]);
-        if self.is(j, st) {
-            j
+        let j = self.slots[slot_of(st)];
+        if self.is(usize::from(j), st) {
+            Some(j)
         } else if j == 0 {
-            self.count
+            None
         } else {
             self.find(st)
         }
@@ -88,17 +89,17 @@ impl States {
         ensures upper_bound { self.new.count ≤ most_states }
         ensures value { (l : List Packed) → Kept self.old l → Keeps l st self.new result }
     {
-        let j = self.number_of(st);
-        if j < self.count {
-            return Ok(j as u8);
+        if let Some(j) = self.number_of(st) {
+            return Ok(j);
         }
-        if MOST_STATES <= j {
+        let n = self.count;
+        if MOST_STATES <= n {
             return Err(Refusal::TooManyStates);
         }
-        self.kept[j] = st;
-        self.slots[slot_of(st)] = j as u8;
-        self.count = j + 1;
-        Ok(j as u8)
+        self.kept[n] = st;
+        self.slots[slot_of(st)] = n as u8;
+        self.count = n + 1;
+        Ok(n as u8)
     }
 
     // The turn of a state: its targets are kept, and their numbers start the array.
