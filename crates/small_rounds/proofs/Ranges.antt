@@ -1,7 +1,7 @@
 -- Tests and searches over a range of numbers, as the standard library says them, in the words of base_lists.
 use Prim.Native.Nat.{ℕ, zero, suc, ◌+◌, ◌≤◌}
 use mathlib.Core.Path.{◌≡◌, refl, ap, sym, ◌∙◌}
-use mathlib.Core.Bool.{Bool, true, false}
+use mathlib.Core.Bool.{Bool}
 use native.Mathlib.Omega.{arith}
 use Rattle.std.proofs.Common.{add-zero, zero-add}
 use Rattle.std.specs.List.{list_all, range_with_len, find}

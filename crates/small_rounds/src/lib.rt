@@ -22,7 +22,7 @@ pub fn first_alike<'a>(rows: Rows<'a>, p: &mut [u8], q: &mut [u8]) -> Option<Mac
     ensures { MatchOption result
         (((has_machine rows.entry && (eqb (length p.old) rows.entry.states && eqb (length q.old) rows.entry.states)) ≡ false) × (p.new ≡ p.old))
         (λ m. ((has_machine rows.entry && (eqb (length p.old) rows.entry.states && eqb (length q.old) rows.entry.states)) ≡ true)
-            × (m.rows ≡ rows.entry) × (p.new ≡ blocks (machine_in rows.entry))) }
+        × (m.rows ≡ rows.entry) × (p.new ≡ blocks (machine_in rows.entry))) }
 {
     let m = rows.machine()?;
     if p.len() != rows.states || q.len() != rows.states {
