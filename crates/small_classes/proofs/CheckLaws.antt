@@ -10,12 +10,14 @@ use borrow.Author.Tests.{eq-eqb, ne_eqb}
 use native.Mathlib.Omega.{arith}
 use Rattle.base_numbers.specs.Numbers.{most_states}
 use Rattle.base_lists.specs.Lists.{same_list, all_below, tabulate}
+use Rattle.base_lists.proofs.Lists.{eqb-exact, list-exact}
 use Rattle.theory_minimal.specs.Machine.{Machine, Formed}
 use Rattle.theory_minimal.specs.Proposal.{class_of, class_count}
 use Rattle.theory_minimal.specs.Refine.{leaders, same_class, blocks, block_number, classes}
 use Rattle.theory_minimal.specs.Test.{found_states, class_found, all_reached, fits}
 use Rattle.small_rounds.specs.Stored.{stored_machine, is_stored}
-use Rattle.small_rounds.proofs.TestLaws.{many-no}
+use Rattle.small_rounds.proofs.TestLaws.{room_of}
+use Rattle.std.proofs.lemmas.Bool.{false_from_ne_true}
 use Rattle.small_classes.specs.Check.{stored_fits, stored_proposed, is_some, proposes, classes_in}
 use Rattle.small_classes.specs.Found.{Firsts}
 use Rattle.small_classes.proofs.NumberLaws.{blocks-firsts}
@@ -29,14 +31,15 @@ module _ (m : Machine) (p : List ℕ) where
     start-no e = rw (eq-eqb (length p) m.states l, ne_eqb (class_of p 0) 0 e)
 
     module _ (s : class_of p 0 ≡ 0) (x y : List ℕ) (x-is : x ≡ blocks m) (y-is : y ≡ leaders (same_class p) m.states) where
-      pub blocks-no : same_list eqb y x ≡ false → false ≡ fits m p
+      pub blocks-no : (x ≡ y → ⊥) → false ≡ fits m p
       blocks-no e =
-          let d : same_list eqb (leaders (same_class p) m.states) (blocks m) ≡ false = rw (← x-is, ← y-is) e in
+          let d : same_list eqb (leaders (same_class p) m.states) (blocks m) ≡ false =
+          false_from_ne_true _ (λ t. e (x-is ∙ sym ((list-exact eqb-exact).to _ _ t) ∙ sym y-is)) in
           rw (eq-eqb (length p) m.states l, eq-eqb (class_of p 0) 0 s, d)
 
-      pub fits-rest : same_list eqb y x ≡ true → (q : List ℕ) (r : Bool) → q ≡ found_states m → r ≡ all_below (class_count p) (class_found p q) → r ≡ fits m p
+      pub fits-rest : x ≡ y → (q : List ℕ) (r : Bool) → q ≡ found_states m → r ≡ all_below (class_count p) (class_found p q) → r ≡ fits m p
       fits-rest e q r a b =
-          let d : same_list eqb (leaders (same_class p) m.states) (blocks m) ≡ true = rw (← x-is, ← y-is) e in
+          let d : same_list eqb (leaders (same_class p) m.states) (blocks m) ≡ true = rw (sym y-is ∙ sym e ∙ x-is) ((list-exact eqb-exact).self (blocks m)) in
           rw (eq-eqb (length p) m.states l, eq-eqb (class_of p 0) 0 s, d, ← a) b
 
 module _ (m : Machine) where
@@ -52,9 +55,12 @@ module _ (m : Machine) where
 
 -- the answers for any rows: a machine must be in them
 module _ (rows : List ℕ) (n head k : ℕ) where
+  many-no : most_states < n → is_stored rows n head k ≡ false
+  many-no h = false_from_ne_true _ (λ t. absurd (omega (arith, h, (room_of rows n head k t).few)))
+
   pub many-fits : (p : List ℕ) → most_states < n → false ≡ stored_fits rows n head k p
   unfolding stored_fits
-  many-fits p h = rw (← many-no rows n head k (omega arith) h)
+  many-fits p h = rw (many-no h)
 
   pub long-fits : (p : List ℕ) → (length p ≡ n → ⊥) → false ≡ stored_fits rows n head k p
   unfolding stored_fits
@@ -77,7 +83,7 @@ module _ (rows : List ℕ) (n head k : ℕ) where
   )
 
   pub many-proposed : (b : List ℕ) → most_states < n → (false ≡ proposes rows n head k b) × (b ≡ classes_in rows n head k b)
-  many-proposed b h = rows-proposed b (sym (many-no rows n head k (omega arith) h))
+  many-proposed b h = rows-proposed b (many-no h)
 
   -- nor into a list of another length
   pub other-proposed : (b : List ℕ) → (length b ≡ n → ⊥) → (false ≡ proposes rows n head k b) × (b ≡ classes_in rows n head k b)
@@ -111,13 +117,6 @@ module _ (rows : List ℕ) (n head k : ℕ) where
       go false e f = sym (ap (λ (x : Bool). cond x (some b') none) e)
 
 -- what the rounds' answer says where both lists are as long as the machine has states
-answer-is : (s b : Bool) (l k n : ℕ) → l ≡ n → k ≡ n → b ≡ (s && (eqb l n && eqb k n)) → b ≡ s
-answer-is false b l k n h i e = e
-answer-is true b l k n h i e = e ∙ rw (eq-eqb l n h, eq-eqb k n i)
-
-pub alike_is : (s b c : Bool) (l k n : ℕ) → l ≡ n → k ≡ n → b ≡ (s && (eqb l n && eqb k n)) → b ≡ c → s ≡ c
-alike_is s b c l k n h i e d = sym (answer-is s b l k n h i e) ∙ d
-
--- what is said if a test passes
-pub taken : {A : Type 0} (b : Bool) (x y : A) {z : A} → z ≡ cond b x y → b ≡ true → z ≡ x
-taken b x y e t = e ∙ ap (λ (s : Bool). cond s x y) t
+pub answer-is : (s : Bool) (l k n : ℕ) → l ≡ n → k ≡ n → (s && (eqb l n && eqb k n)) ≡ s
+answer-is false l k n h i = refl
+answer-is true l k n h i = rw (eq-eqb l n h, eq-eqb k n i)

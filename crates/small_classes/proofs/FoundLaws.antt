@@ -1,26 +1,33 @@
 -- Laws of the states found as the code keeps them: each visit, each turn, and all turns.
 use Prim.Native.Nat.{ℕ, ◌+◌, ◌-◌, ◌≤◌, ◌<◌}
-use mathlib.Core.Path.{◌≡◌, refl, sym, ap, subst, ◌∙◌}
+use mathlib.Core.Path.{◌≡◌, refl, sym, ap, ◌∙◌}
 use mathlib.Core.Bool.{Bool, true, false, cond, ◌||◌}
 use mathlib.Core.List.Memᴰ
 use mathlib.Core.List.{List, [], ◌∷◌, ◌++◌, Memᴰ}
 use lib.Dec.{eqb}
 use lib.ListN.{length, get_or, set, take, length-append, length-set}
 use lib.Seq.{take-suc-set, length-take-le, get_or-take, get_or-set_same, get_or-set_other}
-use borrow.Author.Tests.{ne_eqb, eq-eqb, lt-ltb, le-ltb}
+use borrow.Author.Tests.{ne_eqb, lt-ltb, ltb-true}
 use native.Mathlib.Numerals.{add-one}
 use native.Mathlib.Decide.{ℕ_discrete}
 use native.Mathlib.Omega.{arith}
-use Rattle.base_lists.proofs.Search.{seek_hit, seek-end}
+use Rattle.std.specs.Prelude.{replicate}
+use Rattle.std.specs.List.{All, list_any}
+use Rattle.std.proofs.lemmas.List.Elements.{All-from_get_or}
+use Rattle.std.proofs.lemmas.List.{get_or-replicate, length-replicate}
+use Rattle.std.proofs.lemmas.List.Folds.{list_any_at}
+use Rattle.base_lists.proofs.Bools.{same_test}
+use Rattle.base_lists.proofs.Chains.{any-list}
+use Rattle.base_lists.proofs.Tests.{any-yes}
+use Rattle.base_lists.proofs.Search.{seek-sought, seek_found}
 use Rattle.base_lists.specs.Search.{seek}
-use Rattle.base_lists.proofs.Tabulated.{tabulate-at, tabulate-length}
 use Rattle.base_lists.proofs.Lists.{eqb-exact, Extends, mem-at, add-has, add-all, distinct-add}
-use Rattle.base_lists.specs.Lists.{member_by, add_by, Distinct, tabulate}
+use Rattle.base_lists.specs.Lists.{member_by, add_by, Distinct}
 use Rattle.theory_resolution.specs.Discovery.{expand, discover}
 use Rattle.theory_resolution.proofs.Discovery.{expand-extends, discover-next, discover-done}
 use Rattle.theory_minimal.specs.Machine.{Machine}
 use Rattle.theory_minimal.specs.Proposal.{class_of}
-use Rattle.small_classes.specs.Found.{zero_at, Kept, Visited, Turned}
+use Rattle.small_classes.specs.Found.{Kept, Visited, Turned}
 use Rattle.theory_minimal.specs.Test.{found_states, found_class, class_found}
 use Rattle.theory_minimal.proofs.Reach.{numbers_fit}
 
@@ -106,16 +113,16 @@ module _ (m : Machine) (list : List ℕ) (count j : ℕ) where
         kept = v.kept;
       }
 
-  pub turned-all : (s : ℕ) (list₁ seen₁ : List ℕ) (r : ℕ) → s ≤ m.symbols → m.symbols ≤ s → Turned m list count j s list₁ seen₁ r
-      → Turned m list count j m.symbols list₁ seen₁ r
-  turned-all s list₁ seen₁ r a b t = let e : s ≡ m.symbols = omega arith in subst (λ (z : ℕ). Turned m list count j z list₁ seen₁ r) e t
-
 -- the states of the list are numbers below n
 pub kept-state : (n : ℕ) (list seen : List ℕ) (count : ℕ) → Kept n list seen count → (i : ℕ) → i < count → get_or list i 0 < n
 kept-state n list seen count k i h =
     let a = k.few in
     rw (get_or-take count list i 0 h) at
     (k.states (get_or (take count list) i 0) (mem-at (take count list) i 0 (omega (arith, length-take-le count list (omega (arith, k.wide))))))
+
+pub kept-all : (n : ℕ) (list seen : List ℕ) (count : ℕ) → Kept n list seen count → All (λ s. s < n) (take count list)
+kept-all n list seen count k =
+    All-from_get_or (λ s. s < n) (take count list) 0 (λ i h. k.states (get_or (take count list) i 0) (mem-at (take count list) i 0 h))
 
 module _ (m : Machine) where
   -- the states found after i turns
@@ -164,7 +171,7 @@ module _ (m : Machine) where
     unfolding discover
     found-begin = begin-list
 
-    pub kept-begin : (seen : List ℕ) → seen ≡ tabulate zero_at m.states → Kept m.states (set list 0 0) (set seen 0 1) 1
+    pub kept-begin : (seen : List ℕ) → seen ≡ replicate m.states 0 → Kept m.states (set list 0 0) (set seen 0 1) 1
     kept-begin seen e =
         record {
           wide = length-set list 0 0 ∙ l;
@@ -176,29 +183,22 @@ module _ (m : Machine) where
         }
       where
         zeros : length seen ≡ m.states
-        zeros = ap length e ∙ tabulate-length zero_at m.states
+        zeros = ap length e ∙ length-replicate m.states 0
 
         at : (x : ℕ) → x < m.states → Dec (x ≡ 0) → get_or (set seen 0 1) x 0 ≡ cond (member_by eqb x (0 ∷ [])) 1 0
         at x a (yes d) = rw d (get_or-set_same seen 0 1 0 (omega (arith, zeros)))
         at x a (no d) =
-            rw (ne_eqb x 0 d) (get_or-set_other seen 0 x 1 0 d ∙ ap (λ z. get_or z x 0) e ∙ tabulate-at zero_at m.states x 0 a)
+            rw (ne_eqb x 0 d) (get_or-set_other seen 0 x 1 0 d ∙ ap (λ z. get_or z x 0) e ∙ get_or-replicate m.states x 0 0 a)
 
--- the search for a class among the states of the list
-module _ (p list : List ℕ) (count c : ℕ) (h : count ≤ length list) where
-  abbrev pub class_at : ℕ → Bool
-  class_at = found_class p (take count list) c
+-- a state of the list has a class, as a test of each of them says it
+pub found-any : (p l : List ℕ) (c : ℕ) → list_any (λ s. eqb (class_of p s) c) l ≡ class_found p l c
+found-any p l c = same_test (list_any f l) (class_found p l c) (λ t. lt-ltb _ _ (at t)) (λ t. list_any_at f l z 0 (ltb-true _ _ t) ((seek-sought (found_class p l c) 0 (length l)).passes (omega (arith, ltb-true _ _ t))))
+  where
+    f : ℕ → Bool
+    f s = eqb (class_of p s) c
 
-  pub class-hit : (i s : ℕ) → i < count → s ≡ get_or list i 0 → class_of p s ≡ c → seek class_at 0 count ≡ seek class_at i (count - i)
-      → true ≡ class_found p (take count list) c
-  class-hit i s a b d e =
-      let w : class_at i ≡ true = eq-eqb (class_of p (get_or (take count list) i 0)) c (ap (class_of p) (get_or-take count list i 0 a ∙ sym b) ∙ d) in
-      let z = length-take-le count list h in
-      rw z (sym (lt-ltb (seek class_at 0 count) count (omega (arith, seek_hit class_at count i a w e))))
+    z : ℕ
+    z = seek (found_class p l c) 0 (length l)
 
-  pub class-pass : (i s : ℕ) → i < count → s ≡ get_or list i 0 → (class_of p s ≡ c → ⊥) → class_at i ≡ false
-  class-pass i s a b d = ne_eqb (class_of p (get_or (take count list) i 0)) c (λ q. d (ap (class_of p) (b ∙ sym (get_or-take count list i 0 a)) ∙ q))
-
-  pub class-miss : (i : ℕ) → i ≤ count → count ≤ i → seek class_at 0 count ≡ seek class_at i (count - i) → false ≡ class_found p (take count list) c
-  class-miss i a b e =
-      let z = length-take-le count list h in
-      rw z (sym (le-ltb (seek class_at 0 count) count (omega (arith, seek-end class_at count i a b e))))
+    at : list_any f l ≡ true → z < length l
+    at t = let y = any-yes f l 0 (sym (any-list f l) ∙ t) in (seek_found (found_class p l c) (length l) y.0 y.1 y.2).0

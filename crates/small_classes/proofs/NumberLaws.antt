@@ -1,11 +1,9 @@
 -- Laws of numbering blocks by their first states.
 use Prim.Native.Nat.{ℕ, suc, ◌+◌, ◌≤◌, ◌<◌}
 use mathlib.Core.Path.{◌≡◌, refl, sym, ap, ◌∙◌}
-use mathlib.Core.Bool.{Bool, true, false, cond}
 use mathlib.Core.List.{List}
-use lib.Dec.{eqb}
 use lib.ListN.{get_or}
-use borrow.Author.Tests.{eqb-true, eqb-false}
+use borrow.Author.Tests.{eq-eqb, ne_eqb}
 use native.Mathlib.Numerals.{add-one}
 use native.Mathlib.Omega.{arith}
 use Rattle.base_numbers.specs.Numbers.{most_states}
@@ -22,29 +20,26 @@ use Rattle.theory_minimal.proofs.Classes.{block-le, block-leads}
 pub blocks-firsts : (m : Machine) → Formed m → Firsts (blocks m) m.states
 blocks-firsts m formed = record { before = block-le m formed; leads = block-leads m formed }
 
-module _ (b : List ℕ) (n : ℕ) (fs : Firsts b n) (i : ℕ) (h : i < n) (f : ℕ) (e : f ≡ class_of b i) where
-  pub first_below : f < n
-  first_below = omega (arith, fs.before i h)
+module _ (b : List ℕ) (n : ℕ) (fs : Firsts b n) (i : ℕ) (h : i < n) (f : ℕ) (is : f ≡ class_of b i) where
+  -- state i is the first of its class
+  module _ (e : f ≡ i) (next : ℕ) (d : next ≡ count (is_first b) i) where
+    pub first-number : next ≡ block_number b i
+    first-number = d ∙ ap (count (is_first b)) (sym e ∙ is)
 
-  pub number-value : (c : List ℕ) (next v : ℕ) → Filled (block_number b) c i → next ≡ count (is_first b) i
-      → v ≡ cond (eqb f i) next (get_or c f 0) → v ≡ block_number b i
-  number-value c next v a d g = go (eqb f i) refl
-    where
-      go : (t : Bool) → eqb f i ≡ t → v ≡ block_number b i
-      go true q =
-          let j : f ≡ i = eqb-true f i q in
-          g ∙ ap (λ t. cond t next (get_or c f 0)) q ∙ d ∙ ap (count (is_first b)) (sym j ∙ e)
-      go false q =
-          let j : f < i = let z = eqb-false f i q in omega (arith, fs.before i h) in
-          g
-          ∙ ap (λ t. cond t next (get_or c f 0)) q
-          ∙ a f j
-          ∙ ap (λ z. count (is_first b) (class_of b z)) e
-          ∙ ap (count (is_first b)) (fs.leads i h)
+    pub first-next : next + 1 ≡ count (is_first b) (i + 1)
+    unfolding count
+    first-next = rw (add-one, add-one, eq-eqb (class_of b i) i (sym is ∙ e)) (ap suc d)
 
-  pub number-next : (next r : ℕ) → next ≡ count (is_first b) i → r ≡ cond (eqb f i) (suc next) next → r ≡ count (is_first b) (i + 1)
-  unfolding count
-  number-next next r d g = rw (add-one, ← e, ← d) g
+  -- another one is
+  module _ (e : f ≡ i → ⊥) where
+    pub later-number : (c : List ℕ) → Filled (block_number b) c i → get_or c f 0 ≡ block_number b i
+    later-number c a =
+        let j : f < i = omega (arith, e, is, fs.before i h) in
+        a f j ∙ ap (λ z. count (is_first b) (class_of b z)) is ∙ ap (count (is_first b)) (fs.leads i h)
+
+    pub later-next : (next : ℕ) → next ≡ count (is_first b) i → next ≡ count (is_first b) (i + 1)
+    unfolding count
+    later-next next d = rw (add-one, ne_eqb (class_of b i) i (λ q. e (is ∙ q))) d
 
 -- fewer than 256 come before a state below 256
 pub number_small : (b : List ℕ) (n i next : ℕ) → i < n → n ≤ most_states → next ≡ count (is_first b) i → next < 256

@@ -6,9 +6,6 @@ use Rattle.theory_resolution.specs.Discovery.{expand}
 use Rattle.theory_minimal.specs.Machine.{Machine}
 use Rattle.theory_minimal.specs.Proposal.{class_of}
 
-abbrev pub zero_at : ℕ → ℕ
-zero_at i = 0
-
 -- the first count bytes of the list are states below n, none twice, and just these are marked
 pub record Kept (n : ℕ) (list seen : List ℕ) (count : ℕ) : Type 0 where
   pub wide : length list ≡ n

@@ -8,6 +8,7 @@
 #![tactic(auto)]
 
 use base_numbers::MOST_STATES;
+use small_rounds::{Machine, Rows, first_alike};
 
 mod numbers;
 pub mod states;
@@ -15,110 +16,82 @@ pub mod states;
 ghost use Rattle.std.specs.Prelude.{◌≡◌, length};
 ghost use Rattle.theory_minimal.specs.Refine.{blocks, classes};
 ghost use Rattle.theory_minimal.specs.Test.{all_reached, fits};
-ghost use Rattle.small_rounds.specs.Stored.{stored_machine, Stored};
+ghost use Rattle.small_rounds.specs.Rows.{machine_in};
 ghost use Rattle.small_classes.specs.Check.{stored_fits, proposes, classes_in};
 
 // The proposal fits, where x has for each state the first one that behaves as it does.
-fn fits(rows: &[u8], p: &[u8], x: &mut [u8], y: &mut [u8], n: usize, head: usize, k: usize) -> bool
-    requires { Stored rows.now n head k × (length p.now ≡ n) × (x.old ≡ blocks (stored_machine rows.now n head k)) × (length y.old ≡ n) }
-    ensures { result ≡ fits (stored_machine rows.now n head k) p.now }
+fn fits(m: Machine, p: &[u8], x: &mut [u8], y: &mut [u8]) -> bool
+    requires { (length p.now ≡ m.rows.states) × (x.old ≡ blocks (machine_in m.rows)) × (length y.old ≡ m.rows.states) }
+    ensures { result ≡ fits (machine_in m.entry.rows) p.now }
 {
     if p[0] != 0 {
         return false;
     }
-    numbers::first_states(p, y, n);
-    if !base_text::compare::same(y, x) {
+    numbers::first_states(p, y);
+    if *x != *y {
         return false;
     }
-    let count = states::discover(rows, x, y, n, head, k);
-    states::all_found(p, x, count)
+    let count = states::discover(m, x, y);
+    states::all_found(p, &x[..count])
 }
 
-// The check, with two lists of n bytes to work in.
-fn check_in(
-    rows: &[u8],
-    p: &[u8],
-    x: &mut [u8],
-    y: &mut [u8],
-    n: usize,
-    head: usize,
-    k: usize,
-) -> bool
-    requires { (length p.now ≡ n) × (length x.old ≡ n) × (length y.old ≡ n) }
-    ensures { result ≡ stored_fits rows.now n head k p.now }
+// The check, with two lists to work in, of a byte for each state.
+fn check_in(rows: Rows, p: &[u8], x: &mut [u8], y: &mut [u8]) -> bool
+    requires { (length p.now ≡ rows.states) × (length x.old ≡ rows.states) × (length y.old ≡ rows.states) }
+    ensures { result ≡ stored_fits rows.entry.bytes.now rows.entry.states rows.entry.head rows.entry.symbols p.now }
 {
-    if !small_rounds::first_alike(rows, x, y, n, head, k) {
-        return false;
+    match first_alike(rows, x, y) {
+        Some(m) => fits(m, p, x, y),
+        None => false,
     }
-    fits(rows, p, x, y, n, head, k)
 }
 
-// There is a machine of n states in the rows, and the proposal p fits it.
-pub fn check(rows: &[u8], p: &[u8], n: usize, head: usize, k: usize) -> bool
-    ensures { result ≡ stored_fits rows.now n head k p.now }
+// There is a machine in the rows, and the proposal p fits it.
+pub fn check(rows: Rows, p: &[u8]) -> bool
+    ensures { result ≡ stored_fits rows.entry.bytes.now rows.entry.states rows.entry.head rows.entry.symbols p.now }
 {
-    if MOST_STATES < n {
+    let n = rows.states;
+    if MOST_STATES < n || p.len() != n {
         return false;
     }
-    if p.len() != n {
-        return false;
-    }
-    let a = 0;
     let mut x = [0u8; MOST_STATES];
     let mut y = [0u8; MOST_STATES];
-    check_in(rows, p, &mut x[a..n], &mut y[a..n], n, head, k)
+    check_in(rows, p, &mut x[..n], &mut y[..n])
 }
 
 // The proposal, where x has for each state the first one that behaves as it does.
-fn number(
-    rows: &[u8],
-    out: &mut [u8],
-    x: &mut [u8],
-    y: &mut [u8],
-    n: usize,
-    head: usize,
-    k: usize,
-) -> bool
-    requires { Stored rows.now n head k × (length out.old ≡ n) × (x.old ≡ blocks (stored_machine rows.now n head k)) × (length y.old ≡ n) }
-    ensures { (result ≡ all_reached (stored_machine rows.now n head k) (classes (stored_machine rows.now n head k))) × (out.new ≡ classes (stored_machine rows.now n head k)) }
+fn number(m: Machine, out: &mut [u8], x: &mut [u8], y: &mut [u8]) -> bool
+    requires { (length out.old ≡ m.rows.states) × (x.old ≡ blocks (machine_in m.rows)) × (length y.old ≡ m.rows.states) }
+    ensures { (result ≡ all_reached (machine_in m.entry.rows) (classes (machine_in m.entry.rows))) × (out.new ≡ classes (machine_in m.entry.rows)) }
 {
-    numbers::number(x, out, n);
-    let count = states::discover(rows, x, y, n, head, k);
-    states::all_found(out, x, count)
+    numbers::number(x, out);
+    let count = states::discover(m, x, y);
+    states::all_found(out, &x[..count])
 }
 
-// The proposer, with two lists of n bytes to work in.
-fn propose_in(
-    rows: &[u8],
-    out: &mut [u8],
-    x: &mut [u8],
-    y: &mut [u8],
-    n: usize,
-    head: usize,
-    k: usize,
-) -> bool
-    requires { (length out.old ≡ n) × (length x.old ≡ n) × (length y.old ≡ n) }
-    ensures { (result ≡ proposes rows.now n head k out.old) × (out.new ≡ classes_in rows.now n head k out.old) }
+// The proposer, with two lists to work in, of a byte for each state.
+fn propose_in(rows: Rows, out: &mut [u8], x: &mut [u8], y: &mut [u8]) -> bool
+    requires { (length out.old ≡ rows.states) × (length x.old ≡ rows.states) × (length y.old ≡ rows.states) }
+    ensures { (result ≡ proposes rows.entry.bytes.now rows.entry.states rows.entry.head rows.entry.symbols out.old)
+        × (out.new ≡ classes_in rows.entry.bytes.now rows.entry.states rows.entry.head rows.entry.symbols out.old) }
 {
-    if !small_rounds::first_alike(rows, x, y, n, head, k) {
-        return false;
+    match first_alike(rows, x, y) {
+        Some(m) => number(m, out, x, y),
+        None => false,
     }
-    number(rows, out, x, y, n, head, k)
 }
 
-// Whether some proposal fits the machine of n states in the rows. A part of n bytes has the classes then, numbered by their
+// Whether some proposal fits the machine in the rows. A part of as many bytes as it has states has the classes then, numbered by their
 // first states; it has these also where one of them is not reached, and stays as it is if there is no machine.
-pub fn propose(rows: &[u8], out: &mut [u8], n: usize, head: usize, k: usize) -> bool
-    ensures { (result ≡ proposes rows.now n head k out.old) × (out.new ≡ classes_in rows.now n head k out.old) }
+pub fn propose(rows: Rows, out: &mut [u8]) -> bool
+    ensures { (result ≡ proposes rows.entry.bytes.now rows.entry.states rows.entry.head rows.entry.symbols out.old)
+        × (out.new ≡ classes_in rows.entry.bytes.now rows.entry.states rows.entry.head rows.entry.symbols out.old) }
 {
-    if MOST_STATES < n {
+    let n = rows.states;
+    if MOST_STATES < n || out.len() != n {
         return false;
     }
-    if out.len() != n {
-        return false;
-    }
-    let a = 0;
     let mut x = [0u8; MOST_STATES];
     let mut y = [0u8; MOST_STATES];
-    propose_in(rows, out, &mut x[a..n], &mut y[a..n], n, head, k)
+    propose_in(rows, out, &mut x[..n], &mut y[..n])
 }

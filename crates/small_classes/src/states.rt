@@ -1,21 +1,21 @@
 // The states that state 0 leads to, and the classes that have one of them.
-ghost use Rattle.std.specs.Prelude.{◌≡◌, ℕ, ◌≤◌, ◌<◌, max, length, take, get_or};
+ghost use Rattle.std.specs.Prelude.{◌≡◌, ◌≤◌, ◌<◌, All, length, take};
 ghost use Rattle.base_numbers.specs.Numbers.{most_states};
 ghost use Rattle.base_lists.specs.Search.{highest};
-ghost use Rattle.base_lists.specs.Lists.{all_below, tabulate};
+ghost use Rattle.base_lists.specs.Lists.{all_below};
 ghost use Rattle.theory_minimal.specs.Proposal.{class_of, class_count};
-ghost use Rattle.small_rounds.specs.Stored.{stored_machine, Stored};
-ghost use Rattle.small_classes.specs.Found.{zero_at, Kept, Visited, Turned};
+ghost use Rattle.small_rounds.specs.Rows.{machine_in};
+ghost use Rattle.small_classes.specs.Found.{Kept, Visited, Turned};
 ghost use Rattle.theory_minimal.specs.Test.{found_states, class_found};
 
-use base_bytes::numbers::wide;
+use small_rounds::Machine;
 
 // How many states are found after x, which is put at their end unless it was found before.
-fn visit(list: &mut [u8], seen: &mut [u8], n: usize, count: usize, x: u8) -> usize
-    requires { Kept n list.old seen.old count × (x < n) × (n ≤ most_states) }
-    ensures { Visited n list.old count x list.new seen.new result }
+fn visit(list: &mut [u8], seen: &mut [u8], count: usize, x: u8) -> usize
+    requires { Kept (length list.old) list.old seen.old count × (x < length list.old) × (length list.old ≤ most_states) }
+    ensures { Visited (length list.old) list.old count x list.new seen.new result }
 {
-    let at = wide(x);
+    let at = usize::from(x);
     if seen[at] != 0 {
         return count;
     }
@@ -25,72 +25,35 @@ fn visit(list: &mut [u8], seen: &mut [u8], n: usize, count: usize, x: u8) -> usi
 }
 
 // How many states are found after the targets of state j.
-fn turn(
-    rows: &[u8],
-    list: &mut [u8],
-    seen: &mut [u8],
-    n: usize,
-    head: usize,
-    k: usize,
-    j: usize,
-    count: usize,
-) -> usize
-    requires { Stored rows.now n head k × Kept n list.old seen.old count × (j < n) }
-    ensures { Turned (stored_machine rows.now n head k) list.old count j k list.new seen.new result }
+fn turn(m: Machine, list: &mut [u8], seen: &mut [u8], j: usize, count: usize) -> usize
+    requires { Kept m.rows.states list.old seen.old count × (j < m.rows.states) }
+    ensures { Turned (machine_in m.entry.rows) list.old count j m.entry.rows.symbols list.new seen.new result }
 {
-    let a = j * (head + k) + head;
     let mut found = count;
-    let mut s = 0;
-    while s < k {
-        found = visit(list, seen, n, found, rows[a + s]);
-        s += 1;
+    for s in 0..m.rows.symbols {
+        found = visit(list, seen, found, m.target(j, s));
     }
     found
 }
 
-fn clear(seen: &mut [u8], n: usize)
-    requires { length seen.old ≡ n }
-    ensures { seen.new ≡ tabulate zero_at n }
-{
-    let mut i = 0;
-    while i < n {
-        seen[i] = 0;
-        i += 1;
-    }
-}
-
 // How many states state 0 leads to, itself among them; they stand at the front of the list as they are found.
-pub(crate) fn discover(
-    rows: &[u8],
-    list: &mut [u8],
-    seen: &mut [u8],
-    n: usize,
-    head: usize,
-    k: usize,
-) -> usize
-    requires { Stored rows.now n head k × (length list.old ≡ n) × (length seen.old ≡ n) }
-    ensures { (take result list.new ≡ found_states (stored_machine rows.now n head k)) × (result ≤ n) × (length list.new ≡ n) × ((i : ℕ) → i < result → get_or list.new i 0 < n) }
+pub(crate) fn discover(m: Machine, list: &mut [u8], seen: &mut [u8]) -> usize
+    requires { (length list.old ≡ m.rows.states) × (length seen.old ≡ m.rows.states) }
+    ensures { (take result list.new ≡ found_states (machine_in m.entry.rows)) × (result ≤ m.entry.rows.states)
+        × All (λ s. s < m.entry.rows.states) (take result list.new) }
 {
-    clear(seen, n);
+    seen.fill(0);
     seen[0] = 1;
     list[0] = 0;
     let mut count = 1;
     let mut i = 0;
+    // a turn may find more, so no range says how many there are
     while i < count {
-        let j = wide(list[i]);
-        count = turn(rows, list, seen, n, head, k, j, count);
+        let j = usize::from(list[i]);
+        count = turn(m, list, seen, j, count);
         i += 1;
     }
     count
-}
-
-fn larger(a: usize, b: usize) -> usize
-    ensures { result ≡ max a b }
-{
-    if a < b {
-        return b;
-    }
-    a
 }
 
 // The highest class.
@@ -98,42 +61,24 @@ pub fn highest_class(p: &[u8]) -> usize
     ensures { (result ≡ highest (class_of p.now) (length p.now)) × (result < 256) }
 {
     let mut most: usize = 0;
-    let mut i = 0;
-    while i < p.len() {
-        most = larger(most, wide(p[i]));
-        i += 1;
+    for x in p {
+        most = most.max(usize::from(*x));
     }
     most
 }
 
-// One of the count states of the list has class c.
-fn class_found(p: &[u8], list: &[u8], count: usize, c: usize) -> bool
-    requires { (count ≤ length list.now) × ((i : ℕ) → i < count → get_or list.now i 0 < length p.now) }
-    ensures { result ≡ class_found p.now (take count list.now) c }
+// One of the states of the list has class c.
+fn class_found(p: &[u8], list: &[u8], c: usize) -> bool
+    requires { All (λ s. s < length p.now) list.now }
+    ensures { result ≡ class_found p.now list.now c }
 {
-    let mut i = 0;
-    while i < count {
-        let s = wide(list[i]);
-        if wide(p[s]) == c {
-            return true;
-        }
-        i += 1;
-    }
-    false
+    list.iter().any(|s| usize::from(p[usize::from(*s)]) == c)
 }
 
-// Every class up to the highest has one of the count states of the list.
-pub(crate) fn all_found(p: &[u8], list: &[u8], count: usize) -> bool
-    requires { (count ≤ length list.now) × ((i : ℕ) → i < count → get_or list.now i 0 < length p.now) }
-    ensures { result ≡ all_below (class_count p.now) (class_found p.now (take count list.now)) }
+// Every class up to the highest has one of the states of the list.
+pub(crate) fn all_found(p: &[u8], list: &[u8]) -> bool
+    requires { All (λ s. s < length p.now) list.now }
+    ensures { result ≡ all_below (class_count p.now) (class_found p.now list.now) }
 {
-    let top = highest_class(p);
-    let mut c = 0;
-    while c <= top {
-        if !class_found(p, list, count, c) {
-            return false;
-        }
-        c += 1;
-    }
-    true
+    (0..highest_class(p) + 1).all(|c| class_found(p, list, c))
 }

@@ -1,12 +1,11 @@
 -- What the code answers over an image's rows is what is answered for the image; an accepted image has what they ask for.
-use Prim.Native.Nat.{ℕ, ◌+◌, ◌-◌, ◌*◌, ◌≤◌, min}
+use Prim.Native.Nat.{ℕ, ◌+◌, ◌*◌, ◌≤◌, min}
 use mathlib.Core.Path.{◌≡◌, refl, sym, ap, ◌∙◌}
 use mathlib.Core.Bool.{Bool, true, false, cond}
 use mathlib.Core.Option.{Option, some, none}
 use mathlib.Core.List.{List, []}
 use lib.Dec.{eqb}
-use lib.ListN.{length, take, drop, replicate, length-drop}
-use lib.Seq.{take_all}
+use lib.ListN.{length, take, replicate}
 use borrow.Author.Tests.{eqb-true, eqb-false, eq-eqb, ne_eqb}
 use native.Mathlib.Omega.{arith}
 use Rattle.base_numbers.specs.Numbers.{most_symbols}
@@ -37,62 +36,42 @@ use Rattle.small_library.specs.Smaller.{machine_from, classes_refusal, number_of
 use Rattle.small_library.specs.Rows.{front_of, rows_of, machine_by}
 use Rattle.small_library.proofs.RowLaws.{fits-same, proposed-same, small_same}
 
--- the parts of an image as the code lends them
-pub rows_is : (im : List ℕ) (k : ℕ) → k ≡ symbol_count im → take (length im - (3 + 3 * k)) (drop (3 + 3 * k) im) ≡ rows_of im
-rows_is im k e =
-    take_all (length im - (3 + 3 * k)) (drop (3 + 3 * k) im) (omega (arith, length-drop (3 + 3 * k) im))
-    ∙ ap (λ z. drop (3 + 3 * z) im) e
-
-pub front-is : (im : List ℕ) (k : ℕ) → k ≡ symbol_count im → take (1 + 3 * k - 0) im ≡ front_of im
-front-is im k e =
-    let d : 1 + 3 * k - 0 ≡ 1 + 3 * k = omega arith in
-    ap (λ z. take z im) d ∙ ap (λ z. take (1 + 3 * z) im) e
+-- the part of an image before the state count as the code lends it
+pub front-is : (im : List ℕ) (k : ℕ) → k ≡ symbol_count im → take (1 + 3 * k) im ≡ front_of im
+front-is im k e = ap (λ z. take (1 + 3 * z) im) e
 
 -- the same answers for the numbers that the code has read
-module _ (im : List ℕ) (rows : List ℕ) (n k head : ℕ) (rows_are : rows ≡ rows_of im) (n-is : n ≡ state_count im) (k-is : k ≡ symbol_count im) where
-  fits_read : (p : List ℕ) → stored_fits rows n head k p ≡ stored_fits (rows_of im) (state_count im) head (symbol_count im) p
-  fits_read p =
-      ap (λ z. stored_fits z n head k p) rows_are
-      ∙ ap (λ z. stored_fits (rows_of im) z head k p) n-is
-      ∙ ap (λ z. stored_fits (rows_of im) (state_count im) head z p) k-is
+module _ (im : List ℕ) (rows : List ℕ) (n h k head : ℕ) (is : (rows ≡ rows_of im) × (n ≡ state_count im) × (h ≡ head) × (k ≡ symbol_count im)) where
+  read : {A : Type 0} (f : List ℕ → ℕ → ℕ → ℕ → A) → f rows n h k ≡ f (rows_of im) (state_count im) head (symbol_count im)
+  read f =
+      ap (λ z. f z n h k) is.0
+      ∙ ap (λ z. f (rows_of im) z h k) is.1
+      ∙ ap (λ z. f (rows_of im) (state_count im) z k) is.2
+      ∙ ap (λ z. f (rows_of im) (state_count im) head z) is.3
 
-  pub fit-yes : (p : List ℕ) (b : Bool) → b ≡ stored_fits rows n head k p → b ≡ true
+  pub fit-yes : (p : List ℕ) (b : Bool) → b ≡ stored_fits rows n h k p → b ≡ true
       → ◌≡◌ {A = ℕ} 0 (fit_refusal (rows_of im) (state_count im) head (symbol_count im) p)
   unfolding fit_refusal
-  fit-yes p b e t = rw (sym (fits_read p) ∙ sym e ∙ t)
+  fit-yes p b e t = rw (sym (read (λ r n h k. stored_fits r n h k p)) ∙ sym e ∙ t)
 
-  pub fit-no : (p : List ℕ) (b : Bool) → b ≡ stored_fits rows n head k p → b ≡ false
+  pub fit-no : (p : List ℕ) (b : Bool) → b ≡ stored_fits rows n h k p → b ≡ false
       → ◌≡◌ {A = ℕ} 27 (fit_refusal (rows_of im) (state_count im) head (symbol_count im) p)
   unfolding fit_refusal
-  fit-no p b e t = rw (sym (fits_read p) ∙ sym e ∙ t)
+  fit-no p b e t = rw (sym (read (λ r n h k. stored_fits r n h k p)) ∙ sym e ∙ t)
 
-  pub proposed-read : stored_proposed rows n head k ≡ stored_proposed (rows_of im) (state_count im) head (symbol_count im)
-  proposed-read =
-      ap (λ z. stored_proposed z n head k) rows_are
-      ∙ ap (λ z. stored_proposed (rows_of im) z head k) n-is
-      ∙ ap (λ z. stored_proposed (rows_of im) (state_count im) head z) k-is
-
-  refusal-read : (p : List ℕ) → fit_refusal rows n head k p ≡ fit_refusal (rows_of im) (state_count im) head (symbol_count im) p
-  unfolding fit_refusal
-  refusal-read p = ap (λ b. cond b 0 27) (fits_read p)
-
-  image-read : (front p : List ℕ) → front ≡ front_of im → small_by front (stored_machine rows n head k) p ≡ small_by (front_of im) (machine_by im head) p
-  image-read front p e =
-      ap (λ f. small_by f (stored_machine rows n head k) p) e
-      ∙ ap (λ z. small_by (front_of im) (stored_machine z n head k) p) rows_are
-      ∙ ap (λ z. small_by (front_of im) (stored_machine (rows_of im) z head k) p) n-is
-      ∙ ap (λ z. small_by (front_of im) (stored_machine (rows_of im) (state_count im) head z) p) k-is
+  pub proposed-read : stored_proposed rows n h k ≡ stored_proposed (rows_of im) (state_count im) head (symbol_count im)
+  proposed-read = read stored_proposed
 
   pub write_read : (front p : List ℕ) (room : ℕ) → front ≡ front_of im
-      → (answer_in (fit_refusal rows n head k p) (small_by front (stored_machine rows n head k) p) room
+      → (answer_in (fit_refusal rows n h k p) (small_by front (stored_machine rows n h k) p) room
       ≡ answer_in (fit_refusal (rows_of im) (state_count im) head (symbol_count im) p) (small_by (front_of im) (machine_by im head) p) room)
-      × (buffer_in (fit_refusal rows n head k p) (small_by front (stored_machine rows n head k) p) room
+      × (buffer_in (fit_refusal rows n h k p) (small_by front (stored_machine rows n h k) p) room
       ≡ buffer_in (fit_refusal (rows_of im) (state_count im) head (symbol_count im) p) (small_by (front_of im) (machine_by im head) p) room)
   write_read front p room e = (
-    ap (λ x. answer_in x (small_by front (stored_machine rows n head k) p) room) (refusal-read p)
-        ∙ ap (λ x. answer_in (fit_refusal (rows_of im) (state_count im) head (symbol_count im) p) x room) (image-read front p e),
-    ap (λ x. buffer_in x (small_by front (stored_machine rows n head k) p) room) (refusal-read p)
-        ∙ ap (λ x. buffer_in (fit_refusal (rows_of im) (state_count im) head (symbol_count im) p) x room) (image-read front p e),
+    ap (λ f. answer_in (fit_refusal rows n h k p) (small_by f (stored_machine rows n h k) p) room) e
+        ∙ read (λ r n h k. answer_in (fit_refusal r n h k p) (small_by (front_of im) (stored_machine r n h k) p) room),
+    ap (λ f. buffer_in (fit_refusal rows n h k p) (small_by f (stored_machine rows n h k) p) room) e
+        ∙ read (λ r n h k. buffer_in (fit_refusal r n h k p) (small_by (front_of im) (stored_machine r n h k) p) room),
   )
 
 -- the proposer's answer by what was proposed

@@ -1,6 +1,7 @@
 // An accepted image handed to the check of a proposal, to the proposer and to the writer: as rows, with their counts.
-ghost use Rattle.std.specs.Prelude.{◌≡◌, ◌+◌, ◌*◌, ◌≤◌, ◌<◌, length, get_or};
+ghost use Rattle.std.specs.Prelude.{◌≡◌, ◌+◌, ◌*◌, ◌≤◌, ◌<◌, length, get_or, MatchResult};
 ghost use Rattle.base_numbers.specs.Numbers.{most_states};
+ghost use Rattle.base_numbers.specs.Refusals.{refusal_number};
 ghost use Rattle.machine_image.specs.Image.{symbol_count, state_count};
 ghost use Rattle.small_classes.specs.Check.{stored_proposed};
 ghost use Rattle.small_write.specs.Answer.{answer_in, buffer_in};
@@ -9,17 +10,14 @@ ghost use Rattle.small_library.specs.Smaller.{number_of, bytes_of};
 ghost use Rattle.small_library.specs.Rows.{front_of, rows_of, machine_by};
 
 use base_bytes::Built;
-use base_bytes::numbers::wide;
-use base_numbers::{BAD_CLASSES, MOST_STATES};
+use base_numbers::{BAD_CLASSES, MOST_STATES, Refusal};
+use small_rounds::Rows;
 
 // The byte at i, or 0 past the end.
 fn at(im: &[u8], i: usize) -> usize
     ensures { (result ≡ get_or im.now i 0) × (result < 256) }
 {
-    if i < im.len() {
-        return wide(im[i]);
-    }
-    0
+    usize::from(im.get(i).copied().unwrap_or(0))
 }
 
 // How many states the image says.
@@ -32,19 +30,31 @@ fn state_count(im: &[u8]) -> usize
     low + 256 * high
 }
 
-// 0 if the proposal fits the machine in the image, with so many bytes before a state's targets, else 27.
-pub(crate) fn fit(im: &[u8], p: &[u8], head: usize) -> u8
+// The states' rows, with so many bytes before a state's targets.
+fn rows(im: &[u8], head: usize) -> Rows
     requires { 3 + 3 * symbol_count im.now ≤ length im.now }
-    ensures { result ≡ fit_refusal (rows_of im.now) (state_count im.now) head (symbol_count im.now) p.now }
+    ensures { (result.bytes.now ≡ rows_of im.now) × (result.states ≡ state_count im.now) × (result.head ≡ head) × (result.symbols ≡ symbol_count im.now) }
 {
-    let k = at(im, 0);
-    let n = state_count(im);
-    let a = 3 + 3 * k;
-    let e = im.len();
-    if small_classes::check(&im[a..e], p, n, head, k) {
-        return 0;
+    let symbols = at(im, 0);
+    Rows {
+        bytes: &im[3 + 3 * symbols..],
+        states: state_count(im),
+        head,
+        symbols,
     }
-    BAD_CLASSES
+}
+
+// Whether the proposal fits the machine in the image, with so many bytes before a state's targets.
+pub(crate) fn fit(im: &[u8], p: &[u8], head: usize) -> Result<(), Refusal>
+    requires { 3 + 3 * symbol_count im.now ≤ length im.now }
+    ensures { MatchResult result (λ z. 0 ≡ fit_refusal (rows_of im.now) (state_count im.now) head (symbol_count im.now) p.now)
+        (λ k. refusal_number k ≡ fit_refusal (rows_of im.now) (state_count im.now) head (symbol_count im.now) p.now) }
+{
+    if small_classes::check(rows(im, head), p) {
+        Ok(())
+    } else {
+        Err(Refusal::BadClasses)
+    }
 }
 
 // The small image of the proposal's classes, written to the buffer.
@@ -55,13 +65,8 @@ pub(crate) fn write(im: &[u8], p: &[u8], buf: &mut [u8], head: usize) -> Built
     ensures buf_after { buf.new ≡ buffer_in (fit_refusal (rows_of im.now) (state_count im.now) head (symbol_count im.now) p.now)
         (small_by (front_of im.now) (machine_by im.now head) p.now) (length buf.old) }
 {
-    let k = at(im, 0);
-    let n = state_count(im);
-    let z = 0;
-    let f = 1 + 3 * k;
-    let a = 3 + 3 * k;
-    let e = im.len();
-    small_write::write(&im[z..f], &im[a..e], p, buf, n, head, k)
+    let front = &im[..1 + 3 * at(im, 0)];
+    small_write::write(front, rows(im, head), p, buf)
 }
 
 // The proposer's classes, written to the buffer.
@@ -72,29 +77,20 @@ pub(crate) fn propose(im: &[u8], buf: &mut [u8], head: usize) -> Built
     ensures buf_after { buf.new ≡ buffer_in (number_of (stored_proposed (rows_of im.now) (state_count im.now) head (symbol_count im.now)))
         (bytes_of (stored_proposed (rows_of im.now) (state_count im.now) head (symbol_count im.now))) (length buf.old) }
 {
-    let k = at(im, 0);
-    let n = state_count(im);
-    let a = 3 + 3 * k;
-    let e = im.len();
-    let z = 0;
+    let r = rows(im, head);
     let mut classes = [0u8; MOST_STATES];
-    propose_to(&im[a..e], &mut classes[z..n], buf, n, head, k)
+    propose_to(r, &mut classes[..r.states], buf)
 }
 
-// The same with a list of n bytes for the classes.
-fn propose_to(
-    rows: &[u8],
-    classes: &mut [u8],
-    buf: &mut [u8],
-    n: usize,
-    head: usize,
-    k: usize,
-) -> Built
-    requires { length classes.old ≡ n }
-    ensures value { result ≡ answer_in (number_of (stored_proposed rows.now n head k)) (bytes_of (stored_proposed rows.now n head k)) (length buf.old) }
-    ensures buf_after { buf.new ≡ buffer_in (number_of (stored_proposed rows.now n head k)) (bytes_of (stored_proposed rows.now n head k)) (length buf.old) }
+// The same with a list for the classes, one for each state.
+fn propose_to(rows: Rows, classes: &mut [u8], buf: &mut [u8]) -> Built
+    requires { length classes.old ≡ rows.states }
+    ensures value { result ≡ answer_in (number_of (stored_proposed rows.entry.bytes.now rows.entry.states rows.entry.head rows.entry.symbols))
+        (bytes_of (stored_proposed rows.entry.bytes.now rows.entry.states rows.entry.head rows.entry.symbols)) (length buf.old) }
+    ensures buf_after { buf.new ≡ buffer_in (number_of (stored_proposed rows.entry.bytes.now rows.entry.states rows.entry.head rows.entry.symbols))
+        (bytes_of (stored_proposed rows.entry.bytes.now rows.entry.states rows.entry.head rows.entry.symbols)) (length buf.old) }
 {
-    if !small_classes::propose(rows, classes, n, head, k) {
+    if !small_classes::propose(rows, classes) {
         return base_bytes::refuse(buf, BAD_CLASSES);
     }
     small_write::put(classes, buf)

@@ -61,7 +61,10 @@ pub fn check(t: &[u8], im: &[u8], p: &[u8]) -> u8
     if j.refusal != 0 {
         return j.refusal;
     }
-    image::fit(im, p, j.head)
+    match image::fit(im, p, j.head) {
+        Ok(()) => 0,
+        Err(k) => u8::from(k),
+    }
 }
 
 // The small image of the proposal's classes, written to the buffer with zeros after it; or all zeros and the number of the

@@ -1,3 +1,4 @@
 pub mod StoredLaws
 pub mod TestLaws
 pub mod RoundLaws
+pub mod Ranges

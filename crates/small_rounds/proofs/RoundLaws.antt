@@ -1,15 +1,12 @@
 -- Laws of the rounds as the code makes them: it stops when a round changes nothing.
 use Prim.Native.Nat.{ℕ, zero, suc, ◌+◌, ◌-◌, ◌≤◌}
 use mathlib.Core.Path.{◌≡◌, sym, ap, ◌∙◌}
-use mathlib.Core.Bool.{true}
 use mathlib.Core.List.{List}
-use lib.Dec.{eqb}
 use lib.ListN.{length}
 use native.Mathlib.Numerals.{add-one}
 use native.Mathlib.Omega.{arith}
 use Rattle.base_lists.proofs.Tabulated.{tabulate-length}
-use Rattle.base_lists.proofs.Lists.{eqb-exact, list-exact}
-use Rattle.base_lists.specs.Lists.{same_list, tabulate}
+use Rattle.base_lists.specs.Lists.{tabulate}
 use Rattle.theory_minimal.specs.Machine.{Machine}
 use Rattle.theory_minimal.specs.Refine.{leader, same_row, refine, refined, blocks}
 
@@ -34,9 +31,8 @@ module _ (m : Machine) where
   unfolding refined
   rounds-begin p e = e
 
-  pub rounds-end : (p q : List ℕ) (r : ℕ) → p ≡ refined m r → q ≡ refine m p → same_list eqb p q ≡ true → r ≤ m.states → p ≡ blocks m
-  rounds-end p q r e d s h =
-      let i : p ≡ q = (list-exact eqb-exact).to p q s in
+  pub rounds-end : (p q : List ℕ) (r : ℕ) → p ≡ refined m r → q ≡ refine m p → p ≡ q → r ≤ m.states → p ≡ blocks m
+  rounds-end p q r e d i h =
       let j : refine m (refined m r) ≡ refined m r = rw (← e) (sym d ∙ sym i) in
       let k : r + (m.states - r) ≡ m.states = omega arith in
       e ∙ sym (stays r (m.states - r) j) ∙ ap (refined m) k

@@ -3,3 +3,4 @@
 
 -- what the promises use
 pub mod Stored
+pub mod Rows

@@ -33,7 +33,16 @@ is_stored rows n head k =
     && (leb (n * (head + k)) (length rows)
     && all_below n (row_leads (stored_machine rows n head k)))))))
 
--- the same as a fact
+-- the first six of these as a fact
+pub record Room (rows : List ℕ) (n head k : ℕ) : Type 0 where
+  pub some : 1 ≤ n
+  pub few : n ≤ most_states
+  pub signalled : 1 ≤ head
+  pub short : head ≤ 512
+  pub narrow : k ≤ 512
+  pub bytes : n * (head + k) ≤ length rows
+
+-- all of it as a fact
 pub record Stored (rows : List ℕ) (n head k : ℕ) : Type 0 where
   pub few : n ≤ most_states
   pub signalled : 0 < head

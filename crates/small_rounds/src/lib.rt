@@ -1,7 +1,7 @@
 // Which states of a machine are equivalent, over the machine's rows of bytes: the partition into blocks, by refinement.
 //
-// In: rows, any bytes, with the numbers of states, of bytes before a state's targets, and of symbols. Out: whether there is a
-// machine in them, and then for each state the first one that behaves as it does.
+// In: rows, any bytes, with the numbers of states, of bytes before a state's targets, and of symbols. Out: the machine in them, if
+// there is one, and for each state the first one that behaves as it does.
 //
 //   stored.rt  whether there is a machine in the rows
 //   rounds.rt  the rounds of refinement
@@ -10,25 +10,24 @@
 mod rounds;
 mod stored;
 
-ghost use Rattle.std.specs.Prelude.{◌≡◌, cond, ◌&&◌, eqb, length};
+ghost use Rattle.std.specs.Prelude.{◌≡◌, true, false, ◌&&◌, eqb, length, MatchOption};
 ghost use Rattle.theory_minimal.specs.Refine.{blocks};
-ghost use Rattle.small_rounds.specs.Stored.{stored_machine, is_stored};
+ghost use Rattle.small_rounds.specs.Rows.{machine_in, has_machine};
 
-// For each state the first one that behaves as it does, in p, if there is a machine of n states in the rows and both lists are
-// as long; else p stays. q is to work in: which bytes are left in it is open, only that there are as many.
-pub fn first_alike(rows: &[u8], p: &mut [u8], q: &mut [u8], n: usize, head: usize, k: usize) -> bool
-    ensures value { result ≡ (is_stored rows.now n head k && (eqb (length p.old) n && eqb (length q.old) n)) }
-    ensures p_after { (p.new ≡ cond result (blocks (stored_machine rows.now n head k)) p.old) × (length q.new ≡ length q.old) }
+pub use stored::{Machine, Rows};
+
+// The machine in the rows, with for each state the first one that behaves as it does in p, if there is one and both lists have as many
+// bytes as it has states; else p stays. q is to work in: which bytes are left in it is open, only that there are as many.
+pub fn first_alike<'a>(rows: Rows<'a>, p: &mut [u8], q: &mut [u8]) -> Option<Machine<'a>>
+    ensures { MatchOption result
+        (((has_machine rows.entry && (eqb (length p.old) rows.entry.states && eqb (length q.old) rows.entry.states)) ≡ false) × (p.new ≡ p.old))
+        (λ m. ((has_machine rows.entry && (eqb (length p.old) rows.entry.states && eqb (length q.old) rows.entry.states)) ≡ true)
+        × (m.rows ≡ rows.entry) × (p.new ≡ blocks (machine_in rows.entry))) }
 {
-    if !stored::is_stored(rows, n, head, k) {
-        return false;
+    let m = rows.machine()?;
+    if p.len() != rows.states || q.len() != rows.states {
+        return None;
     }
-    if p.len() != n {
-        return false;
-    }
-    if q.len() != n {
-        return false;
-    }
-    rounds::blocks(rows, p, q, n, head, k);
-    true
+    m.blocks(p, q);
+    Some(m)
 }

@@ -1,86 +1,92 @@
 // The rounds of refinement: the partition by signals, then by the classes of the targets, until nothing changes.
-ghost use Rattle.std.specs.Prelude.{◌≡◌, ◌≤◌, ◌<◌, length};
-ghost use Rattle.base_lists.specs.Lists.{tabulate};
-ghost use Rattle.theory_minimal.specs.Refine.{leader, same_row, refine, blocks};
-ghost use Rattle.small_rounds.specs.Stored.{stored_machine, Stored};
+ghost use Rattle.std.specs.Prelude.{◌≡◌, ◌≤◌, ◌<◌, length, slice_index};
+ghost use Rattle.base_lists.specs.Lists.{tabulate, all_below};
+ghost use Rattle.theory_minimal.specs.Refine.{leader, same_row, same_target, refine, blocks};
+ghost use Rattle.small_rounds.specs.Rows.{machine_in};
 
-use base_bytes::numbers::wide;
+use crate::stored::Machine;
 
-// States i and j have one class, and so have their targets for each symbol.
-fn same_row(rows: &[u8], p: &[u8], n: usize, head: usize, k: usize, i: usize, j: usize) -> bool
-    requires { Stored rows.now n head k × (length p.now ≡ n) × (i < n) × (j < n) }
-    ensures { result ≡ same_row (stored_machine rows.now n head k) p.now i j }
-{
-    if p[i] != p[j] {
-        return false;
+impl Machine<'_> {
+    // The signal of state j.
+    pub fn signal(self, j: usize) -> u8
+        requires { j < self.rows.states }
+        ensures { result ≡ (machine_in self.entry.rows).signal j }
+    {
+        self.rows.bytes[j * (self.rows.head + self.rows.symbols)]
     }
-    let a = i * (head + k) + head;
-    let b = j * (head + k) + head;
-    let mut s = 0;
-    while s < k {
-        let x = wide(rows[a + s]);
-        let y = wide(rows[b + s]);
-        if p[x] != p[y] {
-            return false;
+
+    // Where state j goes on symbol s.
+    pub fn target(self, j: usize, s: usize) -> u8
+        requires { (j < self.rows.states) × (s < self.rows.symbols) }
+        ensures { (result ≡ (machine_in self.entry.rows).target j s) × (result < self.entry.rows.states) }
+    {
+        self.rows.bytes[j * (self.rows.head + self.rows.symbols) + self.rows.head + s]
+    }
+
+    // The class of where state j goes on symbol s.
+    pub fn class_after(self, p: &[u8], j: usize, s: usize) -> u8
+        requires { (length p.now ≡ self.rows.states) × (j < self.rows.states) × (s < self.rows.symbols) }
+        ensures { result ≡ slice_index p.now ((machine_in self.entry.rows).target j s) }
+    {
+        p[usize::from(self.target(j, s))]
+    }
+
+    // States i and j have one class, and so have their targets for each symbol.
+    fn same_row(self, p: &[u8], i: usize, j: usize) -> bool
+        requires { (length p.now ≡ self.rows.states) × (i < self.rows.states) × (j < self.rows.states) }
+        ensures { result ≡ same_row (machine_in self.entry.rows) p.now i j }
+    {
+        p[i] == p[j] && self.same_targets(p, i, j)
+    }
+
+    // The targets have, for each symbol.
+    fn same_targets(self, p: &[u8], i: usize, j: usize) -> bool
+        requires { (length p.now ≡ self.rows.states) × (i < self.rows.states) × (j < self.rows.states) }
+        ensures { result ≡ all_below self.entry.rows.symbols (same_target (machine_in self.entry.rows) p.now i j) }
+    {
+        (0..self.rows.symbols).all(|s| self.class_after(p, i, s) == self.class_after(p, j, s))
+    }
+
+    // The first state that the classes do not tell from state i.
+    fn first_like(self, p: &[u8], i: usize) -> usize
+        requires { (length p.now ≡ self.rows.states) × (i < self.rows.states) }
+        ensures { (result ≡ leader (same_row (machine_in self.entry.rows) p.now) i) × (result ≤ i) }
+    {
+        (0..i).find(|&j| self.same_row(p, i, j)).unwrap_or(i)
+    }
+
+    // One round: the classes q after the classes p.
+    fn refine(self, p: &[u8], q: &mut [u8])
+        requires { (length p.now ≡ self.rows.states) × (length q.old ≡ self.rows.states) }
+        ensures { q.new ≡ refine (machine_in self.entry.rows) p.now }
+    {
+        for i in 0..q.len() {
+            q[i] = self.first_like(p, i) as u8;
         }
-        s += 1;
     }
-    true
-}
 
-// The first state that the classes do not tell from state i.
-fn first_like(rows: &[u8], p: &[u8], n: usize, head: usize, k: usize, i: usize) -> usize
-    requires { Stored rows.now n head k × (length p.now ≡ n) × (i < n) }
-    ensures { (result ≡ leader (same_row (stored_machine rows.now n head k) p.now) i) × (result ≤ i) }
-{
-    let mut j = 0;
-    while j < i {
-        if same_row(rows, p, n, head, k, i, j) {
-            return j;
+    // The first partition: by the states' signals.
+    fn signals(self, p: &mut [u8])
+        requires { length p.old ≡ self.rows.states }
+        ensures { p.new ≡ tabulate (machine_in self.entry.rows).signal self.entry.rows.states }
+    {
+        for i in 0..p.len() {
+            p[i] = self.signal(i);
         }
-        j += 1;
     }
-    i
-}
 
-// One round: the classes q after the classes p.
-fn refine(rows: &[u8], p: &[u8], q: &mut [u8], n: usize, head: usize, k: usize)
-    requires { Stored rows.now n head k × (length p.now ≡ n) × (length q.old ≡ n) }
-    ensures { q.new ≡ refine (stored_machine rows.now n head k) p.now }
-{
-    let mut i = 0;
-    while i < n {
-        let j = first_like(rows, p, n, head, k, i);
-        q[i] = j as u8;
-        i += 1;
-    }
-}
-
-// The first partition: by the states' signals.
-fn signals(rows: &[u8], p: &mut [u8], n: usize, head: usize, k: usize)
-    requires { Stored rows.now n head k × (length p.old ≡ n) }
-    ensures { p.new ≡ tabulate (stored_machine rows.now n head k).signal n }
-{
-    let mut i = 0;
-    while i < n {
-        p[i] = rows[i * (head + k)];
-        i += 1;
-    }
-}
-
-// For each state the first equivalent one: rounds of refinement until nothing changes, at most as many as there are states.
-pub(crate) fn blocks(rows: &[u8], p: &mut [u8], q: &mut [u8], n: usize, head: usize, k: usize)
-    requires { Stored rows.now n head k × (length p.old ≡ n) × (length q.old ≡ n) }
-    ensures { (p.new ≡ blocks (stored_machine rows.now n head k)) × (length q.new ≡ n) }
-{
-    signals(rows, p, n, head, k);
-    let mut r = 0;
-    while r < n {
-        refine(rows, p, q, n, head, k);
-        if base_text::compare::same(p, q) {
-            return;
+    // For each state the first equivalent one: rounds of refinement until nothing changes, at most as many as there are states.
+    pub(crate) fn blocks(self, p: &mut [u8], q: &mut [u8])
+        requires { (length p.old ≡ self.rows.states) × (length q.old ≡ self.rows.states) }
+        ensures { p.new ≡ blocks (machine_in self.entry.rows) }
+    {
+        self.signals(p);
+        for _ in 0..self.rows.states {
+            self.refine(p, q);
+            if *p == *q {
+                return;
+            }
+            p.copy_from_slice(q);
         }
-        base_bytes::lent::copy(q, p);
-        r += 1;
     }
 }

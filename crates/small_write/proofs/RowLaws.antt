@@ -1,16 +1,15 @@
 -- Laws of the classes' bytes as the code writes them.
-use Prim.Native.Nat.{ℕ, ◌+◌, ◌-◌, ◌*◌, ◌/◌, ◌%◌, ◌≤◌, ◌<◌}
+use Prim.Native.Nat.{ℕ, ◌+◌, ◌-◌, ◌*◌, ◌≤◌, ◌<◌}
 use mathlib.Core.Path.{◌≡◌, refl, sym, ap, ◌∙◌}
-use mathlib.Core.List.{List, [], ◌∷◌, ◌++◌, append_assoc}
-use lib.ListN.{length, get_or, set, take, drop, length-append, length-take, length-drop}
-use lib.Seq.{take_all}
+use mathlib.Core.List.{List, [], ◌++◌}
+use lib.ListN.{length, get_or, take, drop, length-take, length-drop}
 use native.Mathlib.Numerals.{add-one}
 use native.Mathlib.Nat.{mul-le-mul_right}
 use native.Mathlib.Omega.{arith}
 use Rattle.base_numbers.specs.Numbers.{most_states}
 use Rattle.base_lists.proofs.Numbers.{row_fits}
 use Rattle.base_lists.proofs.Filled.{Filled, filled_copy}
-use Rattle.base_lists.proofs.Over.{over-set, over-all, over_none, length_over, over-lend}
+use Rattle.base_lists.proofs.Over.{over-all, over_none, length_over, over-lend}
 use Rattle.base_lists.specs.Lists.{over}
 use Rattle.base_lists.proofs.Tabulated.{tabulate-at, tabulate-length}
 use Rattle.theory_minimal.specs.Machine.{Machine}
@@ -77,17 +76,3 @@ module _ (m : Machine) (p : List ℕ) where
   -- where the row of class c ends
   pub small-end : (c count a : ℕ) → c < count → count ≤ most_states → a ≡ c * (1 + m.symbols) → a + (1 + m.symbols) ≤ count * (1 + m.symbols)
   small-end c count a h k i = omega (arith, row_fits c count (1 + m.symbols) h)
-
--- the front copied, and the class count behind it
-pub head-written : (front head₀ head : List ℕ) (j count : ℕ) → j ≤ length front → length front ≤ j → length head₀ ≡ length front + 2
-    → head ≡ over ([] ++ take j front) head₀
-    → set (set head (length front) (count % 256)) (length front + 1) (count / 256) ≡ front ++ count % 256 ∷ count / 256 ∷ []
-head-written front head₀ head j count a b l e =
-    let f : take j front ≡ front = take_all j front b in
-    let g : head ≡ over front head₀ = e ∙ ap (λ x. over x head₀) f in
-    ap (λ x. set (set x (length front) (count % 256)) (length front + 1) (count / 256)) g
-    ∙ ap (λ x. set x (length front + 1) (count / 256)) (over-set front head₀ (length front) (count % 256) refl (omega arith))
-    ∙ over-set (front ++ count % 256 ∷ []) head₀ (length front + 1) (count / 256) (length-append front (count % 256 ∷ [])) (omega arith)
-    ∙ over-all ((front ++ count % 256 ∷ []) ++ count / 256 ∷ []) head₀
-    (length-append (front ++ count % 256 ∷ []) (count / 256 ∷ []) ∙ omega (arith, length-append front (count % 256 ∷ [])))
-    ∙ append_assoc front (count % 256 ∷ []) (count / 256 ∷ [])

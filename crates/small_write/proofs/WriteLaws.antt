@@ -62,15 +62,15 @@ module _ (front : List ℕ) (m : Machine) (p : List ℕ) where
       )
 
   -- three parts lent one after the other: the front with the class count, the classes, and what is left
-  pub three-parts : (b h r z : List ℕ) (count from size room : ℕ) → count ≡ class_count p → from ≡ length front + 2
-      → size ≡ from + count * (1 + m.symbols) → room ≡ length b → size ≤ room
+  pub three-parts : (b h r z : List ℕ) (count from size : ℕ) → count ≡ class_count p → from ≡ length front + 2
+      → size ≡ from + count * (1 + m.symbols) → size ≤ length b
       → h ≡ front ++ count % 256 ∷ count / 256 ∷ [] → r ≡ small_states (small m p) count
-      → (b₁ b₂ b₃ : List ℕ) → z ≡ replicate (length (take (room - size) (drop size b₂))) 0
-      → b₁ ≡ take 0 b ++ (h ++ drop (from - 0) (drop 0 b)) → b₂ ≡ take from b₁ ++ (r ++ drop (size - from) (drop from b₁))
-      → b₃ ≡ take size b₂ ++ (z ++ drop (room - size) (drop size b₂))
-      → b₃ ≡ small_by front m p ++ replicate (room - length (small_by front m p)) 0
+      → (b₁ b₂ b₃ : List ℕ) → z ≡ replicate (length (take (length b₂ - size) (drop size b₂))) 0
+      → b₁ ≡ h ++ drop from b → b₂ ≡ take from b₁ ++ (r ++ drop (size - from) (drop from b₁))
+      → b₃ ≡ take size b₂ ++ (z ++ drop (length b₂ - size) (drop size b₂))
+      → b₃ ≡ small_by front m p ++ replicate (length b - length (small_by front m p)) 0
   unfolding small_by
-  three-parts b h r z count from size room c-is from_is type_size room-is fit h-is r-is b₁ b₂ b₃ z-is e₁ e₂ e₃ =
+  three-parts b h r z count from size c-is from_is type_size fit h-is r-is b₁ b₂ b₃ z-is e₁ e₂ e₃ =
       let h-same : h ≡ head_of = h-is ∙ ap (λ c. front ++ c % 256 ∷ c / 256 ∷ []) c-is in
       let r-same : r ≡ classes_of = r-is ∙ ap (small_states (small m p)) c-is in
       let h-long : length head_of ≡ from = length-append front (class_count p % 256 ∷ class_count p / 256 ∷ []) ∙ sym from_is in
@@ -78,7 +78,7 @@ module _ (front : List ℕ) (m : Machine) (p : List ℕ) where
       let r-long : length classes_of ≡ w = rows-length m p (class_count p) ∙ ap (λ c. c * (1 + m.symbols)) (sym c-is) in
       let g : size - from ≡ w = omega arith in
       let o₁ : b₁ ≡ over head_of b =
-      e₁ ∙ ap (λ x. x ++ drop (from - 0) b) h-same ∙ over-front head_of b (from - 0) (omega (arith, h-long)) in
+      e₁ ∙ ap (λ x. x ++ drop from b) h-same ∙ over-front head_of b from (omega (arith, h-long)) in
       let o₂ : b₂ ≡ over (head_of ++ classes_of) b =
       e₂ ∙ ap (λ x. take from x ++ (r ++ drop (size - from) (drop from x))) o₁
       ∙ ap (λ x. take from (over head_of b) ++ (x ++ drop (size - from) (drop from (over head_of b)))) r-same
@@ -86,23 +86,25 @@ module _ (front : List ℕ) (m : Machine) (p : List ℕ) where
       ∙ over-lend head_of b from w classes_of h-long r-long in
       let s-long : length (head_of ++ classes_of) ≡ size = length-append head_of classes_of ∙ omega (arith, h-long, r-long) in
       let b-long : length b₂ ≡ length b = ap length o₂ ∙ length_over (head_of ++ classes_of) b (omega (arith, s-long)) in
-      let part-long : length (take (room - size) (drop size b₂)) ≡ room - size = simp (length-take, length-drop) (omega (arith, b-long)) in
-      let zeros : List ℕ = replicate (room - size) 0 in
+      let rest : ℕ = length b₂ - size in
+      let part-long : length (take rest (drop size b₂)) ≡ rest = simp (length-take, length-drop) (omega (arith, b-long)) in
+      let zeros : List ℕ = replicate rest 0 in
       let z-same : z ≡ zeros = z-is ∙ ap (λ k. replicate k 0) part-long in
-      let z-long : length zeros ≡ room - size = length-replicate (room - size) 0 in
+      let z-long : length zeros ≡ rest = length-replicate rest 0 in
       let o₃ : b₃ ≡ over ((head_of ++ classes_of) ++ zeros) b =
-      e₃ ∙ ap (λ x. take size x ++ (z ++ drop (room - size) (drop size x))) o₂
-      ∙ ap (λ x. take size (over (head_of ++ classes_of) b) ++ (x ++ drop (room - size) (drop size (over (head_of ++ classes_of) b)))) z-same
-      ∙ over-lend (head_of ++ classes_of) b size (room - size) zeros s-long z-long in
+      e₃ ∙ ap (λ x. take size x ++ (z ++ drop rest (drop size x))) o₂
+      ∙ ap (λ x. take size (over (head_of ++ classes_of) b) ++ (x ++ drop rest (drop size (over (head_of ++ classes_of) b)))) z-same
+      ∙ over-lend (head_of ++ classes_of) b size rest zeros s-long z-long in
       o₃
-      ∙ over-all ((head_of ++ classes_of) ++ zeros) b (length-append (head_of ++ classes_of) zeros ∙ omega (arith, s-long, z-long))
-      ∙ ap (λ x. (head_of ++ classes_of) ++ replicate (room - x) 0) (sym s-long)
+      ∙ over-all ((head_of ++ classes_of) ++ zeros) b (length-append (head_of ++ classes_of) zeros ∙ omega (arith, s-long, z-long, b-long))
+      ∙ ap (λ x. (head_of ++ classes_of) ++ replicate (length b₂ - x) 0) (sym s-long)
+      ∙ ap (λ x. (head_of ++ classes_of) ++ replicate (x - length (head_of ++ classes_of)) 0) b-long
 
 -- the part for the classes, after the first was lent
-pub rows-part : (b h : List ℕ) (from w : ℕ) → from + w ≤ length b → length h ≡ from → (b₁ : List ℕ) → b₁ ≡ h ++ drop (from - 0) b
+pub rows-part : (b h : List ℕ) (from w : ℕ) → from + w ≤ length b → length h ≡ from → (b₁ : List ℕ) → b₁ ≡ h ++ drop from b
     → length (take (from + w - from) (drop from b₁)) ≡ w
 rows-part b h from w l e b₁ i =
-    let g : length b₁ ≡ length b = ap length i ∙ length-append h (drop (from - 0) b) ∙ omega (arith, e, length-drop (from - 0) b) in
+    let g : length b₁ ≡ length b = ap length i ∙ length-append h (drop from b) ∙ omega (arith, e, length-drop from b) in
     simp (length-take, length-drop) (omega (arith, g))
 
 -- the answers

@@ -22,9 +22,9 @@ use Rattle.theory_kept.specs.Kept.{rung_available}
 use Rattle.theory_kept.specs.Way.{way_to}
 use Rattle.theory_kept.specs.Decision.{may_precede, any_mark, reachable, marks_to, first_loss, keeps, shown}
 use Rattle.node_step.specs.Step.{reaches}
-use Rattle.table_kept.specs.declared.search.Found.{Found}
+use Rattle.table_kept.specs.declared.found.Found.{Found}
 use Rattle.table_kept.specs.Marks.{precedes, next_by, next_in, loss_at, rings_at, numbers_of}
-use Rattle.table_kept.specs.Held.{signals_in, Fits}
+use Rattle.table_kept.specs.Held.{signals_in}
 use Rattle.table_kept.proofs.SearchLaws.{in-length}
 use Rattle.table_kept.proofs.Right.{Arrays, Stored, precedes-right, reachable-same, few-found, way-numbers, loss-same, low, rings-same, nodes-same}
 use Rattle.table_decode.specs.Tables.{table_refusal, table_of}
@@ -112,14 +112,14 @@ module _ (t : List ℕ) (formed : table_refusal t ≡ 0) (d : Decoded) (h : Hold
         )
 
     -- the signals found
-    module _ {f : Found} (fits : Fits f) (e : signals_in f ≡ discover eqb (next_in all) a.nodes 0 a.signals) where
+    module _ (f : Found) (e : signals_in f ≡ discover eqb (next_in all) a.nodes 0 a.signals) where
       pub found-is : signals_in f ≡ reachable T env may
       found-is =
           e ∙ ap (λ n. discover eqb (next_in all) n 0 a.signals) (sym all-nodes)
           ∙ reachable-same d.rows a.rows a.parent a.inner a.category a.signals T finder arrays may all stored
 
       pub count-is : f.count ≡ length (reachable T env may)
-      count-is = sym (in-length f fits) ∙ ap length found-is
+      count-is = sym (in-length f) ∙ ap length found-is
 
       -- the way to one of them
       pub way-is : {ns : List ℕ} (j : ℕ) → ns ≡ map suc (way_to eqb (next_in all) a.nodes 0 (signals_in f) j)
@@ -156,7 +156,7 @@ module _ (t : List ℕ) (formed : table_refusal t ≡ 0) (d : Decoded) (h : Hold
     module _ (allowed : List Bool) (test : (k : ℕ) → k < a.nodes → get_or allowed k false ≡ precedes a.parent a.category c node k)
         (all : List ℕ) (targets : (i : ℕ) → i < a.signals * most_nodes
         → get_or all i 0 ≡ next_by a.rows a.parent a.category a.signals allowed (i / most_nodes) (i % most_nodes))
-        {f : Found} (fits : Fits f) (e : signals_in f ≡ discover eqb (next_in all) a.nodes 0 a.signals)
+        (f : Found) (e : signals_in f ≡ discover eqb (next_in all) a.nodes 0 a.signals)
         {i j : ℕ} (wide : i ≡ c) (loss : j ≡ loss_at a.rows a.signals (signals_in f) i node) where
       abbrev st : Stored d.rows a.rows a.parent a.category a.signals T (may_precede u.cat u.path) all
       st = stored (may_precede u.cat u.path) allowed (may-test allowed test) all targets
@@ -165,10 +165,10 @@ module _ (t : List ℕ) (formed : table_refusal t ≡ 0) (d : Decoded) (h : Hold
       l = reachable T env (may_precede u.cat u.path)
 
       list-is : signals_in f ≡ l
-      list-is = found-is (may_precede u.cat u.path) allowed (may-test allowed test) all targets fits e
+      list-is = found-is (may_precede u.cat u.path) allowed (may-test allowed test) all targets f e
 
       many_is : f.count ≡ length l
-      many_is = count-is (may_precede u.cat u.path) allowed (may-test allowed test) all targets fits e
+      many_is = count-is (may_precede u.cat u.path) allowed (may-test allowed test) all targets f e
 
       cat-is : i ≡ u.cat
       cat-is = wide ∙ category
@@ -220,7 +220,7 @@ module _ (t : List ℕ) (formed : table_refusal t ≡ 0) (d : Decoded) (h : Hold
           nodes-is : ns ++ node ∷ [] ≡ numbers_of T (shown T env u.cat u.path)
           nodes-is =
               ap₂ (λ y z. y ++ z ∷ [])
-              (way-is (may_precede u.cat u.path) allowed (may-test allowed test) all targets fits e j en
+              (way-is (may_precede u.cat u.path) allowed (may-test allowed test) all targets f e j en
               ∙ ap (λ k. map suc (way_to eqb (next_in all) (length (nodes T)) 0 l k)) at) (sym own)
               ∙ nodes-same d.rows a.rows a.parent a.inner a.category a.signals T finder arrays (node - 1) in_table all st lost
 
@@ -247,13 +247,13 @@ module _ (t : List ℕ) (formed : table_refusal t ≡ 0) (d : Decoded) (h : Hold
   module _ (allowed : List Bool) (test : (k : ℕ) → k < a.nodes → get_or allowed k false ≡ precedes a.parent a.category 8 0 k)
       (all : List ℕ) (targets : (i : ℕ) → i < a.signals * most_nodes
       → get_or all i 0 ≡ next_by a.rows a.parent a.category a.signals allowed (i / most_nodes) (i % most_nodes))
-      {f : Found} (fits : Fits f) (e : signals_in f ≡ discover eqb (next_in all) a.nodes 0 a.signals) (s : ℕ) {j : ℕ} (number : j
+      (f : Found) (e : signals_in f ≡ discover eqb (next_in all) a.nodes 0 a.signals) (s : ℕ) {j : ℕ} (number : j
       ≡ index_by eqb s (signals_in f)) where
     abbrev m : List ℕ
     m = reachable T env any_mark
 
     ring-list : signals_in f ≡ m
-    ring-list = found-is any_mark allowed (any-test allowed test) all targets fits e
+    ring-list = found-is any_mark allowed (any-test allowed test) all targets f e
 
     ring-at : j ≡ index_by eqb s m
     ring-at = number ∙ ap (index_by eqb s) ring-list
@@ -263,17 +263,17 @@ module _ (t : List ℕ) (formed : table_refusal t ≡ 0) (d : Decoded) (h : Hold
     unfolding rung_in
     ring-test b k =
         ap (λ x. cond x (rung_answer (numbers_of T (marks_to T env any_mark (index_by eqb s m)))) (refused_rung 0))
-        (sym k ∙ ap₂ ltb ring-at (count-is any_mark allowed (any-test allowed test) all targets fits e) ∙ index-test s m)
+        (sym k ∙ ap₂ ltb ring-at (count-is any_mark allowed (any-test allowed test) all targets f e) ∙ index-test s m)
 
     pub rung-right : {ns : List ℕ} {x : Rung} → j < f.count → ns ≡ map suc (way_to eqb (next_in all) a.nodes 0 (signals_in f) j)
         → x ≡ rung_answer ns → x ≡ rung_in T (has_bit set) s
     rung-right h en ex =
         ex
         ∙ ap rung_answer
-        (way-is any_mark allowed (any-test allowed test) all targets fits e j en ∙ ap (λ k. map suc (way_to eqb (next_in all) (length (nodes T)) 0 m k)) ring-at
+        (way-is any_mark allowed (any-test allowed test) all targets f e j en ∙ ap (λ k. map suc (way_to eqb (next_in all) (length (nodes T)) 0 m k)) ring-at
         ∙ way-numbers d.rows a.rows a.parent a.inner a.category a.signals T finder arrays any_mark all
         (stored any_mark allowed (any-test allowed test) all targets) (index_by eqb s m)
-        (omega (arith, h, ring-at, count-is any_mark allowed (any-test allowed test) all targets fits e)))
+        (omega (arith, h, ring-at, count-is any_mark allowed (any-test allowed test) all targets f e)))
         ∙ ring-test true (lt-ltb j f.count h)
 
     pub silent-right : {x : Rung} → f.count ≤ j → x ≡ refused_rung 0 → x ≡ rung_in T (has_bit set) s

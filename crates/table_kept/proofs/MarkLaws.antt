@@ -1,19 +1,20 @@
 -- What the answers of marks.rt are, case by case.
 use Prim.Native.Nat.{ℕ, suc, ◌+◌, ◌*◌, ◌≤◌, ◌<◌}
-use mathlib.Core.Path.{◌≡◌, sym, ap, ◌∙◌}
+use mathlib.Core.Path.{◌≡◌, sym, ap, ◌∙◌, refl}
 use mathlib.Core.Bool.{Bool, true, false, cond}
 use mathlib.Core.List.{List}
-use lib.Dec.{eqb}
+use lib.Dec.{eqb, ltb}
 use lib.ListN.{get_or, set, length}
 use lib.Seq.{get_or-set_same, get_or-set_other}
-use borrow.Author.Tests.{eq-eqb, ne_eqb, lt-ltb, le-ltb}
+use borrow.Author.Tests.{lt-ltb, le-ltb}
 use native.Mathlib.Numerals.{add-one}
 use native.Mathlib.Omega.{arith}
 use native.Mathlib.Decide.{ℕ_discrete}
 use Rattle.base_numbers.specs.Numbers.{most_nodes, most_signals}
 use Rattle.node_step.specs.declared.State.{State}
-use Rattle.node_step.specs.Step.{place_in, with_place, row_at, reaches, find_row, extends, step_numbers}
-use Rattle.table_kept.specs.Marks.{with_node, found_or, after_node, precedes, next_by, next_in, open_state, rings_at}
+use Rattle.node_step.specs.Step.{place_in, row_at, reaches, extends, step_numbers}
+use Rattle.std.specs.Option.{unwrap_or}
+use Rattle.table_kept.specs.Marks.{found_at, with_node, found_or, after_node, precedes, next_by, next_in, open_state, rings_at}
 
 -- the signal after a node, by what was found
 module _ (rows ps : List ℕ) (n s c d : ℕ) where
@@ -31,25 +32,14 @@ module _ (rows ps : List ℕ) (n s c d : ℕ) where
   pub after-not : {b : Bool} → b ≡ test → b ≡ false → s ≡ after_node rows ps n s c d
   after-not e f = sym (by-test false (sym e ∙ f))
 
-  pub after-found : {b : Bool} {i : ℕ} → b ≡ test → b ≡ true → i ≡ with_node rows n s c d → i < most_signals → i ≡ after_node rows ps n s c d
-  after-found {i = i} e f k l = sym (by-test true (sym e ∙ f) ∙ ap (found_or s) (sym k) ∙ ap (λ x. cond x i s) (lt-ltb i most_signals l))
-
-  pub after_none : {b : Bool} {i : ℕ} → b ≡ test → b ≡ true → i ≡ with_node rows n s c d → most_signals ≤ i → s ≡ after_node rows ps n s c d
-  after_none {i = i} e f k l = sym (by-test true (sym e ∙ f) ∙ ap (found_or s) (sym k) ∙ ap (λ x. cond x i s) (le-ltb i most_signals l))
-
--- a row with another place, and the signal that has it
-pub with-found : (rows : List ℕ) (n s c d : ℕ) {row key i : ℕ} → row ≡ row_at rows s → key ≡ with_place row c d → i ≡ find_row rows key 0 n
-    → i ≡ with_node rows n s c d
-with-found rows n s c d e f g = g ∙ ap (λ z. find_row rows z 0 n) (f ∙ ap (λ z. with_place z c d) e)
+  pub after-found : {b : Bool} → b ≡ test → b ≡ true → unwrap_or (found_at (with_node rows n s c d)) s ≡ after_node rows ps n s c d
+  after-found e f = or-signal (with_node rows n s c d) (ltb (with_node rows n s c d) most_signals) refl ∙ sym (by-test true (sym e ∙ f))
+    where
+      or-signal : (i : ℕ) (b : Bool) → ltb i most_signals ≡ b → unwrap_or (found_at i) s ≡ found_or s i
+      or-signal i true h = rw h
+      or-signal i false h = rw h
 
 -- whether a node may be given before another
-module _ (ps : List ℕ) (e b c d : ℕ) where
-  pub precedes-same : {r : Bool} → e ≡ c → r ≡ reaches ps b 9 d → r ≡ cond (eqb e c) (reaches ps b 9 d) true
-  precedes-same h r = r ∙ sym (ap (λ x. cond x (reaches ps b 9 d) true) (eq-eqb e c h))
-
-  pub precedes-other : (e ≡ c → ⊥) → true ≡ cond (eqb e c) (reaches ps b 9 d) true
-  precedes-other h = sym (ap (λ x. cond x (reaches ps b 9 d) true) (ne_eqb e c h))
-
 pub precedes-at : (ps cats : List ℕ) (c d k : ℕ) {r : Bool} → r ≡ cond (eqb (get_or cats k 0) c) (reaches ps (k + 1) 9 d) true → r ≡ precedes ps cats c d k
 unfolding precedes
 precedes-at ps cats c d k e = e ∙ ap (λ z. cond (eqb (get_or cats k 0) c) (reaches ps z 9 d) true) (add-one k)

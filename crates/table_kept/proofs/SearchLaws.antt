@@ -4,12 +4,15 @@ use mathlib.Core.Path.{◌≡◌, refl, sym, ap, ap₂, ◌∙◌}
 use mathlib.Core.Bool.{Bool, true, false, cond, not, ◌||◌, true≢false}
 use mathlib.Core.List.{List, [], ◌∷◌, ◌++◌}
 use lib.Dec.{eqb, ltb}
-use lib.ListN.{get_or, set, take, drop, length, length-take, length-set, length-append, get_or-eq_default, drop_of_length-le}
+use lib.ListN.{get_or, set, take, drop, length, length-take, length-append, get_or-eq_default, drop_of_length-le}
 use lib.Seq.{get_or-take, take-suc-set, drop-cons}
-use borrow.Author.Tests.{eq-eqb, ne_eqb, lt-ltb, le-ltb}
+use borrow.Author.Tests.{eq-eqb, ne_eqb, lt-ltb, le-ltb, ltb-true, ltb-false}
 use native.Mathlib.Numerals.{add-one}
 use native.Mathlib.Omega.{arith}
 use native.Mathlib.Decide.{ℕ_discrete}
+use Rattle.std.specs.Prelude.{Option}
+use Rattle.std.specs.Option.{is_none}
+use Rattle.std.specs.List.{list_any}
 use Rattle.base_numbers.specs.Numbers.{most_signals}
 use Rattle.base_lists.proofs.Lists.{eqb-exact, add-extends}
 use Rattle.base_lists.specs.Lists.{member_by, add_by, index_by}
@@ -17,13 +20,13 @@ use Rattle.theory_resolution.specs.Discovery.{expand, discover}
 use Rattle.theory_resolution.proofs.Discovery.{discover-next, discover-stays}
 use Rattle.theory_kept.specs.Way.{first_below}
 use Rattle.theory_kept.proofs.Way.{first-le, first_passes, first-least}
-use Rattle.table_kept.specs.declared.search.Found.{Found}
-use Rattle.table_kept.specs.Held.{signals_in, Fits}
-use Rattle.table_kept.specs.Marks.{with_node, loss_at}
+use Rattle.table_kept.specs.declared.found.Found.{Found}
+use Rattle.table_kept.specs.Held.{signals_in}
+use Rattle.table_kept.specs.Marks.{with_node, loss_at, found_at}
 
-module _ (h : Found) (f : Fits h) where
+module _ (h : Found) where
   pub in-length : length (signals_in h) ≡ h.count
-  in-length = length-take h.count h.signals ∙ omega (arith, f.few, f.wide)
+  in-length = length-take h.count h.signals ∙ omega (arith, h.few, h.wide)
 
   pub at_in : (i : ℕ) → i < h.count → get_or h.signals i 0 ≡ get_or (signals_in h) i 0
   at_in i k = sym (get_or-take h.count h.signals i 0 k)
@@ -39,18 +42,6 @@ module _ (h : Found) (f : Fits h) where
   rest_more i k = drop-cons (signals_in h) i 0 (omega (arith, in-length)) ∙ ap (λ x. x ∷ drop (suc i) (signals_in h)) (sym (at_in i k))
 
   module _ (s : ℕ) where
-    abbrev pub Left : ℕ → Type 0
-    Left i = member_by eqb s (signals_in h) ≡ member_by eqb s (drop i (signals_in h))
-
-    pub left-hit : (i : ℕ) → i < h.count → Left i → get_or h.signals i 0 ≡ s → true ≡ member_by eqb s (signals_in h)
-    left-hit i k e p = sym (e ∙ ap (member_by eqb s) (rest_more i k) ∙ ap (λ b. b || member_by eqb s (drop (suc i) (signals_in h)))
-        (eq-eqb s (get_or h.signals i 0) (sym p)))
-
-    pub left-more : (i : ℕ) → i < h.count → Left i → (get_or h.signals i 0 ≡ s → ⊥) → Left (i + 1)
-    left-more i k e n =
-        e ∙ ap (member_by eqb s) (rest_more i k) ∙ ap (λ b. b || member_by eqb s (drop (suc i) (signals_in h))) (ne_eqb s (get_or h.signals i 0) (λ p. n (sym p)))
-        ∙ ap (λ j. member_by eqb s (drop j (signals_in h))) (sym (add-one i))
-
     -- the number of s, counted from i on
     abbrev pub From : ℕ → Type 0
     From i = index_by eqb s (signals_in h) ≡ i + index_by eqb s (drop i (signals_in h))
@@ -73,9 +64,6 @@ module _ (h : Found) (f : Fits h) where
 
     pub from_end : (i : ℕ) → h.count ≤ i → i ≤ h.count → From i → h.count ≡ index_by eqb s (signals_in h)
     from_end i k l e = omega (arith, e, ap (index_by eqb s) (drop_of_length-le (signals_in h) {i = i} (omega (arith, in-length))))
-
-    pub left-none : (i : ℕ) → h.count ≤ i → Left i → false ≡ member_by eqb s (signals_in h)
-    left-none i k e = sym (e ∙ ap (member_by eqb s) (drop_of_length-le (signals_in h) {i = i} (omega (arith, in-length))))
 
 -- the first number that passes a test: none before it does
 module _ (f : ℕ → Bool) (n : ℕ) where
@@ -107,8 +95,13 @@ module _ (f : ℕ → Bool) (n : ℕ) where
           let a = first-le f n in
           absurd (true≢false (sym (first_passes f n (omega arith)) ∙ h (first_below f n) (omega arith)))
 
+-- a test of each signal, as the standard library says it
+pub list-member : (s : ℕ) (l : List ℕ) → list_any (eqb s) l ≡ member_by eqb s l
+list-member s [] = refl
+list-member s (x ∷ l) = ap (λ b. eqb s x || b) (list-member s l)
+
 -- one more signal
-module _ (h : Found) (f : Fits h) (s : ℕ) {b : Bool} (e : b ≡ member_by eqb s (signals_in h)) where
+module _ (h : Found) (s : ℕ) {b : Bool} (e : b ≡ member_by eqb s (signals_in h)) where
   added : (c : Bool) → b ≡ c → add_by eqb (signals_in h) s ≡ cond c (signals_in h) (signals_in h ++ s ∷ [])
   added c i = ap (λ x. cond x (signals_in h) (signals_in h ++ s ∷ [])) (sym e ∙ i)
 
@@ -116,16 +109,12 @@ module _ (h : Found) (f : Fits h) (s : ℕ) {b : Bool} (e : b ≡ member_by eqb 
   add-there i = sym (added true i)
 
   pub add-room : b ≡ false → length (add_by eqb (signals_in h) s) ≤ most_signals → h.count < most_signals
-  add-room i r = omega (arith, ap length (added false i), length-append (signals_in h) (s ∷ []), in-length h f)
+  add-room i r = omega (arith, ap length (added false i), length-append (signals_in h) (s ∷ []), in-length h)
 
-  pub add-fits : b ≡ false → length (add_by eqb (signals_in h) s) ≤ most_signals → Fits (record { count = h.count + 1; signals = set h.signals h.count s })
-  add-fits i r = record { few = omega (arith, add-room i r); wide = length-set h.signals h.count s ∙ f.wide }
-
-  pub add-new : b ≡ false → length (add_by eqb (signals_in h) s) ≤ most_signals
-      → signals_in (record { count = h.count + 1; signals = set h.signals h.count s }) ≡ add_by eqb (signals_in h) s
+  pub add-new : b ≡ false → length (add_by eqb (signals_in h) s) ≤ most_signals → take (h.count + 1) (set h.signals h.count s) ≡ add_by eqb (signals_in h) s
   add-new i r =
       ap (λ k. take k (set h.signals h.count s)) (add-one h.count)
-      ∙ take-suc-set h.signals h.count s (omega (arith, add-room i r, f.wide))
+      ∙ take-suc-set h.signals h.count s (omega (arith, add-room i r, h.wide))
       ∙ sym (added false i)
 
 -- the signals that the first nodes lead to
@@ -164,9 +153,9 @@ pub turns-end : (next : ℕ → ℕ → ℕ) (nodes i n : ℕ) → i ≡ n → d
 turns-end next nodes i n e = ap (discover eqb next nodes 0) e
 
 -- turn by turn
-module _ (next : ℕ → ℕ → ℕ) (nodes : ℕ) (h : Found) (f : Fits h) (i : ℕ) (e : signals_in h ≡ discover eqb next nodes 0 i) where
+module _ (next : ℕ → ℕ → ℕ) (nodes : ℕ) (h : Found) (i : ℕ) (e : signals_in h ≡ discover eqb next nodes 0 i) where
   same_count : length (discover eqb next nodes 0 i) ≡ h.count
-  same_count = ap length (sym e) ∙ in-length h f
+  same_count = ap length (sym e) ∙ in-length h
 
   pub turn-next : {s : ℕ} {l : List ℕ} → i < h.count → s ≡ get_or (signals_in h) i 0 → l ≡ expand eqb next s nodes (signals_in h)
       → l ≡ discover eqb next nodes 0 (i + 1)
@@ -183,23 +172,38 @@ module _ (next : ℕ → ℕ → ℕ) (nodes : ℕ) (h : Found) (f : Fits h) (i 
   turn-stays k = e ∙ sym (discover-stays eqb eqb-exact next nodes 0 i (omega (arith, same_count))) ∙ ap (discover eqb next nodes 0) (sym (add-one i))
 
 -- the first signal at which a node is lost
-module _ (rows : List ℕ) (n : ℕ) (h : Found) (f : Fits h) (c d : ℕ) where
+module _ (rows : List ℕ) (n : ℕ) (h : Found) (c d : ℕ) where
   abbrev pub lost_at : ℕ → Bool
   lost_at j = not (ltb (with_node rows n (get_or (signals_in h) j 0) c d) most_signals)
 
-  same-node : {s i : ℕ} (j : ℕ) → s ≡ get_or (signals_in h) j 0 → i ≡ with_node rows n s c d → with_node rows n (get_or (signals_in h) j 0) c d ≡ i
-  same-node j e k = sym (k ∙ ap (λ z. with_node rows n z c d) e)
+  same-node : {s : ℕ} (j : ℕ) → s ≡ get_or (signals_in h) j 0 → with_node rows n (get_or (signals_in h) j 0) c d ≡ with_node rows n s c d
+  same-node j e = sym (ap (λ z. with_node rows n z c d) e)
 
-  pub loss-here : {s i : ℕ} (j : ℕ) → j < h.count → NoneTo lost_at h.count j → s ≡ get_or (signals_in h) j 0 → i ≡ with_node rows n s c d
-      → most_signals ≤ i → j ≡ loss_at rows n (signals_in h) c d
-  loss-here {i = i} j l before e k m =
-      first-is lost_at (length (signals_in h)) j before (omega (arith, in-length h f)) (ap (λ z. not (ltb z most_signals)) (same-node j e k)
-      ∙ ap not (le-ltb i most_signals m))
+  pub loss-here : {s : ℕ} (j : ℕ) → j < h.count → NoneTo lost_at h.count j → s ≡ get_or (signals_in h) j 0
+      → most_signals ≤ with_node rows n s c d → j ≡ loss_at rows n (signals_in h) c d
+  loss-here {s} j l before e m =
+      first-is lost_at (length (signals_in h)) j before (omega (arith, in-length h)) (ap (λ z. not (ltb z most_signals)) (same-node j e)
+      ∙ ap not (le-ltb (with_node rows n s c d) most_signals m))
 
-  pub loss-later : {s i : ℕ} (j : ℕ) → NoneTo lost_at h.count j → s ≡ get_or (signals_in h) j 0 → i ≡ with_node rows n s c d
-      → i < most_signals → NoneTo lost_at h.count (j + 1)
-  loss-later {i = i} j before e k m = none_more lost_at h.count j before (ap (λ z. not (ltb z most_signals)) (same-node j e k)
-      ∙ ap not (lt-ltb i most_signals m))
+  pub loss-later : {s : ℕ} (j : ℕ) → NoneTo lost_at h.count j → s ≡ get_or (signals_in h) j 0
+      → with_node rows n s c d < most_signals → NoneTo lost_at h.count (j + 1)
+  loss-later {s} j before e m = none_more lost_at h.count j before (ap (λ z. not (ltb z most_signals)) (same-node j e)
+      ∙ ap not (lt-ltb (with_node rows n s c d) most_signals m))
 
   pub loss-none : (j : ℕ) → h.count ≤ j → NoneTo lost_at h.count j → h.count ≡ loss_at rows n (signals_in h) c d
-  loss-none j l before = sym (in-length h f) ∙ first-none lost_at (length (signals_in h)) (λ k i. before k (omega (arith, in-length h f)))
+  loss-none j l before = sym (in-length h) ∙ first-none lost_at (length (signals_in h)) (λ k i. before k (omega (arith, in-length h)))
+
+-- whether a signal was found
+pub none_is : (i : ℕ) {r : Option ℕ} → r ≡ found_at i → is_none r ≡ true → most_signals ≤ i
+none_is i e h = go (ltb i most_signals) refl (ap is_none (sym e) ∙ h)
+  where
+    go : (b : Bool) → ltb i most_signals ≡ b → is_none (found_at i) ≡ true → most_signals ≤ i
+    go true k z = absurd (true≢false (sym z ∙ rw k))
+    go false k z = ltb-false i most_signals k
+
+pub some-is : (i : ℕ) {r : Option ℕ} → r ≡ found_at i → is_none r ≡ false → i < most_signals
+some-is i e h = go (ltb i most_signals) refl (ap is_none (sym e) ∙ h)
+  where
+    go : (b : Bool) → ltb i most_signals ≡ b → is_none (found_at i) ≡ false → i < most_signals
+    go true k z = ltb-true i most_signals k
+    go false k z = absurd (true≢false ((sym (rw k)) ∙ z))

@@ -4,16 +4,17 @@ use mathlib.Core.Path.{◌≡◌, refl, sym, ap, ap₂, ◌∙◌}
 use mathlib.Core.Bool.{Bool}
 use mathlib.Core.List.{List, [], ◌∷◌, ◌++◌, map, map-append, append_assoc, append-nil}
 use lib.Dec.{eqb, ltb}
-use lib.ListN.{get_or, set, take, drop, length, length-set, length-take, length-drop, replicate}
-use lib.Seq.{drop-cons, get_or-set_same, drop-set-lt, get_or-drop, take-suc, set_at, take_all}
+use lib.ListN.{get_or, set, drop, length, length-set, length-drop, replicate}
+use lib.Seq.{drop-cons, get_or-set_same, drop-set-lt, set_at}
 use borrow.Author.Tests.{eq-eqb, ne_eqb, lt-ltb, le-ltb}
 use native.Mathlib.Numerals.{add-one}
 use native.Mathlib.Omega.{arith}
+use Rattle.std.proofs.lemmas.List.{drop-replicate}
 use Rattle.base_numbers.specs.Numbers.{most_signals}
 use Rattle.theory_kept.specs.Way.{symbol_to, state_before, way_back, way_to}
-use Rattle.table_kept.specs.declared.search.Found.{Found}
-use Rattle.table_kept.specs.declared.way.Way.{Way}
-use Rattle.table_kept.specs.Held.{signals_in, Fits, nodes_in, Ends, before_in, node_back, padded}
+use Rattle.table_kept.specs.declared.found.Found.{Found}
+use Rattle.table_kept.specs.declared.passed.Way.{Way}
+use Rattle.table_kept.specs.Held.{signals_in, nodes_in, before_in, node_back, padded}
 use Rattle.table_kept.proofs.SearchLaws.{in-length, NoneTo, none_more, first-is, first-none}
 
 -- the first node that leads from s to x
@@ -31,7 +32,7 @@ module _ (next : ℕ → ℕ → ℕ) (nodes s x : ℕ) where
   to_none k h l = first-none leads nodes (λ j i. h j (omega arith))
 
 -- the first signal from which a node leads to x
-module _ (next : ℕ → ℕ → ℕ) (nodes : ℕ) (h : Found) (f : Fits h) (x : ℕ) where
+module _ (next : ℕ → ℕ → ℕ) (nodes : ℕ) (h : Found) (x : ℕ) where
   abbrev pub leads_at : ℕ → Bool
   leads_at a = ltb (symbol_to eqb next nodes 0 (get_or (signals_in h) a 0) x) nodes
 
@@ -41,26 +42,23 @@ module _ (next : ℕ → ℕ → ℕ) (nodes : ℕ) (h : Found) (f : Fits h) (x 
   pub from-here : {s k : ℕ} (a : ℕ) → NoneTo leads_at h.count a → a < h.count → s ≡ get_or (signals_in h) a 0 → k ≡ symbol_to eqb next nodes 0 s x → k < nodes
       → a ≡ state_before eqb next nodes 0 (signals_in h) x
   from-here {k} a b l e i j =
-      first-is leads_at (length (signals_in h)) a b (omega (arith, in-length h f)) (ap (λ z. ltb z nodes) (to_is a e i) ∙ lt-ltb k nodes j)
+      first-is leads_at (length (signals_in h)) a b (omega (arith, in-length h)) (ap (λ z. ltb z nodes) (to_is a e i) ∙ lt-ltb k nodes j)
 
   pub from-later : {s k : ℕ} (a : ℕ) → NoneTo leads_at h.count a → s ≡ get_or (signals_in h) a 0 → k ≡ symbol_to eqb next nodes 0 s x
       → nodes ≤ k → NoneTo leads_at h.count (a + 1)
   from-later {k} a b e i j = none_more leads_at h.count a b (ap (λ z. ltb z nodes) (to_is a e i) ∙ le-ltb k nodes j)
 
   pub from-none : (a : ℕ) → NoneTo leads_at h.count a → h.count ≤ a → h.count ≡ state_before eqb next nodes 0 (signals_in h) x
-  from-none a b l = sym (in-length h f) ∙ first-none leads_at (length (signals_in h)) (λ j i. b j (omega (arith, in-length h f)))
+  from-none a b l = sym (in-length h) ∙ first-none leads_at (length (signals_in h)) (λ j i. b j (omega (arith, in-length h)))
 
 -- one more node before the others
-module _ (w : Way) (e : Ends w) (low : w.len < most_signals) (v : ℕ) where
-  pub first_ends : Ends (record { len = w.len + 1; nodes = set w.nodes (31 - w.len) v })
-  first_ends = record { few = omega arith; wide = length-set w.nodes (31 - w.len) v ∙ e.wide }
-
-  pub first-put : nodes_in (record { len = w.len + 1; nodes = set w.nodes (31 - w.len) v }) ≡ v ∷ nodes_in w
+module _ (w : Way) (low : w.len < most_signals) (v : ℕ) where
+  pub first-put : drop (most_signals - (w.len + 1)) (set w.nodes (31 - w.len) v) ≡ v ∷ nodes_in w
   first-put =
       let m = 31 - w.len in
       let i : most_signals - (w.len + 1) ≡ m = omega arith in
       let j : suc m ≡ most_signals - w.len = omega arith in
-      let b : m < length w.nodes = omega (arith, e.wide) in
+      let b : m < length w.nodes = omega (arith, w.wide) in
       ap (λ k. drop k (set w.nodes m v)) i
       ∙ drop-cons (set w.nodes m v) m 0 (omega (arith, length-set w.nodes m v))
       ∙ ap₂ (λ x l. x ∷ l) (get_or-set_same w.nodes m v 0 b) (drop-set-lt (suc m) w.nodes m v (omega arith) ∙ ap (λ k. drop k w.nodes) j)
@@ -120,24 +118,13 @@ over l k v h b =
     ∙ set_at l 0 (replicate (most_signals - (k + 1)) 0) v k h
     ∙ sym (append_assoc l (v ∷ []) (replicate (most_signals - (k + 1)) 0))
 
-module _ (w : Way) (e : Ends w) where
+module _ (w : Way) where
   pub nodes-length : length (nodes_in w) ≡ w.len
-  nodes-length = length-drop (most_signals - w.len) w.nodes ∙ omega (arith, e.wide, e.few)
+  nodes-length = length-drop (most_signals - w.len) w.nodes ∙ omega (arith, w.wide, w.few)
 
-  -- the first i of the nodes, with zeros after them
-  abbrev pub written : ℕ → List ℕ
-  written i = take i (nodes_in w) ++ replicate (most_signals - i) 0
-
-  pub written-more : (i : ℕ) → i < w.len → set (written i) i (get_or w.nodes (most_signals - w.len + i) 0) ≡ written (i + 1)
-  written-more i h =
-      over (take i (nodes_in w)) i (get_or w.nodes (most_signals - w.len + i) 0) (length-take i (nodes_in w) ∙ omega (arith, nodes-length))
-      (omega (arith, e.few))
-      ∙ ap (λ l. l ++ replicate (most_signals - (i + 1)) 0)
-      (ap (λ v. take i (nodes_in w) ++ v ∷ []) (sym (get_or-drop (most_signals - w.len) w.nodes i 0))
-      ∙ sym (take-suc (nodes_in w) i 0 (omega (arith, nodes-length)))
-      ∙ ap (λ k. take k (nodes_in w)) (sym (add-one i)))
-
-  pub written_all : (i : ℕ) → w.len ≤ i → i ≤ w.len → written i ≡ padded (nodes_in w)
-  written_all i a b =
-      let z : i ≡ length (nodes_in w) = omega (arith, nodes-length) in
-      ap₂ (λ l k. l ++ replicate (most_signals - k) 0) (take_all i (nodes_in w) (omega (arith, nodes-length))) z
+  -- they are written over zeros
+  pub front-is : {l : List ℕ} → l ≡ nodes_in w → l ++ drop w.len (replicate most_signals 0) ≡ padded (nodes_in w)
+  front-is {l} e =
+      ap (λ k. k ++ drop w.len (replicate most_signals 0)) e
+      ∙ ap (λ k. nodes_in w ++ k) (drop-replicate w.len most_signals 0)
+      ∙ ap (λ k. nodes_in w ++ replicate (most_signals - k) 0) (sym nodes-length)

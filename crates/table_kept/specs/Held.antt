@@ -1,26 +1,17 @@
 -- What the lists of the search hold.
-use Rattle.std.specs.Prelude.{ℕ, ◌-◌, ◌≤◌, ◌≡◌, List, ◌++◌, eqb, get_or, take, drop, length, replicate}
+use Rattle.std.specs.Prelude.{ℕ, ◌-◌, List, ◌++◌, eqb, get_or, take, drop, length, replicate}
 use Rattle.base_numbers.specs.Numbers.{most_signals}
 use Rattle.theory_kept.specs.Way.{symbol_to, state_before}
-use Rattle.table_kept.specs.declared.search.Found.{Found}
-use Rattle.table_kept.specs.declared.way.Way.{Way}
+use Rattle.table_kept.specs.declared.found.Found.{Found}
+use Rattle.table_kept.specs.declared.passed.Way.{Way}
 
 -- the signals found, in their order
 abbrev pub signals_in : Found → List ℕ
 signals_in h = take h.count h.signals
 
--- there is room for as many
-pub record Fits (h : Found) : Type 0 where
-  pub few : h.count ≤ most_signals
-  pub wide : length h.signals ≡ most_signals
-
 -- the nodes at the end of the array
 abbrev pub nodes_in : Way → List ℕ
 nodes_in w = drop (most_signals - w.len) w.nodes
-
-pub record Ends (w : Way) : Type 0 where
-  pub few : w.len ≤ most_signals
-  pub wide : length w.nodes ≡ most_signals
 
 -- a list with zeros after it, 32 numbers in all
 abbrev pub padded : List ℕ → List ℕ

@@ -1,5 +1,5 @@
 -- Marks given from signal to signal, over arrays of numbers (Rows of node_step says what they must hold to stand for a table).
-use Rattle.std.specs.Prelude.{ℕ, suc, ◌+◌, ◌*◌, Bool, true, false, cond, not, List, map, eqb, ltb, get_or, length, replicate}
+use Rattle.std.specs.Prelude.{ℕ, suc, ◌+◌, ◌*◌, Bool, true, false, cond, not, List, map, eqb, ltb, get_or, length, replicate, Option, Some, None}
 use Rattle.base_numbers.specs.Numbers.{most_categories, most_nodes, most_signals}
 use Rattle.theory_resolution.specs.Table.{Urn, Table}
 use Rattle.theory_resolution.specs.Nodes.{nodes, number}
@@ -11,6 +11,10 @@ use Rattle.node_step.specs.Step.{place_in, with_place, row_at, reaches, find_row
 -- the signal with node d for its place in category c and the places of signal s in every other, of n signals; or 32
 abbrev pub with_node : List ℕ → ℕ → ℕ → ℕ → ℕ → ℕ
 with_node rows n s c d = find_row rows (with_place (row_at rows s) c d) 0 n
+
+-- the signal found, if any
+abbrev pub found_at : ℕ → Option ℕ
+found_at i = cond (ltb i most_signals) (Some i) None
 
 -- the signal found, or s
 abbrev pub found_or : ℕ → ℕ → ℕ

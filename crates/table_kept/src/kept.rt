@@ -2,7 +2,7 @@
 ghost use Rattle.std.specs.Prelude.{◌≡◌, List, [], ◌∷◌, ◌++◌, ℕ, ◌-◌, ◌≤◌, ◌<◌};
 ghost use Rattle.base_numbers.specs.Numbers.{most_signals};
 ghost use Rattle.theory_resolution.specs.Nodes.{nodes, node_at};
-ghost use Rattle.table_kept.specs.Held.{nodes_in, Ends};
+ghost use Rattle.table_kept.specs.Held.{nodes_in};
 ghost use Rattle.table_decode.specs.Tables.{table_refusal, table_of};
 ghost use Rattle.table_decode.specs.Decoded.{Holds};
 ghost use Rattle.resolve_available.specs.Available.{has_bit};
@@ -10,9 +10,9 @@ ghost use Rattle.table_kept.specs.Ready.{Ready};
 ghost use Rattle.table_kept.specs.Answers.{refused_kept, kept_answer, lost_answer, kept_in, kept_answer_of};
 
 use crate::marks::{before, rings, store_targets};
-use crate::search::{discover, first_loss, signal_at};
-use crate::way::{Way, front, way_to};
-use base_bytes::numbers::wide;
+use crate::passed::Way;
+use crate::search::{discover, first_loss};
+use crate::way::way_to;
 use base_numbers::{MOST_SIGNALS, UNKNOWN_AVAILABLE, UNKNOWN_NODE};
 use resolve_available::{among, is_known};
 use table_decode::Decoded;
@@ -47,28 +47,23 @@ fn kept_mark() -> Kept
     ensures { result ≡ kept_answer }
 {
     Kept {
-        refusal: 0,
         kept: 1,
-        rings: 0,
-        len: 0,
-        marks: [0u8; MOST_SIGNALS],
+        ..refused(0)
     }
 }
 
-// The answer where the nodes of a way and then node d show a loss, and ring this signal.
-fn lost_mark(w: Way, d: u8, signal: u8) -> Kept
-    requires { Ends w × (w.len < most_signals) }
-    ensures { result ≡ lost_answer signal (nodes_in w ++ d ∷ []) }
+// The answer where the nodes of a way and then this node show a loss, and ring this signal.
+fn lost_mark(w: Way, node: u8, signal: u8) -> Kept
+    requires { w.len < most_signals }
+    ensures { result ≡ lost_answer signal (nodes_in w ++ node ∷ []) }
 {
-    let n = w.len;
-    let mut marks = front(w);
-    marks[n] = d;
+    let mut marks = w.front();
+    marks[w.len] = node;
     Kept {
-        refusal: 0,
-        kept: 0,
         rings: signal,
-        len: (n + 1) as u8,
+        len: (w.len + 1) as u8,
         marks,
+        ..refused(0)
     }
 }
 
@@ -78,21 +73,19 @@ fn search(d: Decoded, set: u32, node: u8) -> Kept
     ensures { (t : List ℕ) → table_refusal t ≡ 0 → Holds t (table_of t) d → result ≡ kept_in (table_of t) (has_bit set) (node_at (nodes (table_of t)) (node - 1)) }
 {
     let a = among(d, set);
-    let at = wide(node) - 1;
-    let e = a.category[at];
-    let c = wide(e);
-    let may = before(&a.parent, &a.category, a.nodes, e, node);
+    let e = a.category[usize::from(node) - 1];
+    let c = usize::from(e);
+    let may = before(&a, e, node);
     let mut all = [0u8; 2048];
-    store_targets(&a.rows, &a.parent, &a.category, a.signals, &may, &mut all);
+    store_targets(&a, &may, &mut all);
     let h = discover(&all, a.nodes, a.signals);
-    let j = first_loss(&a.rows, a.signals, h, c, node);
-    if j < h.count {
-        let s = signal_at(h, j);
-        let signal = rings(&a.rows, &a.parent, &a.inner, a.signals, s, c, node);
-        let w = way_to(&all, a.nodes, h, j);
-        return lost_mark(w, node, signal);
+    match first_loss(&a, h, c, node) {
+        Some(j) => {
+            let signal = rings(&a, h.at(j), c, node);
+            lost_mark(way_to(&all, a.nodes, h, j), node, signal)
+        }
+        None => kept_mark(),
     }
-    kept_mark()
 }
 
 // Whether the table keeps the mark with this node's number while the signals of the set are available, and if not, a shortest list
@@ -111,7 +104,7 @@ pub fn keeps(t: &[u8], set: u32, node: u8) -> Kept
     if node == 0 {
         return refused(UNKNOWN_NODE);
     }
-    if d.nodes < wide(node) {
+    if d.nodes < usize::from(node) {
         return refused(UNKNOWN_NODE);
     }
     search(d, set, node)

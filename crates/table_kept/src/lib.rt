@@ -11,11 +11,15 @@
 //
 //   marks.rt   which nodes may be given, and the signal after each
 //   search.rt  the signals that nodes lead to, breadth first, and the first of them at which a node is lost
+//   found.rt   these signals
 //   way.rt     the nodes that lead to one of them, as few as possible
+//   passed.rt  these nodes
 #![tactic(auto)]
 
+mod found;
 pub mod kept;
 mod marks;
+mod passed;
 pub mod rung;
 mod search;
 mod way;

@@ -1,6 +1,6 @@
 // Whether some list rings a signal, and a shortest such list.
 ghost use Rattle.std.specs.Prelude.{◌≡◌, List, ℕ, ◌≤◌};
-ghost use Rattle.table_kept.specs.Held.{nodes_in, Ends};
+ghost use Rattle.table_kept.specs.Held.{nodes_in};
 ghost use Rattle.table_decode.specs.Tables.{table_refusal, table_of};
 ghost use Rattle.table_decode.specs.Decoded.{Holds};
 ghost use Rattle.resolve_available.specs.Available.{has_bit};
@@ -8,9 +8,9 @@ ghost use Rattle.table_kept.specs.Ready.{Ready};
 ghost use Rattle.table_kept.specs.Answers.{refused_rung, rung_answer, rung_in, rung_of};
 
 use crate::marks::{before, store_targets};
-use crate::search::{discover, number_of};
-use crate::way::{Way, front, way_to};
-use base_bytes::numbers::wide;
+use crate::passed::Way;
+use crate::search::discover;
+use crate::way::way_to;
 use base_numbers::{MOST_SIGNALS, UNKNOWN_AVAILABLE, UNKNOWN_SIGNAL};
 use resolve_available::{among, is_known};
 use table_decode::Decoded;
@@ -40,16 +40,14 @@ fn refused(k: u8) -> Rung
 
 // The answer where the nodes of a way ring the signal.
 fn rung_by(w: Way) -> Rung
-    requires { Ends w × (w.len ≤ 31) }
+    requires { w.len ≤ 31 }
     ensures { result ≡ rung_answer (nodes_in w) }
 {
-    let n = w.len;
-    let marks = front(w);
     Rung {
-        refusal: 0,
         rings: 1,
-        len: n as u8,
-        marks,
+        len: w.len as u8,
+        marks: w.front(),
+        ..refused(0)
     }
 }
 
@@ -59,16 +57,14 @@ fn search(d: Decoded, set: u32, signal: u8) -> Rung
     ensures { (t : List ℕ) → table_refusal t ≡ 0 → Holds t (table_of t) d → result ≡ rung_in (table_of t) (has_bit set) signal }
 {
     let a = among(d, set);
-    let may = before(&a.parent, &a.category, a.nodes, 8, 0);
+    let may = before(&a, 8, 0);
     let mut all = [0u8; 2048];
-    store_targets(&a.rows, &a.parent, &a.category, a.signals, &may, &mut all);
+    store_targets(&a, &may, &mut all);
     let h = discover(&all, a.nodes, a.signals);
-    let j = number_of(h, signal);
-    if j < h.count {
-        let w = way_to(&all, a.nodes, h, j);
-        return rung_by(w);
+    match h.number_of(signal) {
+        Some(j) => rung_by(way_to(&all, a.nodes, h, j)),
+        None => refused(0),
     }
-    refused(0)
 }
 
 // Whether some list rings the signal while the signals of the set are available, and if so, a shortest one.
@@ -83,7 +79,7 @@ pub fn rings(t: &[u8], set: u32, signal: u8) -> Rung
     if !is_known(set, d.signals) {
         return refused(UNKNOWN_AVAILABLE);
     }
-    if d.signals <= wide(signal) {
+    if d.signals <= usize::from(signal) {
         return refused(UNKNOWN_SIGNAL);
     }
     search(d, set, signal)

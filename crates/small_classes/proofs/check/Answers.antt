@@ -1,14 +1,10 @@
-use lib.ListN.{length-take}
-use native.Mathlib.Omega.{arith}
 use Rattle.small_classes.proofs.CheckLaws.{many-fits, long-fits}
 use Rattle.small_classes.proofs.check.Goals as goal
+use Rattle.small_classes.proofs.check.Goals.{then-n-gt-MOST_STATES-via-then-n-gt-MOST_STATES, then-n-gt-MOST_STATES-via-else-n-gt-MOST_STATES+then-p-n}
 
 pub returns-then-n-gt-MOST_STATES : goal.returns-then-n-gt-MOST_STATES
-returns-then-n-gt-MOST_STATES c = many-fits c.args.rows.now c.args.n c.args.head c.args.k c.args.p.now c.if-n-gt-MOST_STATES.true
-
-pub returns-then-p-n : goal.returns-then-p-n
-returns-then-p-n c = long-fits c.args.rows.now c.args.n c.args.head c.args.k c.args.p.now c.if-p-n.true
-
-pub check_in-requires : goal.check_in-requires
-check_in-requires c = let if1 = c.if-n-gt-MOST_STATES.false in
-    (c.if-p-n.false, simp length-take (omega (arith, if1)), simp length-take (omega (arith, if1)))
+returns-then-n-gt-MOST_STATES c = let r = c.args.rows in
+    elim c.then-n-gt-MOST_STATES.branch [
+      | then-n-gt-MOST_STATES-via-then-n-gt-MOST_STATES w ↦ many-fits r.bytes.now r.states r.head r.symbols c.args.p.now w.if-n-gt-MOST_STATES.true
+      | then-n-gt-MOST_STATES-via-else-n-gt-MOST_STATES+then-p-n w ↦ long-fits r.bytes.now r.states r.head r.symbols c.args.p.now w.if-p-n.true
+    ]

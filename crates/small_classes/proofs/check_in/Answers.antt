@@ -1,27 +1,16 @@
-use mathlib.Core.Path.{◌∙◌}
-use lib.ListN.{length}
-use Rattle.theory_minimal.specs.Refine.{blocks}
-use Rattle.small_rounds.specs.Stored.{stored_machine, is_stored}
-use Rattle.small_rounds.proofs.TestLaws.{stored_of}
-use Rattle.small_classes.proofs.CheckLaws.{rows-fits, fits-yes, alike_is, taken}
+use Rattle.std.proofs.Common.{length, ◌∙◌, ap, sym}
+use Rattle.theory_minimal.specs.Test.{fits}
+use Rattle.small_rounds.specs.Rows.{machine_in, has_machine}
+use Rattle.small_classes.proofs.CheckLaws.{answer-is, rows-fits, fits-yes}
 use Rattle.small_classes.proofs.check_in.Goals as goal
 
-pub returns-then-not-first_alike : goal.returns-then-not-first_alike
-returns-then-not-first_alike c = let rows = c.args.rows.now in let n = c.args.n in let head = c.args.head in let k = c.args.k in
-    rows-fits rows n head k c.args.p.now (alike_is (is_stored rows n head k) _ _ (length c.args.x.now) (length c.args.y.now) n c.requires.1
-    c.requires.2 c.first_alike.ensures.value c.if-not-first_alike.true)
+pub returns-in-Some : goal.returns-in-Some
+returns-in-Some c = let r = c.args.rows in
+    let a = answer-is (has_machine r) (length c.args.x.now) (length c.args.y.now) r.states c.requires.1 c.requires.2 in
+    fits-yes r.bytes.now r.states r.head r.symbols c.args.p.now _ (sym a ∙ c.in-Some.ensures.0)
+    (c.fits.ensures ∙ ap (λ z. fits (machine_in z) c.args.p.now) c.in-Some.ensures.1)
 
-pub fits-requires : goal.fits-requires
-fits-requires c = let rows = c.args.rows.now in let n = c.args.n in let head = c.args.head in let k = c.args.k in let x = c.args.x.now in
-    let t = c.if-not-first_alike.false in
-    let s = alike_is (is_stored rows n head k) _ _ (length x) (length c.args.y.now) n c.requires.1 c.requires.2 c.first_alike.ensures.value t in (
-      stored_of rows n head k s,
-      c.requires.0,
-      taken c.first_alike.result (blocks (stored_machine rows n head k)) x c.first_alike.ensures.p_after.0 t,
-      c.first_alike.ensures.p_after.1 ∙ c.requires.2,
-    )
-
-pub returns : goal.returns
-returns c = let rows = c.args.rows.now in let n = c.args.n in let head = c.args.head in let k = c.args.k in
-    fits-yes rows n head k c.args.p.now _ (alike_is (is_stored rows n head k) _ _ (length c.args.x.now) (length c.args.y.now) n c.requires.1
-    c.requires.2 c.first_alike.ensures.value c.if-not-first_alike.false) c.fits.ensures
+pub returns-in-None : goal.returns-in-None
+returns-in-None c = let r = c.args.rows in
+    let a = answer-is (has_machine r) (length c.args.x.now) (length c.args.y.now) r.states c.requires.1 c.requires.2 in
+    rows-fits r.bytes.now r.states r.head r.symbols c.args.p.now (sym a ∙ c.in-None.ensures.0)

@@ -1,29 +1,33 @@
-use mathlib.Core.Path.{ap, ◌∙◌}
-use lib.ListN.{length}
-use native.Mathlib.Omega.{arith}
-use Rattle.base_lists.proofs.Tabulated.{tabulate-length}
+use Rattle.std.proofs.Common.{◌≡◌, ℕ, length, ◌∙◌, ap, sym, subst, arith}
 use Rattle.theory_minimal.specs.Refine.{block_number}
-use Rattle.small_rounds.specs.Stored.{stored_machine}
+use Rattle.base_lists.specs.Lists.{tabulate}
+use lib.Seq.{length-take-le}
+use Rattle.small_rounds.specs.Rows.{machine_in}
 use Rattle.small_rounds.proofs.RoundLaws.{refined-length}
+use Rattle.small_classes.specs.Found.{Firsts}
 use Rattle.small_classes.proofs.CheckLaws.{firsts-of, proposal-is}
 use Rattle.small_classes.proofs.number.Goals as goal
 
 pub number-requires : goal.number-requires
-number-requires c = let n = c.args.n in (
-  c.requires.0.few,
-  ap length c.requires.2 ∙ refined-length (stored_machine c.args.rows.now n c.args.head c.args.k) n,
-  c.requires.1,
-  firsts-of (stored_machine c.args.rows.now n c.args.head c.args.k) c.requires.0.formed c.args.x.now c.requires.2,
-)
+number-requires c = let m = machine_in c.args.m.rows in
+    let l : length c.args.x.now ≡ m.states = ap length c.requires.1 ∙ refined-length m m.states in
+    (omega (arith, l, c.args.m.stored.few), c.requires.0 ∙ sym l, subst (λ (n : ℕ). Firsts c.args.x.now n) (sym l) (firsts-of m c.args.m.stored.formed c.args.x.now c.requires.1))
 
 pub discover-count-requires : goal.discover-count-requires
-discover-count-requires c = (c.requires.0, ap length c.requires.2 ∙ refined-length (stored_machine c.args.rows.now c.args.n c.args.head c.args.k) c.args.n, c.requires.3)
+discover-count-requires c = (ap length c.requires.1 ∙ refined-length (machine_in c.args.m.rows) c.args.m.rows.states, c.requires.2)
 
-pub all_found-requires : goal.all_found-requires
-all_found-requires c = let discover = c.discover-count.ensures in
-    let number = c.number.ensures in
-    (omega (arith, discover.1, discover.2), λ i h. omega (arith, ap length number ∙ tabulate-length (block_number c.args.x.now) c.args.n, discover.3 i h))
+pub slice_bounds-all_found-end : goal.slice_bounds-all_found-end
+slice_bounds-all_found-end c = let m = machine_in c.args.m.rows in
+    let l : length c.args.x.now ≡ m.states = ap length c.requires.1 ∙ refined-length m m.states in
+    omega (arith, l, c.discover-count.ensures.1, c.discover-count.auto.list)
+
+pub slice_bounds-all_found-end-2 : goal.slice_bounds-all_found-end-2
+slice_bounds-all_found-end-2 c = let m = machine_in c.args.m.rows in
+    let l : length c.args.x.now ≡ m.states = ap length c.requires.1 ∙ refined-length m m.states in
+    sym (length-take-le c.discover-count.result c.discover-count.new.list (omega (arith, l, c.discover-count.ensures.1, c.discover-count.auto.list)))
 
 pub returns : goal.returns
-returns c = proposal-is (stored_machine c.args.rows.now c.args.n c.args.head c.args.k) c.args.x.now _ _ c.all_found.result c.requires.2 c.number.ensures
-    c.discover-count.ensures.0 c.all_found.ensures
+returns c = let m = machine_in c.args.m.rows in
+    let l : length c.args.x.now ≡ m.states = ap length c.requires.1 ∙ refined-length m m.states in
+    proposal-is m c.args.x.now _ _ c.all_found.result c.requires.1 (c.number.ensures ∙ ap (tabulate (block_number c.args.x.now)) l) c.discover-count.ensures.0
+    c.all_found.ensures

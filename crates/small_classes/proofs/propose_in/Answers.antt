@@ -1,27 +1,18 @@
-use mathlib.Core.Path.{◌∙◌}
-use lib.ListN.{length}
-use Rattle.theory_minimal.specs.Refine.{blocks}
-use Rattle.small_rounds.specs.Stored.{stored_machine, is_stored}
-use Rattle.small_rounds.proofs.TestLaws.{stored_of}
-use Rattle.small_classes.proofs.CheckLaws.{rows-proposed, proposed-yes, alike_is, taken}
+use Rattle.std.proofs.Common.{length, ◌∙◌, ap, sym}
+use Rattle.theory_minimal.specs.Refine.{classes}
+use Rattle.theory_minimal.specs.Test.{all_reached}
+use Rattle.small_rounds.specs.Rows.{machine_in, has_machine}
+use Rattle.small_classes.proofs.CheckLaws.{answer-is, rows-proposed, proposed-yes}
 use Rattle.small_classes.proofs.propose_in.Goals as goal
 
-pub returns-then-not-first_alike : goal.returns-then-not-first_alike
-returns-then-not-first_alike c = let rows = c.args.rows.now in let n = c.args.n in let head = c.args.head in let k = c.args.k in
-    rows-proposed rows n head k c.args.out.now (alike_is (is_stored rows n head k) _ _ (length c.args.x.now) (length c.args.y.now) n c.requires.1
-    c.requires.2 c.first_alike.ensures.value c.if-not-first_alike.true)
+pub returns-in-Some : goal.returns-in-Some
+returns-in-Some c = let r = c.args.rows in
+    let a = answer-is (has_machine r) (length c.args.x.now) (length c.args.y.now) r.states c.requires.1 c.requires.2 in
+    let e = c.in-Some.ensures.1 in
+    proposed-yes r.bytes.now r.states r.head r.symbols c.args.out.now _ _ c.requires.0 (sym a ∙ c.in-Some.ensures.0)
+    (c.number.ensures.0 ∙ ap (λ z. all_reached (machine_in z) (classes (machine_in z))) e, c.number.ensures.1 ∙ ap (λ z. classes (machine_in z)) e)
 
-pub number-requires : goal.number-requires
-number-requires c = let rows = c.args.rows.now in let n = c.args.n in let head = c.args.head in let k = c.args.k in let x = c.args.x.now in
-    let t = c.if-not-first_alike.false in
-    let s = alike_is (is_stored rows n head k) _ _ (length x) (length c.args.y.now) n c.requires.1 c.requires.2 c.first_alike.ensures.value t in (
-      stored_of rows n head k s,
-      c.requires.0,
-      taken c.first_alike.result (blocks (stored_machine rows n head k)) x c.first_alike.ensures.p_after.0 t,
-      c.first_alike.ensures.p_after.1 ∙ c.requires.2,
-    )
-
-pub returns : goal.returns
-returns c = let rows = c.args.rows.now in let n = c.args.n in let head = c.args.head in let k = c.args.k in
-    proposed-yes rows n head k c.args.out.now _ _ c.requires.0 (alike_is (is_stored rows n head k) _ _ (length c.args.x.now) (length c.args.y.now)
-    n c.requires.1 c.requires.2 c.first_alike.ensures.value c.if-not-first_alike.false) c.number.ensures
+pub returns-in-None : goal.returns-in-None
+returns-in-None c = let r = c.args.rows in
+    let a = answer-is (has_machine r) (length c.args.x.now) (length c.args.y.now) r.states c.requires.1 c.requires.2 in
+    rows-proposed r.bytes.now r.states r.head r.symbols c.args.out.now (sym a ∙ c.in-None.ensures.0)

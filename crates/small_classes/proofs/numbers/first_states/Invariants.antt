@@ -1,12 +1,6 @@
-use Prim.Native.Nat.{◌≤◌, ◌-◌}
-use mathlib.Core.Path.{◌≡◌}
-use lib.ListN.{length}
 use Rattle.base_lists.proofs.Filled.{Filled}
 use Rattle.theory_minimal.specs.Refine.{leader, same_class}
 use Rattle.small_classes.proofs.numbers.first_states.Given as goal
 
 abbrev pub invariant-loop-i : goal.invariant-loop-i
-invariant-loop-i l = (l.i ≤ l.n) × (length l.q ≡ l.n) × Filled (leader (same_class l.p)) l.q l.i
-
-abbrev pub decreases-loop-i : goal.decreases-loop-i
-decreases-loop-i l = l.n - l.i
+invariant-loop-i l = Filled (leader (same_class l.p)) l.q l.i

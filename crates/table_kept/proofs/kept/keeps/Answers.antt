@@ -13,11 +13,11 @@ pub returns-then-node-eq0 : goal.returns-then-node-eq0
 returns-then-node-eq0 c = kept-none c.args.t.now c.decode-d.result c.decode-d.ensures c.if-k-ne0.false c.args.set
     c.is_known.ensures c.if-not-is_known.false c.args.node c.if-node-eq0.true c.refused-then-node-eq0.ensures
 
-pub returns-then-d-wide : goal.returns-then-d-wide
-returns-then-d-wide c = kept-over c.args.t.now c.decode-d.result c.decode-d.ensures c.if-k-ne0.false c.args.set
+pub returns-then-d-from : goal.returns-then-d-from
+returns-then-d-from c = kept-over c.args.t.now c.decode-d.result c.decode-d.ensures c.if-k-ne0.false c.args.set
     c.is_known.ensures
     c.if-not-is_known.false c.args.node c.if-node-eq0.false
-    c.wide.ensures.0 c.if-d-wide.true c.refused-then-d-wide.ensures
+    c.from.ensures c.if-d-from.true c.refused-then-d-from.ensures
 
 pub search-requires : goal.search-requires
 search-requires c = (
@@ -28,14 +28,14 @@ search-requires c = (
     holds = holds c.args.t.now c.decode-d.result c.decode-d.ensures c.if-k-ne0.false;
   },
   pos _ c.if-node-eq0.false,
-  omega (arith, c.if-d-wide.false, c.wide.ensures.0),
+  omega (arith, c.if-d-from.false, c.from.ensures),
 )
 
 pub returns : goal.returns
 returns c = kept-node c.args.t.now c.decode-d.result c.decode-d.ensures c.if-k-ne0.false c.args.set
     c.is_known.ensures
     c.if-not-is_known.false c.args.node c.if-node-eq0.false
-    c.wide.ensures.0 c.if-d-wide.false
+    c.from.ensures c.if-d-from.false
     (c.search.ensures c.args.t.now
     (formed c.args.t.now c.decode-d.result c.decode-d.ensures c.if-k-ne0.false)
     (holds c.args.t.now c.decode-d.result c.decode-d.ensures c.if-k-ne0.false))

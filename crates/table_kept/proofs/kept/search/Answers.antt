@@ -1,3 +1,4 @@
+use Rattle.std.proofs.Common.{sym}
 use Prim.Native.Nat.{◌-◌}
 use mathlib.Core.Path.{refl, ap}
 use lib.ListN.{get_or}
@@ -16,55 +17,28 @@ pub discover-h-requires : goal.discover-h-requires
 discover-h-requires c = let r = c.requires.0 in (
   few-nodes r.bytes r.formed c.args.d r.holds c.args.set c.among-a.result c.among-a.ensures,
   few-before r.bytes r.formed c.args.d r.holds c.args.set c.among-a.result c.among-a.ensures c.args.node c.requires.1
-      c.requires.2 (ap (λ z. get_or c.among-a.result.category (z - 1) 0)
-      c.wide-at.ensures.0) c.before-may.result
+      c.requires.2 (ap (λ z. get_or c.among-a.result.category (z - 1) 0) c.from.ensures) c.before-may.result
       c.before-may.ensures
       c.store_targets.new.all c.store_targets.ensures,
 )
 
-pub first_loss-j-requires : goal.first_loss-j-requires
-first_loss-j-requires c = let r = c.requires.0 in (
-  few-signals r.bytes r.formed c.args.d r.holds c.args.set c.among-a.result c.among-a.ensures,
-  c.discover-h.ensures.0,
-)
+pub first_loss-requires : goal.first_loss-requires
+first_loss-requires c = let r = c.requires.0 in few-signals r.bytes r.formed c.args.d r.holds c.args.set c.among-a.result c.among-a.ensures
 
-pub way_to-w-requires : goal.way_to-w-requires
-way_to-w-requires c = let r = c.requires.0 in (
-  few-nodes r.bytes r.formed c.args.d r.holds c.args.set c.among-a.result c.among-a.ensures,
-  c.discover-h.ensures.0,
-  omega (
-    arith,
-    c.if-j-h.true,
-    c.discover-h.ensures.0.few,
-  ),
-)
+pub way_to-requires : goal.way_to-requires
+way_to-requires c = let r = c.requires.0 in
+    (few-nodes r.bytes r.formed c.args.d r.holds c.args.set c.among-a.result c.among-a.ensures, omega (arith, c.in-Some.ensures.1, c.discover-h.result.few))
 
-pub returns-then-j-h : goal.returns-then-j-h
-returns-then-j-h c = λ t f h.
+pub returns-in-Some : goal.returns-in-Some
+returns-in-Some c = λ t f h.
     lost-right t f c.args.d h c.args.set c.among-a.result c.among-a.ensures c.args.node c.requires.1 c.requires.2
-    (ap (λ z. get_or c.among-a.result.category (z - 1) 0)
-    c.wide-at.ensures.0)
-    c.before-may.result
-    c.before-may.ensures
-    c.store_targets.new.all
-    c.store_targets.ensures
-    c.discover-h.ensures.0
-    c.discover-h.ensures.1
-    c.wide-c.ensures.0
-    c.first_loss-j.ensures
-    c.if-j-h.true
-    c.signal_at-s.ensures c.rings-signal.ensures
-    c.way_to-w.ensures.2 c.lost_mark.ensures
+    (ap (λ z. get_or c.among-a.result.category (z - 1) 0) c.from.ensures)
+    c.before-may.result c.before-may.ensures c.store_targets.new.all c.store_targets.ensures c.discover-h.result c.discover-h.ensures c.from-c.ensures
+    c.in-Some.ensures.0 c.in-Some.ensures.1 c.at.ensures c.rings-signal.ensures c.way_to.ensures.1 c.lost_mark.ensures
 
-pub returns : goal.returns
-returns c = λ t f h.
+pub returns-in-None : goal.returns-in-None
+returns-in-None c = λ t f h.
     kept-right t f c.args.d h c.args.set c.among-a.result c.among-a.ensures c.args.node c.requires.1 c.requires.2
-    (ap (λ z. get_or c.among-a.result.category (z - 1) 0)
-    c.wide-at.ensures.0)
-    c.before-may.result c.before-may.ensures
-    c.store_targets.new.all
-    c.store_targets.ensures
-    c.discover-h.ensures.0
-    c.discover-h.ensures.1
-    c.wide-c.ensures.0 c.first_loss-j.ensures
-    c.if-j-h.false c.kept_mark.ensures
+    (ap (λ z. get_or c.among-a.result.category (z - 1) 0) c.from.ensures)
+    c.before-may.result c.before-may.ensures c.store_targets.new.all c.store_targets.ensures c.discover-h.result c.discover-h.ensures c.from-c.ensures
+    (sym c.in-None.ensures) (omega arith) c.kept_mark.ensures

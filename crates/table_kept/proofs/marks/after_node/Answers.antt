@@ -1,17 +1,15 @@
-use Rattle.table_kept.proofs.MarkLaws.{test_of, after-not, after-found, after_none}
+use Rattle.std.proofs.Common.{ap, ◌∙◌}
+use Rattle.std.specs.Option.{unwrap_or}
+use Rattle.table_kept.proofs.MarkLaws.{test_of, after-not, after-found}
 use Rattle.table_kept.proofs.marks.after_node.Goals as goal
 
 pub returns-then-not-extends_of : goal.returns-then-not-extends_of
-returns-then-not-extends_of c = after-not c.args.rows.now c.args.parents.now c.args.signals c.args.s c.args.c c.args.d
-    (test_of c.args.rows.now c.args.parents.now c.args.signals c.args.s c.args.c c.args.d c.row_at.ensures
-    c.place_in-q.ensures c.extends_of.ensures) c.if-not-extends_of.true
-
-pub returns-then-i-lt-MOST_SIGNALS : goal.returns-then-i-lt-MOST_SIGNALS
-returns-then-i-lt-MOST_SIGNALS c = after-found c.args.rows.now c.args.parents.now c.args.signals c.args.s c.args.c c.args.d (test_of c.args.rows.now c.args.parents.now c.args.signals
-    c.args.s c.args.c c.args.d c.row_at.ensures c.place_in-q.ensures
-    c.extends_of.ensures) c.if-not-extends_of.false c.with_node-i.ensures c.if-i-lt-MOST_SIGNALS.true
+returns-then-not-extends_of c = let d = c.args.d.now in
+    after-not d.rows d.parent d.signals c.args.s c.args.c c.args.node
+    (test_of d.rows d.parent d.signals c.args.s c.args.c c.args.node c.row_at.ensures c.place_in-q.ensures c.extends_of.ensures) c.if-not-extends_of.true
 
 pub returns : goal.returns
-returns c = after_none c.args.rows.now c.args.parents.now c.args.signals c.args.s c.args.c c.args.d (test_of c.args.rows.now c.args.parents.now c.args.signals
-    c.args.s c.args.c c.args.d c.row_at.ensures c.place_in-q.ensures
-    c.extends_of.ensures) c.if-not-extends_of.false c.with_node-i.ensures c.if-i-lt-MOST_SIGNALS.false
+returns c = let d = c.args.d.now in
+    c.unwrap_or.ensures ∙ ap (λ r. unwrap_or r c.args.s) c.with_node.ensures
+    ∙ after-found d.rows d.parent d.signals c.args.s c.args.c c.args.node
+    (test_of d.rows d.parent d.signals c.args.s c.args.c c.args.node c.row_at.ensures c.place_in-q.ensures c.extends_of.ensures) c.if-not-extends_of.false

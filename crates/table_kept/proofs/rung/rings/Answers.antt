@@ -8,10 +8,10 @@ pub returns-then-not-is_known : goal.returns-then-not-is_known
 returns-then-not-is_known c = rung-strange c.args.t.now c.decode-d.result c.decode-d.ensures c.if-k-ne0.false c.args.set
     c.is_known.ensures c.if-not-is_known.true c.args.signal c.refused-then-not-is_known.ensures
 
-pub returns-then-d-wide : goal.returns-then-d-wide
-returns-then-d-wide c = rung-over c.args.t.now c.decode-d.result c.decode-d.ensures c.if-k-ne0.false c.args.set
+pub returns-then-d-from : goal.returns-then-d-from
+returns-then-d-from c = rung-over c.args.t.now c.decode-d.result c.decode-d.ensures c.if-k-ne0.false c.args.set
     c.is_known.ensures c.if-not-is_known.false c.args.signal
-    c.wide.ensures.0 c.if-d-wide.true c.refused-then-d-wide.ensures
+    c.from.ensures c.if-d-from.true c.refused-then-d-from.ensures
 
 pub search-requires : goal.search-requires
 search-requires c = record {
@@ -23,7 +23,7 @@ search-requires c = record {
 pub returns : goal.returns
 returns c = rung-signal c.args.t.now c.decode-d.result c.decode-d.ensures c.if-k-ne0.false c.args.set
     c.is_known.ensures c.if-not-is_known.false c.args.signal
-    c.wide.ensures.0 c.if-d-wide.false
+    c.from.ensures c.if-d-from.false
     (c.search.ensures c.args.t.now
     (formed c.args.t.now c.decode-d.result c.decode-d.ensures c.if-k-ne0.false)
     (holds c.args.t.now c.decode-d.result c.decode-d.ensures c.if-k-ne0.false))

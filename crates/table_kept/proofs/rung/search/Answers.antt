@@ -1,3 +1,4 @@
+use Rattle.std.proofs.Common.{sym}
 use mathlib.Core.Path.{refl}
 use native.Mathlib.Omega.{arith}
 use Rattle.table_kept.proofs.ArraysRight.{few-nodes, few-signals, few-any, rung-right, silent-right}
@@ -18,30 +19,18 @@ discover-h-requires c = (
       c.store_targets.new.all c.store_targets.ensures,
 )
 
-pub way_to-w-requires : goal.way_to-w-requires
-way_to-w-requires c = (
+pub way_to-requires : goal.way_to-requires
+way_to-requires c = (
   few-nodes c.requires.bytes c.requires.formed c.args.d c.requires.holds c.args.set c.among-a.result c.among-a.ensures,
-  c.discover-h.ensures.0,
-  omega (arith, c.if-j-h.true, c.discover-h.ensures.0.few),
+  omega (arith, c.in-Some.ensures.1, c.discover-h.result.few),
 )
 
-pub returns-then-j-h : goal.returns-then-j-h
-returns-then-j-h c = λ t f h.
-    rung-right t f c.args.d h c.args.set c.among-a.result c.among-a.ensures
-    c.before-may.result c.before-may.ensures
-    c.store_targets.new.all
-    c.store_targets.ensures
-    c.discover-h.ensures.0
-    c.discover-h.ensures.1 c.args.signal
-    c.number_of-j.ensures c.if-j-h.true c.way_to-w.ensures.2
-    c.rung_by.ensures
+pub returns-in-Some : goal.returns-in-Some
+returns-in-Some c = λ t f h.
+    rung-right t f c.args.d h c.args.set c.among-a.result c.among-a.ensures c.before-may.result c.before-may.ensures c.store_targets.new.all
+    c.store_targets.ensures c.discover-h.result c.discover-h.ensures c.args.signal c.in-Some.ensures.0 c.in-Some.ensures.1 c.way_to.ensures.1 c.rung_by.ensures
 
-pub returns : goal.returns
-returns c = λ t f h.
-    silent-right t f c.args.d h c.args.set c.among-a.result c.among-a.ensures
-    c.before-may.result
-    c.before-may.ensures
-    c.store_targets.new.all
-    c.store_targets.ensures
-    c.discover-h.ensures.0 c.discover-h.ensures.1 c.args.signal
-    c.number_of-j.ensures c.if-j-h.false c.refused.ensures
+pub returns-in-None : goal.returns-in-None
+returns-in-None c = λ t f h.
+    silent-right t f c.args.d h c.args.set c.among-a.result c.among-a.ensures c.before-may.result c.before-may.ensures c.store_targets.new.all
+    c.store_targets.ensures c.discover-h.result c.discover-h.ensures c.args.signal (sym c.in-None.ensures) (omega arith) c.refused.ensures

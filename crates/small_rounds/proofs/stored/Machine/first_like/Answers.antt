@@ -1,0 +1,13 @@
+use Rattle.std.proofs.Common.{rules, refl, arith}
+use Rattle.std.proofs.lemmas.Iterator.{YieldsList-from_range}
+use Rattle.std.proofs.lemmas.Iterator.Search.{find_from_yields_List}
+use Rattle.theory_minimal.specs.Refine.{same_row}
+use Rattle.small_rounds.specs.Rows.{machine_in}
+use Rattle.small_rounds.proofs.Ranges.{found-range}
+use Rattle.small_rounds.proofs.stored.Machine.first_like.Goals as goal
+
+pub returns : goal.returns
+returns c = let p = same_row (machine_in c.args.self.rows) c.args.p.now c.args.i in
+    let n = c.args.i in
+    rw c.unwrap_or.ensures
+    (found-range p n c.find.result (find_from_yields_List p _ _ _ c.find.ensures.ran (YieldsList-from_range 0 n n refl (omega arith)) (λ x b q k. search rules)))
