@@ -8,6 +8,7 @@ use base_bytes::numbers::small;
 const FARTHEST: usize = 1000000000;
 
 // A lent buffer, and the position in it or past its end up to which it is written.
+#[derive(Drop)]
 pub struct Writer<'a> {
     pub buf: &'a mut [u8],
     pub at: usize,

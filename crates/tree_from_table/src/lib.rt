@@ -23,6 +23,7 @@ ghost use Rattle.tree_from_table.specs.Stored.{StoredAs};
 
 use base_bytes::Built;
 use base_numbers::{MOST_CATEGORIES, MOST_NODES, MOST_TABLE_URNS};
+use node_search::decoded::Decoded;
 
 // The node numbers of a table's URNs in the order in which they are stored, each with its signal: how many there are.
 fn stored_numbers(
@@ -69,32 +70,21 @@ fn stored_numbers(
     l.urns
 }
 
-// The tree form of a well-formed table whose arrays these are, or 22.
-fn form<'a>(
-    t: &[u8],
-    categories: usize,
-    nodes: usize,
-    signals: usize,
-    name_at: &'a [u16; MOST_CATEGORIES],
-    name_len: &'a [u8; MOST_CATEGORIES],
-    category: &'a [u8; MOST_NODES],
-    parent: &'a [u8; MOST_NODES],
-    at: &'a [u16; MOST_NODES],
-    len: &'a [u8; MOST_NODES],
-    buf: &mut [u8],
-) -> Built
-    requires { StoredAs t.now name_at.now name_len.now category.now parent.now at.now len.now categories nodes signals }
+// The tree form of a well-formed table, or 22.
+fn form(t: &[u8], d: &Decoded, buf: &mut [u8]) -> Built
+    requires { StoredAs t.now d.now.name_at d.now.name_len d.now.category d.now.parent d.now.at d.now.len d.now.categories d.now.nodes d.now.signals }
     ensures value { result ≡ answer (to_tree t.now (length buf.old)) }
     ensures buf_after { buf.new ≡ (to_tree t.now (length buf.old)).buffer }
 {
     let mut number = [0u8; MOST_TABLE_URNS];
     let mut signal = [0u8; MOST_TABLE_URNS];
     let m = stored_numbers(t, &mut number, &mut signal);
-    let p = tree_bytes::sections::names(t, categories, name_at, name_len, buf);
-    let q = nodes::put_nodes(t, nodes, category, parent, at, len, buf, p);
-    let e = signals::put_signals(signals, m, &signal, &number, buf, q);
-    let room = buf.len();
-    tree_bytes::finish(buf, e, e <= room)
+    let mut w = tree_bytes::sections::names(t, d.categories, &d.name_at, &d.name_len, buf);
+    nodes::put_nodes(t, d, &mut w);
+    signals::put_signals(d.signals, m, &signal, &number, &mut w);
+    let e = w.at;
+    let fits = e <= w.buf.len();
+    tree_bytes::finish(w.buf, e, fits)
 }
 
 // The tree form of a table, with zeros after it; or all zeros and the number of the refusal.
@@ -103,21 +93,8 @@ pub fn write(t: &[u8], buf: &mut [u8]) -> Built
     ensures buf_after { buf.new ≡ (to_tree t.now (length buf.old)).buffer }
 {
     let d = table_decode::decode(t);
-    let refused = d.refusal;
-    if refused != 0 {
-        return base_bytes::refuse(buf, refused);
+    if d.refusal != 0 {
+        return base_bytes::refuse(buf, d.refusal);
     }
-    form(
-        t,
-        d.categories,
-        d.nodes,
-        d.signals,
-        &d.name_at,
-        &d.name_len,
-        &d.category,
-        &d.parent,
-        &d.at,
-        &d.len,
-        buf,
-    )
+    form(t, &d, buf)
 }
