@@ -5,7 +5,7 @@ ghost use Rattle.tree_bytes.specs.Laid.{spot, count_of, names_at};
 use crate::put::Writer;
 use base_bytes::numbers::small;
 use base_numbers::{MOST_CATEGORIES, MOST_TABLE_URNS};
-use node_search::texts::name_text;
+use node_search::texts::text_at;
 
 // A buffer with the section of the categories at its front; with nothing for over 8.
 pub fn names<'a>(
@@ -23,7 +23,7 @@ pub fn names<'a>(
     if n <= MOST_CATEGORIES {
         w.byte(small(n));
         for i in 0..n {
-            w.text(name_text(t, name_at, name_len, i));
+            w.text(text_at(t, name_at, name_len, i));
         }
     }
     w

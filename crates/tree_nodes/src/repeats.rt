@@ -6,7 +6,7 @@ ghost use Rattle.base_lists.specs.Lists.{tabulate};
 ghost use Rattle.tree_sections.specs.Held.{node_from};
 ghost use Rattle.tree_nodes.specs.Scan.{same_node};
 
-use node_search::texts::node_text;
+use node_search::texts::text_at;
 use tree_sections::Sections;
 
 // The nodes at the indexes i and j have the same category, parent and last name.
@@ -17,7 +17,7 @@ fn alike(t: &[u8], s: &Sections, i: usize, j: usize) -> bool
 {
     s.category[i] == s.category[j]
         && s.parent[i] == s.parent[j]
-        && node_text(t, &s.at, &s.len, i) == node_text(t, &s.at, &s.len, j)
+        && text_at(t, &s.at, &s.len, i) == text_at(t, &s.at, &s.len, j)
 }
 
 // Some node before the one at index i is alike.

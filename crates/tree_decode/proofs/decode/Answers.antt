@@ -1,13 +1,12 @@
-use Rattle.tree_decode.proofs.Composed.{held-zero}
+use Rattle.base_numbers.specs.Refusals.{refusal_number}
+use Rattle.table_sections.proofs.Readings.{passed-on}
+use Rattle.table_names.proofs.RoomLaws.{formed-in}
+use Rattle.tree_nodes.proofs.ByArrays.{lasts-in, judges-in}
+use Rattle.tree_decode.proofs.Composed.{at-fault, name-unformed, last-unformed, not-grown, grown-as}
 use Rattle.tree_decode.proofs.decode.Goals as goal
 
-pub returns : goal.returns
-returns c = let s = c.read-s.result in
-    record {
-      refusal = c.judge-refusal.ensures.value;
-      holds = λ z. record {
-        read = held-zero c.args.t.now s.name_at s.name_len s.category s.parent s.at s.len
-            s.signal s.number s.counts c.read-s.ensures z;
-        measured = c.judge-refusal.ensures.measured z;
-      };
-    }
+pub returns-in_err-sections : goal.returns-in_err-sections
+returns-in_err-sections c = rw (passed-on c.from_residual.result c.from_residual.ensures) (at-fault _ _ c.in_err-sections.ensures)
+
+pub returns-in_err-judge_sizes : goal.returns-in_err-judge_sizes
+returns-in_err-judge_sizes c = ?

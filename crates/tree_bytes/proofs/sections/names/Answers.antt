@@ -16,11 +16,11 @@ loop-i-init c = (
 
 pub loop-i-preserved : goal.loop-i-preserved
 loop-i-preserved c = let l = c.loop-i.invariant in
-    let G = text-as c.name_text.result.now c.text.ensures.wrote c.name_text.ensures.short in (
-      omega (arith, l.0, wrote-most G, c.name_text.ensures.short),
+    let G = text-as c.text_at.result.now c.text.ensures.wrote c.text_at.ensures.short in (
+      omega (arith, l.0, wrote-most G, c.text_at.ensures.short),
       c.text.ensures.same_reference ∙ l.1,
       wrote-next text_bytes (stretch c.args.t.now c.args.name_at.now c.args.name_len.now) c.loop-i.i l.2 G
-          (ap text_bytes (text_in_lem _ _ _ _ _ c.name_text.ensures.result_value (omega arith))),
+          (ap text_bytes (text_in_lem _ _ _ _ _ c.text_at.ensures.result_value (omega arith))),
     )
 
 pub returns-after-loop-i-clause-result_after : goal.returns-after-loop-i-clause-result_after
