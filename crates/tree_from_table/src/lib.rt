@@ -31,16 +31,17 @@ fn stored_numbers(
     number: &mut [u8; MOST_TABLE_URNS],
     signal: &mut [u8; MOST_TABLE_URNS],
 ) -> usize
-    requires { (table_refusal t.now ≡ 0) × (length number.old ≡ most_table_urns) × (length signal.old ≡ most_table_urns) }
+    requires { table_refusal t.now ≡ 0 }
     ensures result_after { tabulate (number_at signal.new number.new) result ≡ tagged_from 0 (map (map (number_in (nodes_of (table_of t.now)))) (table_of t.now).signals) }
     ensures upper_bound { result ≤ most_table_urns }
 {
-    let mut name_at = [0u16; MOST_CATEGORIES];
-    let mut name_len = [0u8; MOST_CATEGORIES];
-    let mut at = [0u16; MOST_TABLE_URNS];
-    let mut len = [0u8; MOST_TABLE_URNS];
-    let l = table_sections::read(t, &mut name_at, &mut name_len, &mut at, &mut len, signal);
-    let mut category = [0u8; MOST_TABLE_URNS];
+    let mut name_at = [0; MOST_CATEGORIES];
+    let mut name_len = [0; MOST_CATEGORIES];
+    let mut at = [0; MOST_TABLE_URNS];
+    let mut len = [0; MOST_TABLE_URNS];
+    let read = table_sections::read(t, &mut name_at, &mut name_len, &mut at, &mut len, signal);
+    let l = read.unwrap();
+    let mut category = [0; MOST_TABLE_URNS];
     table_names::index_urns(
         t,
         l.categories,
@@ -51,10 +52,10 @@ fn stored_numbers(
         &mut len,
         &mut category,
     );
-    let mut cats = [0u8; MOST_NODES];
-    let mut parents = [0u8; MOST_NODES];
-    let mut node_at = [0u16; MOST_NODES];
-    let mut node_len = [0u8; MOST_NODES];
+    let mut cats = [0; MOST_NODES];
+    let mut parents = [0; MOST_NODES];
+    let mut node_at = [0; MOST_NODES];
+    let mut node_len = [0; MOST_NODES];
     table_nodes::add_all(
         t,
         l.urns,
@@ -76,8 +77,8 @@ fn form(t: &[u8], d: &Decoded, buf: &mut [u8]) -> Built
     ensures value { result ≡ answer (to_tree t.now (length buf.old)) }
     ensures buf_after { buf.new ≡ (to_tree t.now (length buf.old)).buffer }
 {
-    let mut number = [0u8; MOST_TABLE_URNS];
-    let mut signal = [0u8; MOST_TABLE_URNS];
+    let mut number = [0; MOST_TABLE_URNS];
+    let mut signal = [0; MOST_TABLE_URNS];
     let m = stored_numbers(t, &mut number, &mut signal);
     let mut w = tree_bytes::sections::names(t, d.categories, &d.name_at, &d.name_len, buf);
     nodes::put_nodes(t, d, &mut w);
@@ -92,9 +93,8 @@ pub fn write(t: &[u8], buf: &mut [u8]) -> Built
     ensures value { result ≡ answer (to_tree t.now (length buf.old)) }
     ensures buf_after { buf.new ≡ (to_tree t.now (length buf.old)).buffer }
 {
-    let d = table_decode::decode(t);
-    if d.refusal != 0 {
-        return base_bytes::refuse(buf, d.refusal);
+    match table_decode::decode(t) {
+        Ok(d) => form(t, &d, buf),
+        Err(k) => base_bytes::refuse(buf, u8::from(k)),
     }
-    form(t, &d, buf)
 }

@@ -16,18 +16,18 @@ urn_categories-requires c = (
 pub returns : goal.returns
 returns c = by-places c.args.t.now c.args.s.now.name_at c.args.s.now.name_len c.args.s.now.category c.args.s.now.parent c.args.s.now.at c.args.s.now.len
     c.args.s.now.signal c.args.s.now.number c.args.s.now.counts c.requires (distinct-in _ _ _ _ c.names_distinct.ensures c.requires.grows.read.few-categories)
-    c.if-names_distinct.true c.urn_categories.new.out c.urn_categories.ensures
-    (used-in _ _ _ c.all_used.ensures c.requires.grows.read.held.few-numbers) c.if-all_used.true _ (replicate most_signals 0) _ (clear most_signals)
+    c.if-not-names_distinct.false c.urn_categories.new.out c.urn_categories.ensures
+    (used-in _ _ _ c.all_used.ensures c.requires.grows.read.held.few-numbers) c.if-not-all_used.false _ (replicate most_signals 0) _ (clear most_signals)
     c.by_nodes.ensures.placed
 
-pub returns-else-all_used : goal.returns-else-all_used
+pub returns-then-not-all_used : goal.returns-then-not-all_used
 unfolding refusal_number
-returns-else-all_used c = not-used c.args.t.now c.args.s.now.name_at c.args.s.now.name_len c.args.s.now.category c.args.s.now.parent c.args.s.now.at c.args.s.now.len
+returns-then-not-all_used c = not-used c.args.t.now c.args.s.now.name_at c.args.s.now.name_len c.args.s.now.category c.args.s.now.parent c.args.s.now.at c.args.s.now.len
     c.args.s.now.signal c.args.s.now.number c.args.s.now.counts c.requires (distinct-in _ _ _ _ c.names_distinct.ensures c.requires.grows.read.few-categories)
-    c.if-names_distinct.true c.urn_categories.new.out c.urn_categories.ensures
-    (used-in _ _ _ c.all_used.ensures c.requires.grows.read.held.few-numbers) c.if-all_used.false
+    c.if-not-names_distinct.false c.urn_categories.new.out c.urn_categories.ensures
+    (used-in _ _ _ c.all_used.ensures c.requires.grows.read.held.few-numbers) c.if-not-all_used.true
 
-pub returns-else-names_distinct : goal.returns-else-names_distinct
+pub returns-then-not-names_distinct : goal.returns-then-not-names_distinct
 unfolding refusal_number
-returns-else-names_distinct c = listed-twice c.args.t.now c.args.s.now.name_at c.args.s.now.name_len c.args.s.now.category c.args.s.now.parent c.args.s.now.at c.args.s.now.len
-    c.args.s.now.signal c.args.s.now.number c.args.s.now.counts c.requires (distinct-in _ _ _ _ c.names_distinct.ensures c.requires.grows.read.few-categories) c.if-names_distinct.false
+returns-then-not-names_distinct c = listed-twice c.args.t.now c.args.s.now.name_at c.args.s.now.name_len c.args.s.now.category c.args.s.now.parent c.args.s.now.at c.args.s.now.len
+    c.args.s.now.signal c.args.s.now.number c.args.s.now.counts c.requires (distinct-in _ _ _ _ c.names_distinct.ensures c.requires.grows.read.few-categories) c.if-not-names_distinct.true

@@ -33,23 +33,23 @@ all_within-requires-2 c = (
 
 pub judge_names-requires : goal.judge_names-requires
 judge_names-requires c = fit-as c.args.t.now c.args.s.now.name_at c.args.s.now.name_len c.args.s.now.category c.args.s.now.parent c.args.s.now.at c.args.s.now.len c.args.s.now.signal
-    c.args.s.now.number c.args.s.now.counts c.requires c.sizes.new.out c.sizes.ensures c.all_within.ensures c.if-all_within.true
-    c.depths.new.out c.depths.ensures c.all_within-2.ensures c.if-all_within-2.true
+    c.args.s.now.number c.args.s.now.counts c.requires c.sizes.new.out c.sizes.ensures c.all_within.ensures c.if-not-all_within.false
+    c.depths.new.out c.depths.ensures c.all_within-2.ensures c.if-not-all_within-2.false
 
-pub returns-else-all_within-2 : goal.returns-else-all_within-2
+pub returns-then-not-all_within-2 : goal.returns-then-not-all_within-2
 unfolding refusal_number
-returns-else-all_within-2 c = record {
+returns-then-not-all_within-2 c = record {
   value = is-seven c.args.t.now c.args.s.now.name_at c.args.s.now.name_len c.args.s.now.category c.args.s.now.parent c.args.s.now.at c.args.s.now.len
       c.args.s.now.signal c.args.s.now.number c.args.s.now.counts c.requires c.sizes.new.out c.sizes.ensures
-      c.all_within.ensures c.if-all_within.true c.depths.new.out c.depths.ensures c.all_within-2.ensures c.if-all_within-2.false;
+      c.all_within.ensures c.if-not-all_within.false c.depths.new.out c.depths.ensures c.all_within-2.ensures c.if-not-all_within-2.true;
   measured = record { sizes = c.sizes.ensures; depths = c.depths.ensures };
 }
 
-pub returns-else-all_within : goal.returns-else-all_within
+pub returns-then-not-all_within : goal.returns-then-not-all_within
 unfolding refusal_number
-returns-else-all_within c = record {
+returns-then-not-all_within c = record {
   value = is-six c.args.t.now c.args.s.now.name_at c.args.s.now.name_len c.args.s.now.category c.args.s.now.parent c.args.s.now.at c.args.s.now.len
       c.args.s.now.signal c.args.s.now.number c.args.s.now.counts c.requires c.sizes.new.out c.sizes.ensures
-      c.all_within.ensures c.if-all_within.false;
+      c.all_within.ensures c.if-not-all_within.true;
   measured = record { sizes = c.sizes.ensures; depths = c.depths.ensures };
 }

@@ -11,8 +11,8 @@ loop-i-init c = λ j h. absurd (omega arith)
 pub overflow_sub-out : goal.overflow_sub-out
 overflow_sub-out c = omega (arith, c.from-k.ensures, (c.requires.1 _ c.loop-i-test.true).0)
 
-pub bounds-category-k : goal.bounds-category-k
-bounds-category-k c = let loop-test = c.loop-i-test.true in omega (arith, c.from-k.ensures, (c.requires.1 _ loop-test).0, (c.requires.1 _ loop-test).1)
+pub bounds-s-k : goal.bounds-s-k
+bounds-s-k c = let loop-test = c.loop-i-test.true in omega (arith, c.from-k.ensures, (c.requires.1 _ loop-test).0, (c.requires.1 _ loop-test).1)
 
 pub loop-i-preserved : goal.loop-i-preserved
 loop-i-preserved c = let i = c.loop-i.i in let inv = c.loop-i.invariant in

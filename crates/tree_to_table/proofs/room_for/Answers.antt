@@ -1,8 +1,0 @@
-use Rattle.tree_forms.proofs.Theorems.{old-fits, old-over}
-use Rattle.tree_to_table.proofs.room_for.Goals as goal
-
-pub returns-then-n-le-MOST_TABLE_BYTES : goal.returns-then-n-le-MOST_TABLE_BYTES
-returns-then-n-le-MOST_TABLE_BYTES c = old-fits c.args.n c.args.room c.if-n-le-MOST_TABLE_BYTES.true
-
-pub returns : goal.returns
-returns c = old-over c.args.n c.args.room c.if-n-le-MOST_TABLE_BYTES.false
