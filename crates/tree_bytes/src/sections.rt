@@ -29,7 +29,7 @@ pub fn names<'a>(
     w
 }
 
-// How many of the first m are of signal s; 0 for over 256.
+// How many of the first m are of signal s; 0 for over 256. The numbers themselves stand in the contract alone.
 pub fn count_of(
     m: usize,
     signal: &[u8; MOST_TABLE_URNS],

@@ -16,12 +16,6 @@ use Rattle.tree_decode.specs.Stages.{Parented, FromParent, UrnCategories}
 pub stretch-le : (t at len : List ℕ) (i : ℕ) → length (stretch t at len i) ≤ length t
 stretch-le t at len i = omega (arith, length-take (get_or len i 0) (drop (get_or at i 0) t), length-drop (get_or at i 0) t)
 
-pub above_zero : (p first : ℕ) (out : List ℕ) → p ≡ 0 → first ≡ cond (eqb p 0) first (get_or out (p - 1) 0)
-above_zero p first out e = sym (rw (eq-eqb p 0 e))
-
-pub above-node : (p first : ℕ) (out : List ℕ) → (p ≡ 0 → ⊥) → get_or out (p - 1) 0 ≡ cond (eqb p 0) first (get_or out (p - 1) 0)
-above-node p first out n = sym (rw (ne_eqb p 0 n))
-
 -- no value is too large
 abbrev pub Bounded : List ℕ → ℕ → Type 0
 Bounded out n = (j : ℕ) → j < n → get_or out j 0 ≤ 8193 * (j + 2)

@@ -2,7 +2,7 @@
 use Prim.Native.Nat.{ℕ, ◌≤◌, ◌<◌}
 use mathlib.Core.Path.{◌≡◌, refl, ap, ap₂, sym, ◌∙◌, subst}
 use mathlib.Core.Logic.{inl, inr, ◌≢◌}
-use mathlib.Core.Bool.{Bool, true, false}
+use mathlib.Core.Bool.{Bool, true}
 use mathlib.Core.List.{List, [], ◌∷◌, ◌++◌, map, foldl, append_assoc}
 use native.Mathlib.Omega.{arith}
 use native.Mathlib.Nat.{zero-add}
@@ -13,11 +13,10 @@ use Rattle.std.specs.Prelude.{Result, Ok, Err, Option, Some, None}
 use Rattle.std.specs.Result.{is_ok}
 use Rattle.base_numbers.specs.Refusals.{refusal_number}
 use Rattle.base_numbers.specs.declared.refusal.Refusal.{Refusal}
-use Rattle.base_numbers.specs.Numbers.{most_nodes, most_table_bytes}
+use Rattle.base_numbers.specs.Numbers.{most_table_bytes}
 use Rattle.base_lists.specs.Cuts.{stretch}
 use Rattle.base_lists.proofs.Over.{laid_nil}
 use Rattle.base_lists.proofs.Tests.{all-joined}
-use Rattle.base_lists.proofs.Bools.{by_test}
 use Rattle.base_lists.specs.Tests.{all}
 use Rattle.base_lists.proofs.Tabulated.{tabulate-same, map-tab, tab-list}
 use Rattle.base_lists.proofs.Lists.{mem-at}

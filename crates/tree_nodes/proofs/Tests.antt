@@ -1,6 +1,6 @@
 -- Laws of the tests of 21 by the arrays, one step further.
 use Prim.Native.Nat.{ℕ, ◌+◌, ◌-◌, ◌≤◌, ◌<◌, suc}
-use mathlib.Core.Path.{◌≡◌, refl, ap, ap₂, sym, subst, ◌∙◌}
+use mathlib.Core.Path.{◌≡◌, refl, ap, ap₂, sym, ◌∙◌}
 use mathlib.Core.Bool.{Bool, true, false, ◌&&◌, and-eq-true_iff}
 use mathlib.Core.List.{List, [], ◌∷◌}
 use native.Mathlib.Omega.{arith}
@@ -9,11 +9,10 @@ use lib.Seq.{drop-cons}
 use lib.Dec.{eqb, leb}
 use lib.Pointwise.{pointwise}
 use borrow.Author.Tests.{eq-eqb, ne_eqb, lt-leb, le-leb, leb-true}
-use Rattle.std.specs.Prelude.{IsTrue, ◌↔◌, Option, Some, None}
+use Rattle.std.specs.Prelude.{Option, Some, None}
 use Rattle.std.specs.List.{list_all, range_with_len}
 use Rattle.base_numbers.specs.Numbers.{most_nodes}
 use Rattle.base_lists.specs.Cuts.{stretch}
-use Rattle.base_lists.proofs.Bools.{same_test}
 use Rattle.base_lists.proofs.Tests.{all-mem}
 use Rattle.base_lists.specs.Tests.{all}
 use Rattle.base_lists.specs.Numbers.{within}
@@ -21,7 +20,6 @@ use Rattle.base_lists.proofs.Tabulated.{tabulate-at, tabulate-length}
 use Rattle.base_lists.proofs.Lists.{mem-at}
 use Rattle.base_lists.specs.Lists.{tabulate}
 use Rattle.theory_resolution.specs.Names.{same_name}
-use Rattle.theory_resolution.proofs.Names.{name-exact}
 use Rattle.tree_nodes.specs.Scan.{same_node}
 use Rattle.tree_sections.specs.Held.{node_from}
 use Rattle.tree_nodes.specs.Tests.{under_at, linked_by, step_by, after, scan_by}

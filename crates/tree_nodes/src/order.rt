@@ -14,7 +14,9 @@ pub(crate) fn numbers_known(s: &Sections) -> bool
     requires { s.now.counts.numbers ≤ most_table_urns }
     ensures { result ≡ all (within 1 s.now.counts.nodes) (tabulate (λ i. get_or s.now.number i 0) s.now.counts.numbers) }
 {
-    s.number[..s.counts.numbers].iter().all(|k| (1..=s.counts.nodes).contains(&usize::from(*k)))
+    s.number[..s.counts.numbers]
+        .iter()
+        .all(|k| (1..=s.counts.nodes).contains(&usize::from(*k)))
 }
 
 // Each node after node m + 1 and up to node k has the node before it for its parent.

@@ -12,7 +12,9 @@ pub(crate) fn categories_known(s: &Sections) -> bool
     requires { s.now.counts.nodes ≤ most_nodes }
     ensures { result ≡ all (λ x. ltb x s.now.counts.categories) (tabulate (λ i. get_or s.now.category i 0) s.now.counts.nodes) }
 {
-    s.category[..s.counts.nodes].iter().all(|x| usize::from(*x) < s.counts.categories)
+    s.category[..s.counts.nodes]
+        .iter()
+        .all(|x| usize::from(*x) < s.counts.categories)
 }
 
 // The parent of the node at index i is 0, or a node of the same category before it.

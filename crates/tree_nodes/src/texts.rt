@@ -11,5 +11,6 @@ use urn_names::urn::stored_name;
 pub fn lasts_formed(t: &[u8], s: &Sections) -> bool
     ensures { result ≡ lasts_formed t.now s.now.at s.now.len s.now.counts.nodes }
 {
-    s.counts.nodes <= MOST_NODES && (0..s.counts.nodes).all(|i| stored_name(text_at(t, &s.at, &s.len, i)))
+    s.counts.nodes <= MOST_NODES
+        && (0..s.counts.nodes).all(|i| stored_name(text_at(t, &s.at, &s.len, i)))
 }

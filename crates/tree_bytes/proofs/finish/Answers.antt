@@ -13,6 +13,6 @@ returns-then-n-buf c = let b = c.args.buf.now in let n = c.args.n in
 
 pub returns : goal.returns
 returns c = elim c.else-fits.branch [
-  else-fits-via-then-fits+else-n-buf w ↦ let q = finish-over c.args.buf.now c.args.n w.if-fits.true w.if-n-buf.false c.refuse.ensures.value c.refuse.ensures.buf_after in record { value = q.0; buf_after = q.1 }
+  | else-fits-via-then-fits+else-n-buf w ↦ let q = finish-over c.args.buf.now c.args.n w.if-fits.true w.if-n-buf.false c.refuse.ensures.value c.refuse.ensures.buf_after in record { value = q.0; buf_after = q.1 }
   | else-fits-via-else-fits w ↦ let q = finish-not c.args.buf.now c.args.n w.if-fits.false c.refuse.ensures.value c.refuse.ensures.buf_after in record { value = q.0; buf_after = q.1 }
 ]

@@ -1,5 +1,5 @@
 use native.Mathlib.Omega.{arith}
-use mathlib.Core.Path.{refl, ◌∙◌}
+use mathlib.Core.Path.{refl}
 use Rattle.tree_from_table.proofs.Numbering.{eight-stored, new-formed}
 use Rattle.tree_bytes.proofs.Laying.{finish-laid, names-put}
 use Rattle.std.proofs.Common.{rules}

@@ -11,6 +11,6 @@ scan-requires c =
     let known : c.if-categories_known.value ≡ true =
     elim c.if-numbers_known.branch [ then-numbers_known w ↦ w.if-numbers_known.true | else-numbers_known w ↦ sym w.value-is ∙ right ] in
     elim c.if-categories_known.branch [
-      then-categories_known w ↦ (c.requires.1, numbers_small _ _ _ w.numbers_known.ensures (sym w.value-is ∙ known) c.requires.0)
+      | then-categories_known w ↦ (c.requires.1, numbers_small _ _ _ w.numbers_known.ensures (sym w.value-is ∙ known) c.requires.0)
       | else-categories_known w ↦ absurd (false≢true (sym w.if-categories_known.false ∙ sym w.value-is ∙ known))
     ]

@@ -14,7 +14,7 @@ pub loop-i-preserved : goal.loop-i-preserved
 loop-i-preserved c = let inv = c.loop-i.invariant in
     let f = number_at c.args.signal.now c.args.number.now in
     elim c.if-from-s.branch [
-      then-from-s w ↦
+      | then-from-s w ↦
           let G = puts_of w.byte-then-from-s.ensures.wrote (omega (arith, inv.0, (puts_of c.byte.ensures.wrote (omega arith)).end, c.requires.0, c.requires.1)) in
           rw w.w-is (
             omega (arith, inv.0, G.end),

@@ -1,5 +1,4 @@
-use native.Mathlib.Omega.{arith}
-use mathlib.Core.Path.{refl, sym, ap, ◌∙◌}
+use mathlib.Core.Path.{refl, sym, ◌∙◌}
 use Rattle.tree_nodes.proofs.Tests.{scan-more, scan-ends}
 use Rattle.tree_nodes.proofs.order.scan.Goals as goal
 

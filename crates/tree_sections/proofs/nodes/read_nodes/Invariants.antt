@@ -1,7 +1,5 @@
 use Prim.Native.Nat.{◌-◌}
 use mathlib.Core.Path.{◌≡◌}
-use lib.ListN.{length}
-use Rattle.base_numbers.specs.Numbers.{most_nodes}
 use Rattle.base_lists.specs.Lists.{tabulate}
 use Rattle.table_sections.specs.Stored.{times}
 use Rattle.table_sections.proofs.Readings.{after}
