@@ -7,7 +7,7 @@ use native.Mathlib.Omega.{arith}
 use lib.ListN.{length, get_or}
 use lib.Dec.{eqb, leb, ltb}
 use borrow.Author.Tests.{ltb-true, leb-true}
-use Rattle.base_numbers.specs.Numbers.{most_signals, most_table_bytes}
+use Rattle.base_numbers.specs.Numbers.{most_signals}
 use Rattle.base_lists.specs.Cuts.{stretch}
 use Rattle.base_lists.proofs.Tests.{all-joined, any-alike, all_alike, all-mem}
 use Rattle.base_lists.specs.Tests.{all, any, no_two}

@@ -76,8 +76,12 @@ pub fn decode(t: &[u8]) -> Result<Decoded, Refusal>
     ensures { Means t.now result }
 {
     let sections = tree_sections::read(t)?;
-    if !table_names::names_formed(t, sections.counts.categories, &sections.name_at, &sections.name_len)
-        || !tree_nodes::texts::lasts_formed(t, &sections)
+    if !table_names::names_formed(
+        t,
+        sections.counts.categories,
+        &sections.name_at,
+        &sections.name_len,
+    ) || !tree_nodes::texts::lasts_formed(t, &sections)
     {
         return Err(Refusal::TableBadForm);
     }

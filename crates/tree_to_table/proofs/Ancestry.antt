@@ -8,7 +8,7 @@ use native.Mathlib.Numerals.{add-one}
 use native.Mathlib.Nat.{zero-add}
 use lib.ListN.{length, get_or, replicate, length-map, length-append}
 use lib.Dec.{leb}
-use borrow.Author.Tests.{ne_eqb, le-leb, lt-leb, leb-true}
+use borrow.Author.Tests.{ne_eqb, le-leb, leb-true}
 use Rattle.base_numbers.specs.Numbers.{most_nodes}
 use Rattle.base_lists.proofs.Each.{each_append}
 use Rattle.base_lists.specs.Cuts.{stretch}

@@ -15,7 +15,7 @@ returns-then-not-names_formed c = let h = c.in_ok-sections.ensures in
     let s = c.in_ok-sections.sections in
     let f = formed-in _ _ _ _ c.names_formed.ensures h.few-categories in
     elim c.then-not-names_formed.branch [
-      then-not-names_formed-via-then-not-names_formed w ↦
+      | then-not-names_formed-via-then-not-names_formed w ↦
           name-unformed c.args.t.now s.name_at s.name_len s.category s.parent s.at s.len s.signal s.number s.counts h f w.if-not-names_formed.true
       | then-not-names_formed-via-else-not-names_formed+then-not-lasts_formed w ↦
           last-unformed c.args.t.now s.name_at s.name_len s.category s.parent s.at s.len s.signal s.number s.counts h f w.if-not-names_formed.false

@@ -1,7 +1,7 @@
 use native.Mathlib.Omega.{arith}
 use Prim.Native.Nat.{◌<◌}
-use mathlib.Core.Path.{refl, ◌∙◌}
-use lib.ListN.{length, length-set}
+use mathlib.Core.Path.{refl}
+use lib.ListN.{length}
 use Rattle.tree_decode.proofs.Filling.{base-le, bound-more, from_more}
 use Rattle.tree_decode.proofs.sizes.depths.Goals as goal
 

@@ -1,7 +1,7 @@
 use native.Mathlib.Omega.{arith}
 use Prim.Native.Nat.{ℕ, suc, ◌<◌}
 use mathlib.Core.Path.{ap, ◌∙◌}
-use lib.ListN.{length, length-set, get_or}
+use lib.ListN.{length, get_or}
 use Rattle.base_lists.specs.Cuts.{stretch}
 use Rattle.tree_decode.proofs.Filling.{stretch-le, base-le, bound-more, from_more}
 use Rattle.node_search.proofs.TextLaws.{text_in_lem}

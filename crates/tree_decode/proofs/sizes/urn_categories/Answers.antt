@@ -1,7 +1,6 @@
 use native.Mathlib.Omega.{arith}
 use Prim.Native.Nat.{◌<◌}
-use mathlib.Core.Path.{◌∙◌}
-use lib.ListN.{length, length-set}
+use lib.ListN.{length}
 use Rattle.tree_decode.proofs.Filling.{categories-more}
 use Rattle.tree_decode.proofs.sizes.urn_categories.Goals as goal
 

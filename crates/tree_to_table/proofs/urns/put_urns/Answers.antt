@@ -25,7 +25,7 @@ loop-i-preserved c = let d = c.args.d.now in
     let inv = c.loop-i.invariant in
     let f = urn_bytes c.args.t.now s.name_at s.name_len s.category s.parent s.at s.len d.size d.depth in
     elim c.if-from-s.branch [
-      then-from-s w ↦ rw w.w-is (
+      | then-from-s w ↦ rw w.w-is (
         omega (arith, inv.0, w.put_urn.ensures.upper_bound),
         w.put_urn.ensures.same_reference ∙ inv.1,
         of-next f c.args.s (number_at s.signal s.number) c.loop-i.i inv.2 w.put_urn.ensures.puts (ap f w.from-k.ensures) c.from.ensures w.if-from-s.true,
