@@ -2,7 +2,7 @@
 use Prim.Native.Nat.{ℕ, suc, zero, ◌+◌, ◌-◌, ◌%◌, ◌≤◌, ◌<◌, max}
 use mathlib.Core.Path.{◌≡◌, refl, ap, ap₂, sym, ◌∙◌, subst}
 use mathlib.Core.Logic.{◌≢◌}
-use mathlib.Core.Bool.{Bool, true, false, cond}
+use mathlib.Core.Bool.{Bool, true, false, cond, false≢true}
 use mathlib.Core.List.{List, [], ◌∷◌, ◌++◌, map, foldl, foldl-append, append_assoc, append-nil}
 use native.Mathlib.Nat.{zero-add}
 use native.Mathlib.Numerals.{add-one}
@@ -10,6 +10,9 @@ use native.Mathlib.Omega.{arith}
 use lib.ListN.{length, length-set, get_or, set, take, drop, replicate, length-append, length-drop, drop_of_length-le, get_or-eq_default}
 use lib.Seq.{take_all, take-suc, take_at, length-take-le, set_out}
 use lib.Dec.{eqb, leb, ltb}
+use Rattle.std.specs.List.{count_by}
+use Rattle.std.proofs.lemmas.List.Sums.{sum_by_more}
+use Rattle.std.proofs.Common.{eqb-true, add-zero}
 use borrow.Author.Tests.{eq-eqb, ne_eqb, ltb-true, ltb-false, leb-true, leb-false, lt-ltb, le-ltb, le-leb, lt-leb}
 use borrow.Rule.Slice.PartMut.{put_mid}
 use Rattle.base_numbers.specs.Numbers.{most_table_urns}
@@ -244,8 +247,18 @@ module _ {A : Type 0} (s : ℕ) (f : ℕ → Tagged A) where
   unfolding of_signal tabulate
   none-counted = refl
 
-  pub counted-end : {n : ℕ} (i m : ℕ) → i ≤ m → m ≤ i → n ≡ length (of_signal s (tabulate f i)) → n ≡ length (of_signal s (tabulate f m))
-  counted-end i m h k v = v ∙ ap (λ (l : List (Tagged A)). length (of_signal s l)) (tab-same-end f i m h k)
+-- how many of a signal's front pass
+pub counted_front : (signal number : List ℕ) (s m : ℕ) → m ≤ length signal
+    → count_by (λ x. eqb x s) (take m signal) ≡ length (of_signal s (tabulate (number_at signal number) m))
+counted_front signal number s zero h = none-counted s (number_at signal number)
+counted_front signal number s (suc m) h =
+    let ih = counted_front signal number s m (omega arith) in
+    let q : suc m ≡ m + 1 = omega arith in
+    rw q (sum_by_more (λ x. cond (eqb x s) 1 0) signal m 0 (omega arith)
+    ∙ by_test (eqb (get_or signal m 0) s)
+    (λ t. ap (λ b. count_by (λ x. eqb x s) (take m signal) + cond b 1 0) t ∙ count-hit s (number_at signal number) m ih refl (eqb-true _ _ t))
+    (λ t. ap (λ b. count_by (λ x. eqb x s) (take m signal) + cond b 1 0) t ∙ add-zero _
+    ∙ count-miss s (number_at signal number) m ih refl (λ q. false≢true (sym t ∙ eq-eqb _ _ q))))
 
 -- how many numbers a signal has
 module _ (signal number : List ℕ) (m s : ℕ) where

@@ -2,7 +2,7 @@
 //
 // In: texts and numbers, a buffer and a position in it. Out: the position after them; at the end the answer, and the whole buffer.
 //
-//   put.rt       a byte, a text
+//   put.rt       the writer: a byte, a text
 //   sections.rt  counts, and the names of the categories
 #![tactic(auto)]
 
@@ -20,13 +20,9 @@ pub fn finish(buf: &mut [u8], n: usize, fits: bool) -> Built
     ensures value { result ≡ answer (finished buf.old n fits) }
     ensures buf_after { buf.new ≡ (finished buf.old n fits).buffer }
 {
-    if fits {
-        let room = buf.len();
-        if n <= room {
-            base_bytes::lent::clear(&mut buf[n..room]);
-            return Built { refusal: 0, len: n };
-        }
-        return base_bytes::refuse(buf, FORM_NO_ROOM);
+    if fits && n <= buf.len() {
+        buf[n..].fill(0);
+        return Built { refusal: 0, len: n };
     }
     base_bytes::refuse(buf, FORM_NO_ROOM)
 }

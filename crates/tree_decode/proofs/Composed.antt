@@ -7,10 +7,9 @@ use native.Mathlib.Omega.{arith}
 use lib.ListN.{length, get_or}
 use lib.Dec.{eqb, leb, ltb}
 use borrow.Author.Tests.{ltb-true, leb-true}
-use Rattle.base_numbers.specs.Numbers.{most_signals, most_table_bytes}
+use Rattle.base_numbers.specs.Numbers.{most_signals}
 use Rattle.base_lists.specs.Cuts.{stretch}
 use Rattle.base_lists.proofs.Tests.{all-joined, any-alike, all_alike, all-mem}
-use Rattle.base_lists.proofs.Bools.{by_test}
 use Rattle.base_lists.specs.Tests.{all, any, no_two}
 use Rattle.base_lists.specs.Numbers.{within}
 use Rattle.base_lists.proofs.Tabulated.{tabulate-at, tabulate-length, map-tab}
@@ -22,17 +21,16 @@ use Rattle.theory_resolution.specs.Nodes.{node_at}
 use Rattle.urn_names.specs.Urn.{stored_name}
 use Rattle.table_sections.specs.Stored.{fault}
 use Rattle.table_sections.specs.Held.{Padded}
-use Rattle.table_sections.proofs.FaultLaws.{fault-if, fault-some}
 use Rattle.table_places.specs.Slots.{Listing, Numbering, Placed}
 use Rattle.table_places.proofs.Flat.{what_of, tagged-what}
-use Rattle.tree_sections.specs.Tree.{Node, node_of, Tree, tree, tree_sections}
-use Rattle.tree_sections.specs.Held.{node_from, number_at, tree_held, TreeHeld, TreeRead}
+use Rattle.tree_sections.specs.Tree.{Node, node_of, Tree, tree_sections}
+use Rattle.tree_sections.specs.Held.{node_from, number_at, tree_held, TreeHeld}
 use Rattle.tree_sections.specs.declared.Counts.{Counts}
 use Rattle.tree_forms.specs.Meaning.{urn_of, urns_of, table_of_tree, urn_text}
 use Rattle.tree_forms.specs.Refusals.{named, grown, tree_judged_read, tree_refusal, tree_judged}
 use Rattle.tree_forms.proofs.Writing.{FitsTree, tree-back}
 use Rattle.tree_forms.proofs.Growing.{Grown, grown-is}
-use Rattle.tree_forms.proofs.Theorems.{fault-tree, tree-refusal}
+use Rattle.tree_forms.proofs.Theorems.{tree-refusal}
 use Rattle.tree_nodes.specs.Tests.{Judges}
 use Rattle.tree_nodes.proofs.ByArrays.{node_at_lem}
 use Rattle.tree_decode.specs.Direct.{short_in, few_parts, used_once, meant, tree_direct}
@@ -214,57 +212,43 @@ module _ (t name_at name_len category parent at len signal number : List ℕ) (r
           let n = tree-numbering z g h signal out number r.numbers G.read.held.numbers cat-is in
           (f (table_of_tree z) (λ i. (urn_of (urns_of z) (get_or number i 0)).path) l n p).refusal ∙ sym (meant-of ∙ rw (F.shorts, F.fews, used ∙ w))
 
--- what the reading answered, 7 and 21
+-- 7 and 21
 module _ (t name_at name_len category parent at len signal number : List ℕ) (r : Counts)
-    (R : TreeRead t name_at name_len category parent at len signal number r) where
-  pub not-read : r.ok ≡ false → r.fault ≡ tree_refusal t
-  not-read e = at-fault t r.fault (R.faulty e)
+    (H : TreeHeld t name_at name_len category parent at len signal number r) where
+  abbrev y : Tree
+  y = tree_held t name_at name_len category parent at len H.signals r
 
-  pub some-fault : r.ok ≡ false → 4 ≤ r.fault
-  some-fault e = (fault-if (ltb most_table_bytes (length t)) (fault 4) (tree t) (fault-some 4 (omega arith, omega arith)) (fault-tree t)
-      r.fault (R.faulty e)).0
+  judged-tree : tree_refusal t ≡ tree_judged y
+  judged-tree = tree-refusal t y H.next H.short H.whole
 
-  pub held-zero : tree_refusal t ≡ 0 → TreeHeld t name_at name_len category parent at len signal number r
-  held-zero z = by_test r.ok (λ o. R.holds o) (λ o. absurd (omega (arith, not-read o, some-fault o, z)))
+  module _ {a : Bool} (e : a ≡ all stored_name (tabulate (stretch t name_at name_len) r.categories)) where
+    named-no : a ≡ false → named y ≡ false
+    unfolding named
+    named-no z = rw (sym e ∙ z)
 
-  module _ (o : r.ok ≡ true) where
-    abbrev H : TreeHeld t name_at name_len category parent at len signal number r
-    H = R.holds o
+    pub name-unformed : a ≡ false → 7 ≡ tree_refusal t
+    unfolding tree_judged
+    name-unformed z = sym (judged-tree ∙ rw (named-no z))
 
-    abbrev y : Tree
-    y = tree_held t name_at name_len category parent at len H.signals r
-
-    judged-tree : tree_refusal t ≡ tree_judged y
-    judged-tree = tree-refusal t y H.next H.short H.whole
-
-    module _ {a : Bool} (e : a ≡ all stored_name (tabulate (stretch t name_at name_len) r.categories)) where
-      named-no : a ≡ false → named y ≡ false
+    module _ (p : a ≡ true) {b : Bool} (f : b ≡ all stored_name (tabulate (stretch t at len) r.nodes)) where
+      named-so : named y ≡ b
       unfolding named
-      named-no z = rw (sym e ∙ z)
+      named-so = ap₂ ◌&&◌ (sym e ∙ p) (all_alike (λ n. stored_name n.last) stored_name (node_from t category parent at len)
+          (stretch t at len) r.nodes (λ i h. refl) ∙ sym f)
 
-      pub name-unformed : a ≡ false → 7 ≡ tree_refusal t
+      pub last-unformed : b ≡ false → 7 ≡ tree_refusal t
       unfolding tree_judged
-      name-unformed z = sym (judged-tree ∙ rw (named-no z))
+      last-unformed z = sym (judged-tree ∙ rw (named-so ∙ z))
 
-      module _ (p : a ≡ true) {b : Bool} (f : b ≡ all stored_name (tabulate (stretch t at len) r.nodes)) where
-        named-so : named y ≡ b
-        unfolding named
-        named-so = ap₂ ◌&&◌ (sym e ∙ p) (all_alike (λ n. stored_name n.last) stored_name (node_from t category parent at len)
-            (stretch t at len) r.nodes (λ i h. refl) ∙ sym f)
+      module _ (q : b ≡ true) {c : Bool} (g : Judges t category parent at len number r.categories r.nodes r.numbers c) where
+        grown-so : grown y ≡ c
+        grown-so =
+            sym (g y.names H.signals (tabulate-length (stretch t name_at name_len) r.categories) H.few-nodes H.held.few-numbers
+            (numbers-are t name_at name_len category parent at len signal number r H))
 
-        pub last-unformed : b ≡ false → 7 ≡ tree_refusal t
+        pub not-grown : c ≡ false → 21 ≡ tree_refusal t
         unfolding tree_judged
-        last-unformed z = sym (judged-tree ∙ rw (named-so ∙ z))
+        not-grown z = sym (judged-tree ∙ rw (named-so ∙ q, grown-so ∙ z))
 
-        module _ (q : b ≡ true) {c : Bool} (g : Judges t category parent at len number r.categories r.nodes r.numbers c) where
-          grown-so : grown y ≡ c
-          grown-so =
-              sym (g y.names H.signals (tabulate-length (stretch t name_at name_len) r.categories) H.few-nodes H.held.few-numbers
-              (numbers-are t name_at name_len category parent at len signal number r H))
-
-          pub not-grown : c ≡ false → 21 ≡ tree_refusal t
-          unfolding tree_judged
-          not-grown z = sym (judged-tree ∙ rw (named-so ∙ q, grown-so ∙ z))
-
-          pub grown-as : c ≡ true → GrownAs t name_at name_len category parent at len signal number r
-          grown-as z = record { read = H; names = named-so ∙ q; grows = grown-so ∙ z }
+        pub grown-as : c ≡ true → GrownAs t name_at name_len category parent at len signal number r
+        grown-as z = record { read = H; names = named-so ∙ q; grows = grown-so ∙ z }

@@ -1,29 +1,20 @@
 -- Laws of the values that each node has from its parent, one node further.
 use Prim.Native.Nat.{ℕ, suc, zero, ◌+◌, ◌*◌, ◌-◌, ◌≤◌, ◌<◌}
 use mathlib.Core.Path.{◌≡◌, refl, ap, ap₂, sym, ◌∙◌, subst}
-use mathlib.Core.Bool.{true, false, cond}
+use mathlib.Core.Bool.{cond}
 use mathlib.Core.List.{List}
 use native.Mathlib.Omega.{arith}
 use native.Mathlib.Decide.{ℕ_discrete}
 use lib.ListN.{length, get_or, set, drop, length-take, length-drop}
 use lib.Seq.{get_or-set_same, get_or-set_other}
-use lib.Dec.{eqb, leb}
-use borrow.Author.Tests.{eq-eqb, ne_eqb, eqb-false, le-leb, lt-leb}
+use lib.Dec.{eqb}
+use borrow.Author.Tests.{eqb-false}
 use Rattle.base_lists.specs.Cuts.{stretch}
-use Rattle.base_lists.proofs.Tests.{all-next, all-fails}
-use Rattle.base_lists.specs.Lists.{tabulate}
 use Rattle.base_lists.proofs.Bools.{by_test}
-use Rattle.base_lists.specs.Tests.{all}
 use Rattle.tree_decode.specs.Stages.{Parented, FromParent, UrnCategories}
 
 pub stretch-le : (t at len : List ℕ) (i : ℕ) → length (stretch t at len i) ≤ length t
 stretch-le t at len i = omega (arith, length-take (get_or len i 0) (drop (get_or at i 0) t), length-drop (get_or at i 0) t)
-
-pub above_zero : (p first : ℕ) (out : List ℕ) → p ≡ 0 → first ≡ cond (eqb p 0) first (get_or out (p - 1) 0)
-above_zero p first out e = sym (rw (eq-eqb p 0 e))
-
-pub above-node : (p first : ℕ) (out : List ℕ) → (p ≡ 0 → ⊥) → get_or out (p - 1) 0 ≡ cond (eqb p 0) first (get_or out (p - 1) 0)
-above-node p first out n = sym (rw (ne_eqb p 0 n))
 
 -- no value is too large
 abbrev pub Bounded : List ℕ → ℕ → Type 0
@@ -80,14 +71,3 @@ categories-more number category out i {k} e h r j l = go (ℕ_discrete j i)
     go (yes q) = ap (λ z. get_or (set out i (get_or category (k - 1) 0)) z 0) q ∙ get_or-set_same out i (get_or category (k - 1) 0) 0 h
         ∙ ap (λ z. get_or category (z - 1) 0) e ∙ ap (λ z. get_or category (get_or number z 0 - 1) 0) (sym q)
     go (no q) = get_or-set_other out i j (get_or category (k - 1) 0) 0 q ∙ r j (omega arith)
-
--- a number whose node has at most so much, or not
-module _ (number out : List ℕ) (most i : ℕ) {k : ℕ} (e : k ≡ get_or number i 0) where
-  pub most-next : all (λ k. leb (get_or out (k - 1) 0) most) (tabulate (λ j. get_or number j 0) i) ≡ true → get_or out (k - 1) 0 ≤ most
-      → all (λ k. leb (get_or out (k - 1) 0) most) (tabulate (λ j. get_or number j 0) (i + 1)) ≡ true
-  most-next v h = all-next (λ k. leb (get_or out (k - 1) 0) most) (λ j. get_or number j 0) i v refl
-      (ap (λ z. leb (get_or out (z - 1) 0) most) (sym e) ∙ le-leb (get_or out (k - 1) 0) most h)
-
-  pub most-fails : (m : ℕ) → i < m → most < get_or out (k - 1) 0 → false ≡ all (λ k. leb (get_or out (k - 1) 0) most) (tabulate (λ j. get_or number j 0) m)
-  most-fails m l h = all-fails (λ k. leb (get_or out (k - 1) 0) most) (λ j. get_or number j 0) i m l refl
-      (ap (λ z. leb (get_or out (z - 1) 0) most) (sym e) ∙ lt-leb (get_or out (k - 1) 0) most h)

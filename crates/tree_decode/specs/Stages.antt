@@ -1,6 +1,8 @@
 -- What is known of a tree and its arrays after each refusal.
-use Rattle.std.specs.Prelude.{ℕ, suc, ◌+◌, ◌-◌, ◌≤◌, ◌<◌, ◌≡◌, true, cond, List, length, get_or, eqb}
+use Rattle.std.specs.Prelude.{ℕ, suc, ◌+◌, ◌-◌, ◌≤◌, ◌<◌, ◌≡◌, true, cond, Result, Ok, Err, List, length, get_or, eqb}
 use Rattle.base_numbers.specs.Numbers.{most_categories, most_nodes}
+use Rattle.base_numbers.specs.Refusals.{refusal_number}
+use Rattle.base_numbers.specs.declared.refusal.Refusal.{Refusal}
 use Rattle.base_lists.specs.Cuts.{stretch}
 use Rattle.tree_sections.specs.Held.{tree_held, TreeHeld}
 use Rattle.tree_sections.specs.declared.Counts.{Counts}
@@ -58,7 +60,12 @@ pub record Holds (t : List ℕ) (r : Decoded) : Type 0 where
   pub read : TreeHeld t r.sections.name_at r.sections.name_len r.sections.category r.sections.parent r.sections.at r.sections.len r.sections.signal r.sections.number r.sections.counts
   pub measured : Measured t r.sections.name_at r.sections.name_len r.sections.category r.sections.parent r.sections.at r.sections.len r.sections.counts.nodes r.size r.depth
 
+-- a tree that is not refused
+pub record DecodedAs (t : List ℕ) (r : Decoded) : Type 0 where
+  pub refusal : tree_refusal t ≡ 0
+  pub holds : Holds t r
+
 -- what `decode` answers
-pub record Means (t : List ℕ) (r : Decoded) : Type 0 where
-  pub refusal : r.refusal ≡ tree_refusal t
-  pub holds : tree_refusal t ≡ 0 → Holds t r
+abbrev pub Means : List ℕ → Result Decoded Refusal → Type 0
+Means t (Ok r) = DecodedAs t r
+Means t (Err k) = refusal_number k ≡ tree_refusal t

@@ -2,18 +2,21 @@
 use Prim.Native.Nat.{ℕ, ◌≤◌, ◌<◌}
 use mathlib.Core.Path.{◌≡◌, refl, ap, ap₂, sym, ◌∙◌, subst}
 use mathlib.Core.Logic.{inl, inr, ◌≢◌}
-use mathlib.Core.Bool.{Bool, true, false}
+use mathlib.Core.Bool.{Bool, true}
 use mathlib.Core.List.{List, [], ◌∷◌, ◌++◌, map, foldl, append_assoc}
 use native.Mathlib.Omega.{arith}
 use native.Mathlib.Nat.{zero-add}
 use lib.ListN.{length, get_or, replicate, length-map}
 use lib.Dec.{leb}
-use borrow.Author.Tests.{ne_eqb, leb-true, leb-false}
-use Rattle.base_numbers.specs.Numbers.{most_nodes, most_table_bytes}
+use borrow.Author.Tests.{ne_eqb, leb-true}
+use Rattle.std.specs.Prelude.{Result, Ok, Err, Option, Some, None}
+use Rattle.std.specs.Result.{is_ok}
+use Rattle.base_numbers.specs.Refusals.{refusal_number}
+use Rattle.base_numbers.specs.declared.refusal.Refusal.{Refusal}
+use Rattle.base_numbers.specs.Numbers.{most_table_bytes}
 use Rattle.base_lists.specs.Cuts.{stretch}
 use Rattle.base_lists.proofs.Over.{laid_nil}
 use Rattle.base_lists.proofs.Tests.{all-joined}
-use Rattle.base_lists.proofs.Bools.{by_test}
 use Rattle.base_lists.specs.Tests.{all}
 use Rattle.base_lists.proofs.Tabulated.{tabulate-same, map-tab, tab-list}
 use Rattle.base_lists.proofs.Lists.{mem-at}
@@ -32,7 +35,7 @@ use Rattle.table_nodes.specs.Nodes.{node_urn, Numbered, AllAdded}
 use Rattle.table_places.proofs.Flat.{what_of, on_what, tagged-what, tagged-map, nodes-joined}
 use Rattle.table_names.specs.Categories.{is_listed, Indexed}
 use Rattle.table_decode.specs.Tables.{to_urn, table_in, judged, table_refusal, names_read, category_names, table_of}
-use Rattle.table_decode.specs.Decoded.{Means}
+use Rattle.table_decode.specs.Decoded.{DecodedAs}
 use Rattle.node_search.specs.declared.decoded.Decoded.{Decoded}
 use Rattle.table_decode.proofs.Judging.{refusal-fault, refusal-read, table-read, table-said}
 use Rattle.table_decode.proofs.Accepting.{Passed, judged-zero, refusal-zero, three, accepted}
@@ -54,18 +57,14 @@ names-said : (t : List ℕ) (s : Stored) (p : ℕ) → stored t ≡ got s p → 
 unfolding category_names names_read
 names-said t s p e = ap names_read e
 
--- a well-formed table, read again
-module _ (t name_at name_len at len signal : List ℕ) (l : Counts) (R : Reads t name_at name_len at len signal l) (z : table_refusal t ≡ 0) where
-  read-well : l.ok ≡ true
-  read-well = go l.ok refl
-    where
-      go : (b : Bool) → l.ok ≡ b → l.ok ≡ true
-      go true e = e
-      go false e = let f = R.faulty e in absurd (fault-some-number t l.fault f (sym (refusal-fault t l.fault f) ∙ z))
+-- a well-formed table is read
+pub read-well : (t name_at name_len at len signal : List ℕ) (r : Result Counts Refusal) → Reads t name_at name_len at len signal r → table_refusal t ≡ 0
+    → is_ok r ≡ true
+read-well t name_at name_len at len signal (Ok l) R z = refl
+read-well t name_at name_len at len signal (Err k) R z = absurd (fault-some-number t (refusal_number k) R (sym (refusal-fault t (refusal_number k) R) ∙ z))
 
-  pub held : ReadAs t name_at name_len at len signal l
-  held = R.holds read-well
-
+-- and read again
+module _ (t name_at name_len at len signal : List ℕ) (l : Counts) (held : ReadAs t name_at name_len at len signal l) (z : table_refusal t ≡ 0) where
   abbrev ns : List Name
   ns = tabulate (stretch t name_at name_len) l.categories
 
@@ -96,8 +95,7 @@ module _ (t name_at name_len at len signal : List ℕ) (l : Counts) (R : Reads t
       ∙ sym (tagged-map (to_urn ns) 0 held.signals)
       ∙ ap (λ (T : Table). tagged_from 0 T.signals) (sym table)
 
-  module _ {category path_at path_len : List ℕ} (X : Indexed t ns at len l.urns category path_at path_len) {number₁ cats parents at₁ len₁ : List ℕ} {n : ℕ}
-      (A : AllAdded t (node_urn t category path_at path_len) l.urns number₁ cats parents at₁ len₁ n) where
+  module _ {category path_at path_len : List ℕ} (X : Indexed t ns at len l.urns category path_at path_len) where
     urn-is : (i : ℕ) → i < l.urns → node_urn t category path_at path_len i ≡ to_urn ns (stretch t at len i)
     urn-is i h = ap₂ urn (X.cat-at i h) (ap (fields 58) (X.path-at i h))
 
@@ -109,14 +107,6 @@ module _ (t name_at name_len at len signal : List ℕ) (l : Counts) (R : Reads t
         ∙ tagged-what 0 (table_of t).signals)
         ∙ sym (nodes-joined (table_of t))
 
-    few : n ≤ most_nodes
-    few = by_test (leb n most_nodes) (leb-true n most_nodes) (λ b. absurd (omega (
-      arith,
-      A.over (leb-false n most_nodes b),
-      ap length nodes-are,
-      (accepted t z).few-nodes,
-    )))
-
     number-as : (c : ℕ) (p : Parts) (k : ℕ) → Numbered (nodes (table_of t)) c p k → k ≡ number (nodes (table_of t)) c p
     number-as c p k (inl w) = w.0 ∙ sym (ap (number (nodes (table_of t)) c) w.1 ∙ root-number (table_of t) c)
     number-as c p k (inr w) = w.1 ∙ sym (number-at (table_of t) w.0 w.2) ∙ ap (λ (u : Urn). number (nodes (table_of t)) u.cat u.path) w.3
@@ -124,16 +114,18 @@ module _ (t name_at name_len at len signal : List ℕ) (l : Counts) (R : Reads t
     abbrev g : Urn → ℕ
     g = number_in (nodes (table_of t))
 
-    number_is : (i : ℕ) → i < l.urns → get_or number₁ i 0 ≡ g (to_urn ns (stretch t at len i))
-    number_is i h =
-        number-as (get_or category i 0) (fields 58 (stretch t path_at path_len i)) (get_or number₁ i 0)
-        (subst (λ (us : List Urn). Numbered us (get_or category i 0) (fields 58 (stretch t path_at path_len i)) (get_or number₁ i 0)) nodes-are (A.numbered few i h))
-        ∙ ap g (urn-is i h)
-
-    pub numbers-stored : tabulate (number_at signal number₁) l.urns ≡ tagged_from 0 (map (map (number_in (nodes (table_of t)))) (table_of t).signals)
-    numbers-stored =
+    pub numbers-stored : (number₁ cats parents at₁ len₁ : List ℕ) (o : Option ℕ) → AllAdded t (node_urn t category path_at path_len) l.urns number₁ cats parents at₁ len₁ o
+        → tabulate (number_at signal number₁) l.urns ≡ tagged_from 0 (map (map (number_in (nodes (table_of t)))) (table_of t).signals)
+    numbers-stored number₁ cats parents at₁ len₁ None A = absurd (omega (arith, A, ap length nodes-are, (accepted t z).few-nodes))
+    numbers-stored number₁ cats parents at₁ len₁ (Some n) A =
         tabulate-same (number_at signal number₁) (λ i. on_what g (tagged i)) l.urns (λ i h. ap (tag (get_or signal i 0)) (number_is i h))
         ∙ sym (map-tab (on_what g) tagged l.urns) ∙ ap (map (on_what g)) tagged-are ∙ sym (tagged-map g 0 (table_of t).signals)
+      where
+        number_is : (i : ℕ) → i < l.urns → get_or number₁ i 0 ≡ g (to_urn ns (stretch t at len i))
+        number_is i h =
+            number-as (get_or category i 0) (fields 58 (stretch t path_at path_len i)) (get_or number₁ i 0)
+            (subst (λ (us : List Urn). Numbered us (get_or category i 0) (fields 58 (stretch t path_at path_len i)) (get_or number₁ i 0)) nodes-are (A.numbered i h))
+            ∙ ap g (urn-is i h)
 
 -- a path with a part is its front and its last name
 pub snoc-again : (p : Parts) → p ≢ [] → p ≡ front p ++ last_name p ∷ []
@@ -248,13 +240,12 @@ module _ (room : ℕ) {k : ℕ} {r : Answer} {v : List ℕ} (n : k ≡ 0 → ⊥
       (e ∙ ap answer w, f ∙ ap (λ c. c.buffer) w)
 
 -- what decoding answers of a well-formed table
-pub stored-as : (t : List ℕ) (d : Decoded) → Means t d → d.refusal ≡ 0
+pub stored-as : (t : List ℕ) (d : Decoded) → DecodedAs t d
     → StoredAs t d.name_at d.name_len d.category d.parent d.at d.len d.categories d.nodes d.signals
-stored-as t d M e =
-    let z : table_refusal t ≡ 0 = sym M.refusal ∙ e in
-    let H = M.holds z in
+stored-as t d M =
+    let H = M.holds in
     record {
-      right = z;
+      right = M.refusal;
       names = H.names;
       nodes-in = H.nodes;
       all-signals = H.numbers.all-signals;

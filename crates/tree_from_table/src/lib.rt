@@ -23,6 +23,7 @@ ghost use Rattle.tree_from_table.specs.Stored.{StoredAs};
 
 use base_bytes::Built;
 use base_numbers::{MOST_CATEGORIES, MOST_NODES, MOST_TABLE_URNS};
+use node_search::decoded::Decoded;
 
 // The node numbers of a table's URNs in the order in which they are stored, each with its signal: how many there are.
 fn stored_numbers(
@@ -30,16 +31,17 @@ fn stored_numbers(
     number: &mut [u8; MOST_TABLE_URNS],
     signal: &mut [u8; MOST_TABLE_URNS],
 ) -> usize
-    requires { (table_refusal t.now ≡ 0) × (length number.old ≡ most_table_urns) × (length signal.old ≡ most_table_urns) }
+    requires { table_refusal t.now ≡ 0 }
     ensures result_after { tabulate (number_at signal.new number.new) result ≡ tagged_from 0 (map (map (number_in (nodes_of (table_of t.now)))) (table_of t.now).signals) }
     ensures upper_bound { result ≤ most_table_urns }
 {
-    let mut name_at = [0u16; MOST_CATEGORIES];
-    let mut name_len = [0u8; MOST_CATEGORIES];
-    let mut at = [0u16; MOST_TABLE_URNS];
-    let mut len = [0u8; MOST_TABLE_URNS];
-    let l = table_sections::read(t, &mut name_at, &mut name_len, &mut at, &mut len, signal);
-    let mut category = [0u8; MOST_TABLE_URNS];
+    let mut name_at = [0; MOST_CATEGORIES];
+    let mut name_len = [0; MOST_CATEGORIES];
+    let mut at = [0; MOST_TABLE_URNS];
+    let mut len = [0; MOST_TABLE_URNS];
+    let read = table_sections::read(t, &mut name_at, &mut name_len, &mut at, &mut len, signal);
+    let l = read.unwrap();
+    let mut category = [0; MOST_TABLE_URNS];
     table_names::index_urns(
         t,
         l.categories,
@@ -50,10 +52,10 @@ fn stored_numbers(
         &mut len,
         &mut category,
     );
-    let mut cats = [0u8; MOST_NODES];
-    let mut parents = [0u8; MOST_NODES];
-    let mut node_at = [0u16; MOST_NODES];
-    let mut node_len = [0u8; MOST_NODES];
+    let mut cats = [0; MOST_NODES];
+    let mut parents = [0; MOST_NODES];
+    let mut node_at = [0; MOST_NODES];
+    let mut node_len = [0; MOST_NODES];
     table_nodes::add_all(
         t,
         l.urns,
@@ -69,32 +71,21 @@ fn stored_numbers(
     l.urns
 }
 
-// The tree form of a well-formed table whose arrays these are, or 22.
-fn form<'a>(
-    t: &[u8],
-    categories: usize,
-    nodes: usize,
-    signals: usize,
-    name_at: &'a [u16; MOST_CATEGORIES],
-    name_len: &'a [u8; MOST_CATEGORIES],
-    category: &'a [u8; MOST_NODES],
-    parent: &'a [u8; MOST_NODES],
-    at: &'a [u16; MOST_NODES],
-    len: &'a [u8; MOST_NODES],
-    buf: &mut [u8],
-) -> Built
-    requires { StoredAs t.now name_at.now name_len.now category.now parent.now at.now len.now categories nodes signals }
+// The tree form of a well-formed table, or 22.
+fn form(t: &[u8], d: &Decoded, buf: &mut [u8]) -> Built
+    requires { StoredAs t.now d.now.name_at d.now.name_len d.now.category d.now.parent d.now.at d.now.len d.now.categories d.now.nodes d.now.signals }
     ensures value { result ≡ answer (to_tree t.now (length buf.old)) }
     ensures buf_after { buf.new ≡ (to_tree t.now (length buf.old)).buffer }
 {
-    let mut number = [0u8; MOST_TABLE_URNS];
-    let mut signal = [0u8; MOST_TABLE_URNS];
+    let mut number = [0; MOST_TABLE_URNS];
+    let mut signal = [0; MOST_TABLE_URNS];
     let m = stored_numbers(t, &mut number, &mut signal);
-    let p = tree_bytes::sections::names(t, categories, name_at, name_len, buf);
-    let q = nodes::put_nodes(t, nodes, category, parent, at, len, buf, p);
-    let e = signals::put_signals(signals, m, &signal, &number, buf, q);
-    let room = buf.len();
-    tree_bytes::finish(buf, e, e <= room)
+    let mut w = tree_bytes::sections::names(t, d.categories, &d.name_at, &d.name_len, buf);
+    nodes::put_nodes(t, d, &mut w);
+    signals::put_signals(d.signals, m, &signal, &number, &mut w);
+    let e = w.at;
+    let fits = e <= w.buf.len();
+    tree_bytes::finish(w.buf, e, fits)
 }
 
 // The tree form of a table, with zeros after it; or all zeros and the number of the refusal.
@@ -102,22 +93,8 @@ pub fn write(t: &[u8], buf: &mut [u8]) -> Built
     ensures value { result ≡ answer (to_tree t.now (length buf.old)) }
     ensures buf_after { buf.new ≡ (to_tree t.now (length buf.old)).buffer }
 {
-    let d = table_decode::decode(t);
-    let refused = d.refusal;
-    if refused != 0 {
-        return base_bytes::refuse(buf, refused);
+    match table_decode::decode(t) {
+        Ok(d) => form(t, &d, buf),
+        Err(k) => base_bytes::refuse(buf, u8::from(k)),
     }
-    form(
-        t,
-        d.categories,
-        d.nodes,
-        d.signals,
-        &d.name_at,
-        &d.name_len,
-        &d.category,
-        &d.parent,
-        &d.at,
-        &d.len,
-        buf,
-    )
 }

@@ -1,5 +1,5 @@
 // The section of the nodes, written: each with its category, its parent and the last name of its path.
-ghost use Rattle.std.specs.Prelude.{◌≡◌, ◌+◌, ◌≤◌, ◌*◌, length, take, drop};
+ghost use Rattle.std.specs.Prelude.{◌≡◌, ◌+◌, ◌≤◌, ◌<◌, ◌*◌, length, drop};
 ghost use Rattle.base_numbers.specs.Numbers.{most_nodes};
 ghost use Rattle.base_lists.specs.Lists.{tabulate};
 ghost use Rattle.base_text.specs.Text.{fields};
@@ -9,67 +9,45 @@ ghost use Rattle.tree_bytes.specs.Laid.{Puts, farthest};
 ghost use Rattle.tree_from_table.specs.Stored.{stored_node, most_node};
 
 use base_bytes::numbers::small;
-use base_numbers::MOST_NODES;
 use base_text::cut::text_in;
-use tree_bytes::put::{byte, text};
+use node_search::decoded::Decoded;
+use tree_bytes::put::Writer;
 
 // Where the last name of a path begins: after its last colon.
 fn last_start(w: &[u8]) -> usize
     ensures { (result ≤ length w.now) × (drop result w.now ≡ last_name (fields 58 w.now)) }
 {
-    let mut i = w.len();
-    while 0 < i {
-        if w[i - 1] == b':' {
-            return i;
+    for i in (0..w.len()).rev() {
+        if w[i] == b':' {
+            return i + 1;
         }
-        i -= 1;
     }
-    i
+    0
 }
 
-// One node: its category, its parent and the last name of its path.
-fn put_node(
-    t: &[u8],
-    category: u8,
-    parent: u8,
-    at: u16,
-    len: u8,
-    buf: &mut [u8],
-    from: usize,
-) -> usize
-    requires { from + most_node ≤ farthest }
-    ensures puts { Puts buf.old buf.new from (node_bytes (record { category = category; parent = parent; last = last_name (fields 58 (take len (drop at t.now))) })) result }
-    ensures upper_bound { result ≤ from + most_node }
+// The node at index i: its category, its parent and the last name of its path.
+fn put_node(t: &[u8], d: &Decoded, i: usize, w: &mut Writer)
+    requires { (i < most_nodes) × (w.old.at + most_node ≤ farthest) }
+    ensures same_reference { w.new.buf.ghost_name ≡ w.old.buf.ghost_name }
+    ensures puts { Puts w.old.buf.now w.new.buf.now w.old.at (node_bytes (stored_node t.now d.now.category d.now.parent d.now.at d.now.len i)) w.new.at }
+    ensures upper_bound { w.new.at ≤ w.old.at + most_node }
 {
-    let p = byte(buf, from, category);
-    let q = byte(buf, p, parent);
-    let w = text_in(t, at, len);
-    let a = last_start(w);
-    let e = w.len();
-    text(buf, q, &w[a..e])
+    w.byte(d.category[i]);
+    w.byte(d.parent[i]);
+    let path = text_in(t, d.at[i], d.len[i]);
+    w.text(&path[last_start(path)..]);
 }
 
-// The section of n nodes.
-pub(crate) fn put_nodes(
-    t: &[u8],
-    n: usize,
-    category: &[u8; MOST_NODES],
-    parent: &[u8; MOST_NODES],
-    at: &[u16; MOST_NODES],
-    len: &[u8; MOST_NODES],
-    buf: &mut [u8],
-    from: usize,
-) -> usize
-    requires { (n ≤ most_nodes) × (from ≤ 4000) }
-    ensures puts { Puts buf.old buf.new from
-        (section node_bytes (tabulate (stored_node t.now category.now parent.now at.now len.now) n)) result }
-    ensures upper_bound { result ≤ from + 1 + most_nodes * most_node }
+// The section of the nodes.
+pub(crate) fn put_nodes(t: &[u8], d: &Decoded, w: &mut Writer)
+    requires { (d.now.nodes ≤ most_nodes) × (w.old.at ≤ 4000) }
+    ensures same_reference { w.new.buf.ghost_name ≡ w.old.buf.ghost_name }
+    ensures puts { Puts w.old.buf.now w.new.buf.now w.old.at
+        (section node_bytes (tabulate (stored_node t.now d.now.category d.now.parent d.now.at d.now.len) d.now.nodes)) w.new.at }
+    ensures upper_bound { w.new.at ≤ w.old.at + 1 + most_nodes * most_node }
 {
-    let mut p = byte(buf, from, small(n));
-    let mut i = 0;
-    while i < n {
-        p = put_node(t, category[i], parent[i], at[i], len[i], buf, p);
-        i += 1;
+    w.byte(small(d.nodes));
+    for i in 0..d.nodes {
+        put_node(t, d, i, w);
     }
-    p
 }

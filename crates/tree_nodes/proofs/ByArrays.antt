@@ -4,11 +4,12 @@ use mathlib.Core.Path.{◌≡◌, refl, ap, ap₂, sym, ◌∙◌}
 use mathlib.Core.Bool.{Bool, true, false, cond, ◌&&◌, ◌||◌, and-eq-true_iff, and-true}
 use mathlib.Core.Option.{none}
 use mathlib.Core.List.Memᴰ
-use mathlib.Core.List.{List, [], ◌∷◌, foldl}
+use mathlib.Core.List.{List, [], ◌∷◌}
+use Rattle.std.specs.Prelude.{Some, None}
 use native.Mathlib.Omega.{arith}
 use lib.ListN.{length, get_or}
 use lib.Dec.{eqb, leb, ltb}
-use borrow.Author.Tests.{ne_eqb, le-leb, lt-leb, leb-true, leb-false}
+use borrow.Author.Tests.{le-leb, lt-leb, leb-true, leb-false}
 use Rattle.base_numbers.specs.Numbers.{most_nodes, most_table_urns}
 use Rattle.base_lists.specs.Cuts.{stretch}
 use Rattle.base_lists.proofs.Tests.{all-mem, all-joined, all_alike, all_join}
@@ -23,7 +24,7 @@ use Rattle.tree_sections.specs.Tree.{Node, node_of, Tree}
 use Rattle.tree_forms.specs.Refusals.{numbered, parented, all_parented, grown}
 use Rattle.tree_nodes.specs.Scan.{same_node, linked, reached, is_count, scanned}
 use Rattle.tree_sections.specs.Held.{node_from}
-use Rattle.tree_nodes.specs.Tests.{under_at, linked_by, step_by, grown_by, lasts_formed, grown_in, Judges}
+use Rattle.tree_nodes.specs.Tests.{under_at, linked_by, step_by, after, scan_by, so_many, grown_by, lasts_formed, grown_in, Judges}
 use Rattle.tree_forms.proofs.Writing.{Every}
 use Rattle.tree_forms.proofs.Growing.{suc-zero}
 use Rattle.tree_nodes.proofs.Scanning.{grown-scanned}
@@ -77,23 +78,15 @@ module _ (t category parent at len : List ℕ) (n : ℕ) where
       ∙ all_alike (λ i. eqb (get_or parent (m + 1 + i) 0) (m + 1 + i)) (λ i. eqb (get_or parent i 0) i) (λ i. i) (λ j. m + 1 + j) (k - suc m) (λ i j. refl)
       ∙ ap (λ z. all (λ i. eqb (get_or parent i 0) i) (tabulate (λ j. m + 1 + j) z)) (sym d)
 
-  -- past the order there is no way back
-  stuck : (ks : List ℕ) → Every (λ k. k ≤ most_nodes) ks → foldl (step_by parent) (suc most_nodes) ks ≡ (suc most_nodes)
-  unfolding step_by
-  stuck [] b = refl
-  stuck (k ∷ ks) b =
-      let h : k ≤ (suc most_nodes) = omega (arith, b k (Memᴰ.head refl)) in
-      rw (le-leb k (suc most_nodes) h) (stuck ks (λ y m. b y (Memᴰ.tail m)))
-
-  scan-are : n ≤ most_nodes → (ks : List ℕ) (m : ℕ) → Every (λ k. k ≤ n) ks → m ≤ n → eqb (foldl (step_by parent) m ks) n ≡ is_count n (reached ns m ks)
-  unfolding step_by reached
-  scan-are h [] m b l = refl
-  scan-are h (k ∷ ks) m b l =
-      go (leb k m) refl (linked_by parent m k) refl (λ z i. scan-are h ks z (λ y m. b y (Memᴰ.tail m)) i)
+  scan-are : (ks : List ℕ) (m : ℕ) → Every (λ k. k ≤ n) ks → m ≤ n → so_many n (scan_by parent m ks) ≡ is_count n (reached ns m ks)
+  unfolding step_by scan_by reached
+  scan-are [] m b l = refl
+  scan-are (k ∷ ks) m b l =
+      go (leb k m) refl (linked_by parent m k) refl (λ z i. scan-are ks z (λ y m. b y (Memᴰ.tail m)) i)
     where
       go : (a : Bool) → leb k m ≡ a → (c : Bool) → linked_by parent m k ≡ c
-          → ((z : ℕ) → z ≤ n → eqb (foldl (step_by parent) z ks) n ≡ is_count n (reached ns z ks))
-          → eqb (foldl (step_by parent) (cond (leb k m) m (cond (linked_by parent m k) k (suc most_nodes))) ks) n
+          → ((z : ℕ) → z ≤ n → so_many n (scan_by parent z ks) ≡ is_count n (reached ns z ks))
+          → so_many n (after (λ r. scan_by parent r ks) (cond (leb k m) (Some m) (cond (linked_by parent m k) (Some k) None)))
           ≡ is_count n (cond (leb k m) (reached ns m ks) (cond (linked ns m k) (reached ns k ks) none))
       go true p c q ih = rw p (ih m l)
       go false p true q ih =
@@ -102,7 +95,6 @@ module _ (t category parent at len : List ℕ) (n : ℕ) where
       go false p false q ih =
           let i = b k (Memᴰ.head refl) in
           rw (p, q, linked-are m k (leb-false k m p) i ∙ q)
-          (ap (λ z. eqb z n) (stuck ks (λ y m. omega (arith, b y (Memᴰ.tail m)))) ∙ ne_eqb (suc most_nodes) n (λ z. omega arith))
 
 -- tests in a row, the last one known only where the second passes
 in_row : (a b c d e : Bool) → (b ≡ true → d ≡ e) → (a && b) && (c && d) ≡ a && (b && (c && e))
@@ -130,12 +122,12 @@ module _ (t category parent at len number : List ℕ) (categories nodes numbers 
       (ap (λ n. all (all (within 1 n)) ss) count ∙ all-joined (within 1 nodes) ss ∙ ap (all (within 1 nodes)) (sym these))
 
   scanned-is : all (within 1 nodes) (tabulate (λ i. get_or number i 0) numbers) ≡ true
-      → scanned x ≡ (no_two same_node (tabulate fs nodes) && eqb (foldl (step_by parent) 0 (tabulate (λ i. get_or number i 0) numbers)) nodes)
+      → scanned x ≡ (no_two same_node (tabulate fs nodes) && so_many nodes (scan_by parent 0 (tabulate (λ i. get_or number i 0) numbers)))
   unfolding scanned
   scanned-is e =
       ap (λ b. no_two same_node (tabulate fs nodes) && b)
       (ap (λ n. is_count n (reached x.nodes 0 (joined ss))) count ∙ ap (λ ks. is_count nodes (reached x.nodes 0 ks)) (sym these)
-      ∙ sym (scan-are t category parent at len nodes h (tabulate (λ i. get_or number i 0) numbers) 0
+      ∙ sym (scan-are t category parent at len nodes (tabulate (λ i. get_or number i 0) numbers) 0
       (λ k m. leb-true k nodes ((and-eq-true_iff (leb 1 k) (leb k nodes)).0
       (all-mem (within 1 nodes) (tabulate (λ i. get_or number i 0) numbers) k e m)).1) (omega arith)))
 
@@ -149,19 +141,6 @@ module _ (t category parent at len number : List ℕ) (categories nodes numbers 
 
 -- within the arrays' lengths the tests are those of the tree, and past them they fail
 module _ (t category parent at len number : List ℕ) (categories nodes numbers : ℕ) where
-  pub grown-within : {b : Bool} → nodes ≤ most_nodes → numbers ≤ most_table_urns → b ≡ grown_by t category parent at len number categories nodes numbers
-      → b ≡ grown_in t category parent at len number categories nodes numbers
-  unfolding grown_in
-  grown-within h l e = e ∙ sym (simp (le-leb nodes most_nodes h, le-leb numbers most_table_urns l))
-
-  pub over-nodes : most_nodes < nodes → false ≡ grown_in t category parent at len number categories nodes numbers
-  unfolding grown_in
-  over-nodes h = sym (simp (lt-leb nodes most_nodes h))
-
-  pub over-numbers : nodes ≤ most_nodes → most_table_urns < numbers → false ≡ grown_in t category parent at len number categories nodes numbers
-  unfolding grown_in
-  over-numbers h l = sym (simp (le-leb nodes most_nodes h, lt-leb numbers most_table_urns l))
-
   pub judges-in : {r : Bool} → r ≡ grown_in t category parent at len number categories nodes numbers
       → Judges t category parent at len number categories nodes numbers r
   unfolding grown_in
@@ -173,9 +152,9 @@ module _ (t category parent at len number : List ℕ) (categories nodes numbers 
 
 -- the same of the last names
 module _ (t at len : List ℕ) (n : ℕ) where
-  pub lasts-over : most_nodes < n → false ≡ lasts_formed t at len n
+  pub lasts-over : most_nodes < n → leb n most_nodes ≡ lasts_formed t at len n
   unfolding lasts_formed
-  lasts-over h = sym (simp (lt-leb n most_nodes h))
+  lasts-over h = lt-leb n most_nodes h ∙ sym (simp (lt-leb n most_nodes h))
 
   pub lasts-within : {b : Bool} → n ≤ most_nodes → b ≡ all stored_name (tabulate (stretch t at len) n) → b ≡ lasts_formed t at len n
   unfolding lasts_formed

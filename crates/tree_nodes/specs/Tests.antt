@@ -1,6 +1,5 @@
 -- The tests of 21, by the arrays that hold a tree.
-use Rattle.std.specs.Prelude.{ℕ, ◌+◌, ◌-◌, ◌≤◌, suc, ◌≡◌, Bool, cond, ◌&&◌, ◌||◌, length, get_or, eqb, leb, ltb}
-use mathlib.Core.List.{List, foldl}
+use Rattle.std.specs.Prelude.{ℕ, ◌+◌, ◌-◌, ◌≤◌, ◌≡◌, Bool, false, cond, ◌&&◌, ◌||◌, Option, Some, None, List, [], ◌∷◌, length, get_or, eqb, leb, ltb}
 use Rattle.base_numbers.specs.Numbers.{most_nodes, most_table_urns}
 use Rattle.base_lists.specs.Cuts.{stretch}
 use Rattle.base_lists.specs.Tests.{all, no_two}
@@ -21,9 +20,24 @@ under_at category parent i =
 unfoldable pub linked_by : List ℕ → ℕ → ℕ → Bool
 linked_by parent m k = all (λ i. eqb (get_or parent i 0) i) (tabulate (λ j. m + 1 + j) (k - m - 1))
 
--- how many nodes are used, if the first m are, and then node k; 65 if not in order
-unfoldable pub step_by : List ℕ → ℕ → ℕ → ℕ
-step_by parent m k = cond (leb k m) m (cond (linked_by parent m k) k (suc most_nodes))
+-- how many nodes are used, if the first m are, and then node k; none if not in order
+unfoldable pub step_by : List ℕ → ℕ → ℕ → Option ℕ
+step_by parent m k = cond (leb k m) (Some m) (cond (linked_by parent m k) (Some k) None)
+
+-- a step from so many, if there are so many
+abbrev pub after : (ℕ → Option ℕ) → Option ℕ → Option ℕ
+after f None = None
+after f (Some m) = f m
+
+-- how many nodes are used, if the first m are, and then those with these numbers
+unfoldable pub scan_by : List ℕ → ℕ → List ℕ → Option ℕ
+scan_by parent m [] = Some m
+scan_by parent m (k ∷ ks) = after (λ r. scan_by parent r ks) (step_by parent m k)
+
+-- it is so many
+abbrev pub so_many : ℕ → Option ℕ → Bool
+so_many n None = false
+so_many n (Some m) = eqb m n
 
 -- the tests of 21, by the arrays
 unfoldable pub grown_by : (t category parent at len number : List ℕ) → ℕ → ℕ → ℕ → Bool
@@ -32,7 +46,7 @@ grown_by t category parent at len number categories nodes numbers =
     && (all (within 1 nodes) (tabulate (λ i. get_or number i 0) numbers)
     && (all (under_at category parent) (tabulate (λ i. i) nodes)
     && (no_two same_node (tabulate (node_from t category parent at len) nodes)
-    && eqb (foldl (step_by parent) 0 (tabulate (λ i. get_or number i 0) numbers)) nodes)))
+    && so_many nodes (scan_by parent 0 (tabulate (λ i. get_or number i 0) numbers)))))
 
 -- every last name has its form, and there are at most 64
 unfoldable pub lasts_formed : (t at len : List ℕ) → ℕ → Bool

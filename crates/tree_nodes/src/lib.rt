@@ -9,6 +9,7 @@
 #![tactic(auto)]
 
 use base_numbers::{MOST_NODES, MOST_TABLE_URNS};
+use tree_sections::Sections;
 
 mod order;
 mod parents;
@@ -20,56 +21,22 @@ ghost use Rattle.base_numbers.specs.Numbers.{most_nodes, most_table_urns};
 ghost use Rattle.tree_nodes.specs.Tests.{grown_by, grown_in};
 
 // The tests of 21, in this order.
-fn grows(
-    t: &[u8],
-    categories: usize,
-    nodes: usize,
-    numbers: usize,
-    category: &[u8; MOST_NODES],
-    parent: &[u8; MOST_NODES],
-    at: &[u16; MOST_NODES],
-    len: &[u8; MOST_NODES],
-    number: &[u8; MOST_TABLE_URNS],
-) -> bool
-    requires { (nodes ≤ most_nodes) × (numbers ≤ most_table_urns) }
-    ensures { result ≡ grown_by t.now category.now parent.now at.now len.now number.now categories nodes numbers }
+#[tactic(auto, using(crate::proofs::Tests::numbers_small), unfolding(crate::specs::Tests::grown_by))]
+fn grows(t: &[u8], s: &Sections) -> bool
+    requires { (s.now.counts.nodes ≤ most_nodes) × (s.now.counts.numbers ≤ most_table_urns) }
+    ensures { result ≡ grown_by t.now s.now.category s.now.parent s.now.at s.now.len s.now.number s.now.counts.categories s.now.counts.nodes s.now.counts.numbers }
 {
-    if parents::categories_known(nodes, category, categories) {
-        if order::numbers_known(numbers, number, nodes) {
-            if parents::parents_right(nodes, category, parent) {
-                if repeats::nodes_distinct(t, nodes, category, parent, at, len) {
-                    return order::scan(parent, numbers, number) == nodes;
-                }
-                return false;
-            }
-            return false;
-        }
-        return false;
-    }
-    false
+    parents::categories_known(s)
+        && order::numbers_known(s)
+        && parents::parents_right(s)
+        && repeats::nodes_distinct(t, s)
+        && order::scan(s).is_some_and(|used| used == s.counts.nodes)
 }
 
-// Whether the tree that the arrays hold is not refused with 21; false for over 64 nodes or 256 numbers.
-pub fn grown(
-    t: &[u8],
-    categories: usize,
-    nodes: usize,
-    numbers: usize,
-    category: &[u8; MOST_NODES],
-    parent: &[u8; MOST_NODES],
-    at: &[u16; MOST_NODES],
-    len: &[u8; MOST_NODES],
-    number: &[u8; MOST_TABLE_URNS],
-) -> bool
-    ensures { result ≡ grown_in t.now category.now parent.now at.now len.now number.now categories nodes numbers }
+// Whether the tree of these sections is not refused with 21; false for over 64 nodes or 256 numbers.
+#[tactic(auto, unfolding(crate::specs::Tests::grown_in))]
+pub fn grown(t: &[u8], s: &Sections) -> bool
+    ensures { result ≡ grown_in t.now s.now.category s.now.parent s.now.at s.now.len s.now.number s.now.counts.categories s.now.counts.nodes s.now.counts.numbers }
 {
-    if MOST_NODES < nodes {
-        return false;
-    }
-    if MOST_TABLE_URNS < numbers {
-        return false;
-    }
-    grows(
-        t, categories, nodes, numbers, category, parent, at, len, number,
-    )
+    s.counts.nodes <= MOST_NODES && s.counts.numbers <= MOST_TABLE_URNS && grows(t, s)
 }

@@ -5,59 +5,31 @@ ghost use Rattle.base_lists.specs.Tests.{all};
 ghost use Rattle.base_lists.specs.Lists.{tabulate};
 ghost use Rattle.tree_nodes.specs.Tests.{under_at};
 
-use base_bytes::numbers::wide;
-use base_numbers::MOST_NODES;
+use tree_sections::Sections;
 
 // Every node's category is there.
-pub(crate) fn categories_known(n: usize, category: &[u8; MOST_NODES], c: usize) -> bool
-    requires { n ≤ most_nodes }
-    ensures { result ≡ all (λ x. ltb x c) (tabulate (λ i. get_or category.now i 0) n) }
+pub(crate) fn categories_known(s: &Sections) -> bool
+    requires { s.now.counts.nodes ≤ most_nodes }
+    ensures { result ≡ all (λ x. ltb x s.now.counts.categories) (tabulate (λ i. get_or s.now.category i 0) s.now.counts.nodes) }
 {
-    let mut i = 0;
-    while i < n {
-        let x = wide(category[i]);
-        if x < c {
-            i += 1;
-        } else {
-            return false;
-        }
-    }
-    true
+    s.category[..s.counts.nodes]
+        .iter()
+        .all(|x| usize::from(*x) < s.counts.categories)
 }
 
 // The parent of the node at index i is 0, or a node of the same category before it.
-fn parent_right(category: &[u8; MOST_NODES], parent: &[u8; MOST_NODES], i: usize) -> bool
+fn parent_right(s: &Sections, i: usize) -> bool
     requires { i < most_nodes }
-    ensures { result ≡ under_at category.now parent.now i }
+    ensures { result ≡ under_at s.now.category s.now.parent i }
 {
-    let p = wide(parent[i]);
-    if p == 0 {
-        return true;
-    }
-    if i < p {
-        return false;
-    }
-    let c = category[p - 1];
-    let d = category[i];
-    c == d
+    let p = usize::from(s.parent[i]);
+    p == 0 || p <= i && s.category[p - 1] == s.category[i]
 }
 
 // Every parent is right.
-pub(crate) fn parents_right(
-    n: usize,
-    category: &[u8; MOST_NODES],
-    parent: &[u8; MOST_NODES],
-) -> bool
-    requires { n ≤ most_nodes }
-    ensures { result ≡ all (under_at category.now parent.now) (tabulate (λ i. i) n) }
+pub(crate) fn parents_right(s: &Sections) -> bool
+    requires { s.now.counts.nodes ≤ most_nodes }
+    ensures { result ≡ all (under_at s.now.category s.now.parent) (tabulate (λ i. i) s.now.counts.nodes) }
 {
-    let mut i = 0;
-    while i < n {
-        if parent_right(category, parent, i) {
-            i += 1;
-        } else {
-            return false;
-        }
-    }
-    true
+    (0..s.counts.nodes).all(|i| parent_right(s, i))
 }

@@ -1,6 +1,8 @@
 -- How the arrays that are lent from function to function hold what was read of a tree.
-use Rattle.std.specs.Prelude.{ℕ, ◌-◌, ◌≤◌, ◌≡◌, true, false, List, length, get_or, take, drop}
+use Rattle.std.specs.Prelude.{ℕ, ◌-◌, ◌≤◌, ◌≡◌, Result, Ok, Err, List, length, get_or, take, drop}
 use Rattle.base_numbers.specs.Numbers.{most_categories, most_name_bytes, most_nodes, most_signals, most_table_bytes, most_table_urns}
+use Rattle.base_numbers.specs.Refusals.{refusal_number}
+use Rattle.base_numbers.specs.declared.refusal.Refusal.{Refusal}
 use Rattle.base_lists.specs.Cuts.{stretch}
 use Rattle.base_lists.specs.Lists.{tabulate}
 use Rattle.theory_resolution.specs.Names.{Name}
@@ -9,18 +11,17 @@ use Rattle.table_sections.specs.Held.{Tagged, tag, tagged_from}
 use Rattle.tree_sections.specs.Tree.{Node, Tree, signals_from, nodes_from, tree, tree_sections}
 use Rattle.tree_sections.specs.declared.Counts.{Counts}
 use Rattle.tree_sections.specs.declared.Sections.{Sections}
-use Rattle.tree_sections.specs.declared.nodes.NodeReading.{NodeReading}
-use Rattle.tree_sections.specs.declared.nodes.NodeReading.TheVariants.{Fault, Node as Found}
+use Rattle.tree_sections.specs.declared.nodes.Found.{Found}
 
--- a node that was read: its last name has the m bytes before p
-abbrev pub node_read : List ℕ → NodeReading → Read Node
-node_read t (Fault k) = fault k
-node_read t (Found c d m p) = got (record { category = c; parent = d; last = take m (drop (p - m) t) }) p
+-- a node that was read: its last name has the x.len bytes before x.next
+abbrev pub node_read : List ℕ → Result Found Refusal → Read Node
+node_read t (Err k) = fault (refusal_number k)
+node_read t (Ok x) = got (record { category = x.category; parent = x.parent; last = take x.len (drop (x.next - x.len) t) }) x.next
 
 -- they are at most 55, and inside the table
-abbrev pub node_inside : List ℕ → NodeReading → Type 0
-node_inside t (Fault k) = Unit {0}
-node_inside t (Found c d m p) = (m ≤ most_name_bytes) × (m ≤ p) × (p ≤ length t)
+abbrev pub node_inside : List ℕ → Result Found Refusal → Type 0
+node_inside t (Err k) = Unit {0}
+node_inside t (Ok x) = (x.len ≤ most_name_bytes) × (x.len ≤ x.next) × (x.next ≤ length t)
 
 -- the node at index i, as the arrays hold it
 abbrev pub node_from : List ℕ → List ℕ → List ℕ → List ℕ → List ℕ → ℕ → Node
@@ -29,10 +30,6 @@ node_from t category parent at len i = record { category = get_or category i 0; 
 -- the i-th number of all signals, with its signal
 abbrev pub number_at : List ℕ → List ℕ → ℕ → Tagged ℕ
 number_at signal number i = tag (get_or signal i 0) (get_or number i 0)
-
--- nothing was counted, at fault k
-abbrev pub no_counts : ℕ → Counts
-no_counts k = record { ok = false; fault = k; categories = 0; nodes = 0; signals = 0; numbers = 0 }
 
 -- the arrays hold these signals
 pub record Held (signal number : List ℕ) (r : Counts) (ss : List (List ℕ)) : Type 0 where
@@ -51,9 +48,9 @@ pub record RestHeld (t signal number : List ℕ) (categories nodes from : ℕ) (
   pub same_nodes : r.nodes ≡ nodes
 
 -- the answer of their reading
-pub record RestRead (t signal number : List ℕ) (categories nodes from : ℕ) (r : Counts) : Type 0 where
-  pub faulty : r.ok ≡ false → (names : List Name) (ns : List Node) → signals_from t names ns from ≡ fault r.fault
-  pub holds : r.ok ≡ true → RestHeld t signal number categories nodes from r
+abbrev pub RestRead : (t signal number : List ℕ) (categories nodes from : ℕ) → Result Counts Refusal → Type 0
+RestRead t signal number categories nodes from (Err k) = (names : List Name) (ns : List Node) → signals_from t names ns from ≡ fault (refusal_number k)
+RestRead t signal number categories nodes from (Ok r) = RestHeld t signal number categories nodes from r
 
 -- the nodes and signals that were read from a position on
 pub record BothHeld (t category parent at len signal number : List ℕ) (categories from : ℕ) (r : Counts) : Type 0 where
@@ -65,9 +62,9 @@ pub record BothHeld (t category parent at len signal number : List ℕ) (categor
   pub few-nodes : r.nodes ≤ most_nodes
 
 -- the answer of their reading
-pub record BothRead (t category parent at len signal number : List ℕ) (categories from : ℕ) (r : Counts) : Type 0 where
-  pub faulty : r.ok ≡ false → (names : List Name) → nodes_from t names from ≡ fault r.fault
-  pub holds : r.ok ≡ true → BothHeld t category parent at len signal number categories from r
+abbrev pub BothRead : (t category parent at len signal number : List ℕ) (categories from : ℕ) → Result Counts Refusal → Type 0
+BothRead t category parent at len signal number categories from (Err k) = (names : List Name) → nodes_from t names from ≡ fault (refusal_number k)
+BothRead t category parent at len signal number categories from (Ok r) = BothHeld t category parent at len signal number categories from r
 
 -- the tree that the arrays hold
 abbrev pub tree_held : (t name_at name_len category parent at len : List ℕ) → List (List ℕ) → Counts → Tree
@@ -85,10 +82,11 @@ pub record TreeHeld (t name_at name_len category parent at len signal number : L
   pub few-nodes : r.nodes ≤ most_nodes
 
 -- the answer of the reading
-pub record TreeRead (t name_at name_len category parent at len signal number : List ℕ) (r : Counts) : Type 0 where
-  pub faulty : r.ok ≡ false → tree_sections t ≡ fault r.fault
-  pub holds : r.ok ≡ true → TreeHeld t name_at name_len category parent at len signal number r
+abbrev pub TreeRead : (t name_at name_len category parent at len signal number : List ℕ) → Result Counts Refusal → Type 0
+TreeRead t name_at name_len category parent at len signal number (Err k) = tree_sections t ≡ fault (refusal_number k)
+TreeRead t name_at name_len category parent at len signal number (Ok r) = TreeHeld t name_at name_len category parent at len signal number r
 
 -- what `read` answers
-abbrev pub Reads : List ℕ → Sections → Type 0
-Reads t r = TreeRead t r.name_at r.name_len r.category r.parent r.at r.len r.signal r.number r.counts
+abbrev pub Reads : List ℕ → Result Sections Refusal → Type 0
+Reads t (Err k) = tree_sections t ≡ fault (refusal_number k)
+Reads t (Ok s) = TreeHeld t s.name_at s.name_len s.category s.parent s.at s.len s.signal s.number s.counts

@@ -8,7 +8,7 @@ use native.Mathlib.Numerals.{add-one}
 use native.Mathlib.Nat.{zero-add}
 use lib.ListN.{length, get_or, replicate, length-map, length-append}
 use lib.Dec.{leb}
-use borrow.Author.Tests.{ne_eqb, le-leb, lt-leb, leb-true}
+use borrow.Author.Tests.{ne_eqb, le-leb, leb-true}
 use Rattle.base_numbers.specs.Numbers.{most_nodes}
 use Rattle.base_lists.proofs.Each.{each_append}
 use Rattle.base_lists.specs.Cuts.{stretch}
@@ -61,27 +61,7 @@ no-parts : (w : ℕ → List ℕ) → each w (tabulate (λ d. d) 0) ≡ after_co
 unfolding each tabulate after_colons
 no-parts w = refl
 
--- parent, ancestor and last name, test by test
-pub parent-low : (parent : List ℕ) (k : ℕ) → k < 1 → 0 ≡ parent_of parent k
-unfolding parent_of
-parent-low parent k h = sym (rw (lt-leb 1 k h))
-
-pub parent-high : (parent : List ℕ) (k : ℕ) → 1 ≤ k → most_nodes < k → 0 ≡ parent_of parent k
-unfolding parent_of
-parent-high parent k h l = sym (rw (le-leb 1 k h, lt-leb k most_nodes l))
-
-pub parent-some : (parent : List ℕ) (k : ℕ) → 1 ≤ k → k ≤ most_nodes → get_or parent (k - 1) 0 ≡ parent_of parent k
-unfolding parent_of
-parent-some parent k h l = sym (rw (le-leb 1 k h, le-leb k most_nodes l))
-
-pub last-low : (t at len : List ℕ) (k : ℕ) → k < 1 → [] ≡ last_of t at len k
-unfolding last_of
-last-low t at len k h = sym (rw (lt-leb 1 k h))
-
-pub last-high : (t at len : List ℕ) (k : ℕ) → 1 ≤ k → most_nodes < k → [] ≡ last_of t at len k
-unfolding last_of
-last-high t at len k h l = sym (rw (le-leb 1 k h, lt-leb k most_nodes l))
-
+-- a last name, and ancestors one further
 pub last_some : (t at len : List ℕ) (k : ℕ) → 1 ≤ k → k ≤ most_nodes → stretch t at len (k - 1) ≡ last_of t at len k
 unfolding last_of
 last_some t at len k h l = sym (rw (le-leb 1 k h, le-leb k most_nodes l))

@@ -15,46 +15,28 @@ ghost use Rattle.tree_bytes.specs.Laid.{answer};
 ghost use Rattle.tree_to_table.specs.Urns.{TreeAs};
 
 use base_bytes::Built;
-use base_numbers::{MOST_CATEGORIES, MOST_NODES, MOST_TABLE_BYTES, MOST_TABLE_URNS};
-use tree_sections::Counts;
+use base_numbers::MOST_TABLE_BYTES;
+use tree_decode::Decoded;
 
 // n bytes are at most 8,192, and there is room for them.
 fn room_for(n: usize, room: usize) -> bool
     ensures { result ≡ fits_old n room }
 {
-    if n <= MOST_TABLE_BYTES {
-        return n <= room;
-    }
-    false
+    n <= MOST_TABLE_BYTES && n <= room
 }
 
-// The form of a well-formed tree whose arrays these are, or 22.
-fn form<'a>(
-    x: &[u8],
-    l: Counts,
-    name_at: &'a [u16; MOST_CATEGORIES],
-    name_len: &'a [u8; MOST_CATEGORIES],
-    category: &'a [u8; MOST_NODES],
-    parent: &'a [u8; MOST_NODES],
-    at: &'a [u16; MOST_NODES],
-    len: &'a [u8; MOST_NODES],
-    number: &'a [u8; MOST_TABLE_URNS],
-    signal: &'a [u8; MOST_TABLE_URNS],
-    size: &'a [usize; MOST_NODES],
-    depth: &'a [usize; MOST_NODES],
-    buf: &mut [u8],
-) -> Built
-    requires { TreeAs x.now name_at.now name_len.now category.now parent.now at.now len.now signal.now number.now size.now depth.now l }
+// The form of a well-formed tree, or 22.
+fn form(x: &[u8], d: &Decoded, buf: &mut [u8]) -> Built
+    requires { TreeAs x.now d.now.sections.name_at d.now.sections.name_len d.now.sections.category d.now.sections.parent d.now.sections.at d.now.sections.len d.now.sections.signal d.now.sections.number d.now.size d.now.depth d.now.sections.counts }
     ensures value { result ≡ answer (from_tree x.now (length buf.old)) }
     ensures buf_after { buf.new ≡ (from_tree x.now (length buf.old)).buffer }
 {
-    let p = tree_bytes::sections::names(x, l.categories, name_at, name_len, buf);
-    let e = urns::put_signals(
-        x, l.signals, l.numbers, signal, number, name_at, name_len, category, parent, at, len,
-        size, depth, buf, p,
-    );
-    let room = buf.len();
-    tree_bytes::finish(buf, e, room_for(e, room))
+    let s = &d.sections;
+    let mut w = tree_bytes::sections::names(x, s.counts.categories, &s.name_at, &s.name_len, buf);
+    urns::put_signals(x, d, &mut w);
+    let e = w.at;
+    let fits = room_for(e, w.buf.len());
+    tree_bytes::finish(w.buf, e, fits)
 }
 
 // The form of a table whose tree is written once, with zeros after it; or all zeros and the number of the refusal.
@@ -62,32 +44,8 @@ pub fn write(x: &[u8], buf: &mut [u8]) -> Built
     ensures value { result ≡ answer (from_tree x.now (length buf.old)) }
     ensures buf_after { buf.new ≡ (from_tree x.now (length buf.old)).buffer }
 {
-    let d = tree_decode::decode(x);
-    let refused = d.refusal;
-    if refused != 0 {
-        return base_bytes::refuse(buf, refused);
+    match tree_decode::decode(x) {
+        Ok(d) => form(x, &d, buf),
+        Err(k) => base_bytes::refuse(buf, u8::from(k)),
     }
-    let l = Counts {
-        ok: d.sections.counts.ok,
-        fault: d.sections.counts.fault,
-        categories: d.sections.counts.categories,
-        nodes: d.sections.counts.nodes,
-        signals: d.sections.counts.signals,
-        numbers: d.sections.counts.numbers,
-    };
-    form(
-        x,
-        l,
-        &d.sections.name_at,
-        &d.sections.name_len,
-        &d.sections.category,
-        &d.sections.parent,
-        &d.sections.at,
-        &d.sections.len,
-        &d.sections.number,
-        &d.sections.signal,
-        &d.size,
-        &d.depth,
-        buf,
-    )
 }

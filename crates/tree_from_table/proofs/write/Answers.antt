@@ -1,9 +1,12 @@
 use lib.ListN.{length}
+use native.Mathlib.Omega.{arith}
+use mathlib.Core.Path.{◌∙◌}
+use Rattle.base_numbers.proofs.Refusals.{refusal-some}
 use Rattle.tree_from_table.proofs.Numbering.{not-to, stored-as}
 use Rattle.tree_from_table.proofs.write.Goals as goal
 
-pub returns-then-refused-ne0 : goal.returns-then-refused-ne0
-returns-then-refused-ne0 c = let w = not-to (length c.args.buf.now) c.if-refused-ne0.true c.refuse.ensures.value c.refuse.ensures.buf_after c.args.t.now c.decode-d.ensures.refusal in record { value = w.0; buf_after = w.1 }
-
 pub form-requires : goal.form-requires
-form-requires c = stored-as c.args.t.now c.decode-d.result c.decode-d.ensures c.if-refused-ne0.false
+form-requires c = stored-as c.args.t.now c.in-Ok.d c.in-Ok.ensures
+
+pub returns-in-Err : goal.returns-in-Err
+returns-in-Err c = let w = not-to (length c.args.buf.now) (λ z. omega (arith, refusal-some c.in-Err.k, c.from.ensures, z)) c.refuse.ensures.value c.refuse.ensures.buf_after c.args.t.now (c.from.ensures ∙ c.in-Err.ensures) in record { value = w.0; buf_after = w.1 }

@@ -1,6 +1,5 @@
-use Prim.Native.Nat.{◌≤◌, ◌-◌, ◌+◌, ◌*◌}
+use Prim.Native.Nat.{◌≤◌, ◌+◌, ◌*◌}
 use mathlib.Core.Path.{◌≡◌}
-use lib.ListN.{length}
 use Rattle.base_lists.specs.Cuts.{stretch}
 use Rattle.base_lists.specs.Lists.{tabulate, each}
 use Rattle.tree_forms.specs.Bytes.{text_bytes}
@@ -8,8 +7,5 @@ use Rattle.tree_bytes.specs.Laid.{Wrote}
 use Rattle.tree_bytes.proofs.sections.names.Given as goal
 
 abbrev pub invariant-loop-i : goal.invariant-loop-i
-invariant-loop-i l = (l.i ≤ l.n) × (l.p ≤ 1 + 256 * l.i)
-    × Wrote l.initial.buf l.buf l.initial.p (each text_bytes (tabulate (stretch l.t l.name_at l.name_len) l.i)) l.p × (length l.buf ≡ length l.initial.buf)
-
-abbrev pub decreases-loop-i : goal.decreases-loop-i
-decreases-loop-i l = l.n - l.i
+invariant-loop-i l = (l.w.at ≤ 1 + 256 * l.i) × (l.w.buf.ghost_name ≡ l.initial.w.buf.ghost_name)
+    × Wrote l.initial.w.buf.now l.w.buf.now l.initial.w.at (each text_bytes (tabulate (stretch l.t l.name_at l.name_len) l.i)) l.w.at

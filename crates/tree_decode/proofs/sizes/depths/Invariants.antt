@@ -1,13 +1,6 @@
-use Prim.Native.Nat.{◌≤◌, ◌-◌}
-use mathlib.Core.Path.{◌≡◌}
-use lib.ListN.{length}
-use Rattle.base_numbers.specs.Numbers.{most_nodes}
 use Rattle.tree_decode.specs.Stages.{FromParent}
 use Rattle.tree_decode.proofs.Filling.{Bounded}
 use Rattle.tree_decode.proofs.sizes.depths.Given as goal
 
 abbrev pub invariant-loop-i : goal.invariant-loop-i
-invariant-loop-i l = let i = l.i in (i ≤ l.n) × (length l.out ≡ most_nodes) × FromParent l.parent (λ i. 0) (λ i. 1) l.out i × Bounded l.out i
-
-abbrev pub decreases-loop-i : goal.decreases-loop-i
-decreases-loop-i l = l.n - l.i
+invariant-loop-i l = let i = l.i in FromParent l.s.parent (λ i. 0) (λ i. 1) l.out i × Bounded l.out i

@@ -1,19 +1,19 @@
-use native.Mathlib.Omega.{arith}
-use Rattle.base_lists.proofs.Tests.{all_start}
-use Rattle.tree_nodes.proofs.Tests.{link-next, link-fails, link-ends}
+use mathlib.Core.Path.{◌≡◌, refl, ◌∙◌}
+use Prim.Native.Nat.{ℕ, ◌+◌, ◌-◌}
+use mathlib.Core.Bool.{Bool}
+use lib.ListN.{get_or}
+use lib.Dec.{eqb}
+use Rattle.std.proofs.Common.{rules}
+use Rattle.std.proofs.lemmas.Iterator.{YieldsList-from_range}
+use Rattle.std.proofs.lemmas.Iterator.Search.{all_from_yields_List}
+use Rattle.std.specs.List.{list_all, range_with_len}
+use Rattle.tree_nodes.proofs.Tests.{linked-range}
 use Rattle.tree_nodes.proofs.order.linked.Goals as goal
 
-pub loop-j-init : goal.loop-j-init
-loop-j-init c = (omega arith, all_start _ _)
-
-pub loop-j-preserved : goal.loop-j-preserved
-loop-j-preserved c = let inv = c.loop-j.invariant in let j = c.loop-j.j in
-    let m = c.args.m in
-    let parent = c.args.parent.now in
-    (omega arith, link-next parent m j c.wide.ensures.0 inv.1 c.if-wide-i.true)
-
-pub returns-else-wide-i : goal.returns-else-wide-i
-returns-else-wide-i c = link-fails c.args.parent.now c.args.m c.loop-j.j c.wide.ensures.0 c.args.k c.loop-j-test.true c.if-wide-i.false
-
 pub returns : goal.returns
-returns c = link-ends _ _ _ _ c.loop-j.invariant.1 c.loop-j.invariant.0 c.loop-j-test.false
+returns c = let m = c.args.m in
+    let k = c.args.k in
+    let p : ℕ → Bool = λ i. eqb (get_or c.args.parent.now i 0) i in
+    let e : c.all.result ≡ list_all p (range_with_len (m + 1) (k - (m + 1))) =
+    all_from_yields_List p _ _ _ c.all.ensures.ran (YieldsList-from_range (m + 1) k _ refl refl) (λ x b q k. search rules) in
+    e ∙ linked-range _ m k _ refl

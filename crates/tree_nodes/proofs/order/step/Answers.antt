@@ -7,5 +7,5 @@ returns-then-k-m c = step-old _ _ _ c.if-k-m.true
 pub returns-then-linked : goal.returns-then-linked
 returns-then-linked c = step-new _ _ _ c.if-k-m.false c.linked.ensures c.if-linked.true
 
-pub returns : goal.returns
-returns c = step-none _ _ _ c.if-k-m.false c.linked.ensures c.if-linked.false
+pub returns-else-linked : goal.returns-else-linked
+returns-else-linked c = step-none _ _ _ c.if-k-m.false c.linked.ensures c.if-linked.false

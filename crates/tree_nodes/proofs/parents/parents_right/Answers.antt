@@ -1,15 +1,16 @@
 use native.Mathlib.Omega.{arith}
-use Rattle.base_lists.proofs.Tests.{all_start, all-next, all-fails, all-ends}
+use mathlib.Core.Path.{◌≡◌, refl, ◌∙◌}
+use Rattle.std.proofs.Common.{rules}
+use Rattle.std.specs.List.{list_all, range_with_len}
+use Rattle.std.proofs.lemmas.Iterator.{YieldsList-from_range}
+use Rattle.std.proofs.lemmas.Iterator.Search.{all_from_yields_List}
+use Rattle.tree_nodes.specs.Tests.{under_at}
+use Rattle.tree_nodes.proofs.Ranges.{all_from_zero}
 use Rattle.tree_nodes.proofs.parents.parents_right.Goals as goal
 
-pub loop-i-init : goal.loop-i-init
-loop-i-init c = (omega arith, all_start _ _)
-
-pub loop-i-preserved : goal.loop-i-preserved
-loop-i-preserved c = (omega arith, all-next _ _ _ c.loop-i.invariant.1 c.parent_right.ensures c.if-parent_right.true)
-
-pub returns-else-parent_right : goal.returns-else-parent_right
-returns-else-parent_right c = all-fails _ _ _ _ c.loop-i-test.true c.parent_right.ensures c.if-parent_right.false
-
 pub returns : goal.returns
-returns c = all-ends _ _ _ _ c.loop-i.invariant.1 c.loop-i.invariant.0 c.loop-i-test.false
+returns c = let s = c.args.s.now in
+    let p = under_at s.category s.parent in
+    let e : c.all.result ≡ list_all p (range_with_len 0 s.counts.nodes) =
+    all_from_yields_List p _ _ _ c.all.ensures.ran (YieldsList-from_range 0 s.counts.nodes s.counts.nodes refl (omega arith)) (λ x b q k. search rules) in
+    e ∙ all_from_zero p p (λ i. i) _ (λ i h. refl)

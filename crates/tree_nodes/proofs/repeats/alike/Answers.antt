@@ -1,16 +1,16 @@
 use native.Mathlib.Omega.{arith}
-use Rattle.tree_nodes.proofs.Tests.{not-category, not-parent, by_name}
+use mathlib.Core.Path.{sym, ◌∙◌}
+use Rattle.std.proofs.Common.{eqb-true}
 use Rattle.node_search.proofs.TextLaws.{text_in_lem}
+use Rattle.tree_nodes.proofs.Tests.{by_name}
 use Rattle.tree_nodes.proofs.repeats.alike.Goals as goal
+use Rattle.tree_nodes.proofs.repeats.alike.Goals.{then-s-i, else-s-i}
 
-pub returns-then-p-q : goal.returns-then-p-q
-returns-then-p-q c = let if2 = c.if-p-q.true in
-    let if1 = c.if-c-d.true in
-    by_name c.args.t.now c.args.category.now c.args.parent.now c.args.at.now c.args.len.now c.args.i c.args.j if1 if2 c.same.ensures
-    (text_in_lem _ _ _ _ _ c.node_text.ensures.result_value (omega arith)) (text_in_lem _ _ _ _ _ c.node_text-then-p-q.ensures.result_value (omega arith))
-
-pub returns-then-c-d : goal.returns-then-c-d
-returns-then-c-d c = not-parent c.args.t.now c.args.category.now c.args.parent.now c.args.at.now c.args.len.now c.args.i c.args.j c.if-c-d.true c.if-p-q.false
-
-pub returns : goal.returns
-returns c = not-category c.args.t.now c.args.category.now c.args.parent.now c.args.at.now c.args.len.now c.args.i c.args.j c.if-c-d.false
+pub returns-then-s-i-2 : goal.returns-then-s-i-2
+returns-then-s-i-2 c = let s = c.args.s.now in
+    elim c.if-s-i.branch [
+      | then-s-i w ↦ by_name c.args.t.now s.category s.parent s.at s.len c.args.i c.args.j w.if-s-i.true (eqb-true _ _ (sym w.value-is ∙ c.if-s-i-2.true)) c.eq.ensures
+          (text_in_lem _ _ _ _ _ c.text_at.ensures.result_value (omega arith))
+          (text_in_lem _ _ _ _ _ c.text_at-then-s-i-2.ensures.result_value (omega arith))
+      | else-s-i w ↦ absurd (w.if-s-i.false (eqb-true _ _ (sym w.value-is ∙ c.if-s-i-2.true)))
+    ]

@@ -1,16 +1,22 @@
+use Prim.Native.Nat.{ℕ}
 use native.Mathlib.Omega.{arith}
-use mathlib.Core.Path.{sym, ◌∙◌}
-use Rattle.base_lists.proofs.Tests.{any-start, any_next, any_found, any-ends}
+use mathlib.Core.Bool.{Bool}
+use mathlib.Core.Path.{◌≡◌, refl, ◌∙◌}
+use Rattle.std.proofs.Common.{rules}
+use Rattle.std.proofs.lemmas.Iterator.{YieldsList-from_range}
+use Rattle.std.proofs.lemmas.Iterator.Search.{any_from_yields_List}
+use Rattle.std.specs.List.{list_any, range_with_len}
+use Rattle.tree_sections.specs.Tree.{Node}
+use Rattle.tree_sections.specs.Held.{node_from}
+use Rattle.tree_nodes.specs.Scan.{same_node}
+use Rattle.tree_nodes.proofs.Ranges.{any_from_zero}
 use Rattle.tree_nodes.proofs.repeats.node_again.Goals as goal
 
-pub loop-j-init : goal.loop-j-init
-loop-j-init c = (omega arith, any-start _ _)
-
-pub returns-then-alike : goal.returns-then-alike
-returns-then-alike c = any_found _ _ _ _ c.loop-j.invariant.1 c.loop-j-test.true (sym c.alike.ensures ∙ c.if-alike.true)
-
-pub loop-j-preserved : goal.loop-j-preserved
-loop-j-preserved c = (omega arith, any_next _ _ _ c.loop-j.invariant.1 (sym c.alike.ensures ∙ c.if-alike.false))
-
 pub returns : goal.returns
-returns c = any-ends _ _ _ _ c.loop-j.invariant.1 c.loop-j.invariant.0 c.loop-j-test.false
+returns c = let s = c.args.s.now in
+    let f = node_from c.args.t.now s.category s.parent s.at s.len in
+    let q : Node → Bool = λ y. same_node y (f c.args.i) in
+    let p : ℕ → Bool = λ j. same_node (f j) (f c.args.i) in
+    let e : c.any.result ≡ list_any p (range_with_len 0 c.args.i) =
+    any_from_yields_List p _ _ _ c.any.ensures.ran (YieldsList-from_range 0 c.args.i c.args.i refl (omega arith)) (λ x b q k. search rules) in
+    e ∙ any_from_zero p q f _ (λ i h. refl)

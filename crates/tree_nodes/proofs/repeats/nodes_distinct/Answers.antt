@@ -1,17 +1,22 @@
+use Prim.Native.Nat.{ℕ}
 use native.Mathlib.Omega.{arith}
-use mathlib.Core.Path.{sym, ◌∙◌}
-use Rattle.base_lists.proofs.Tests.{two-start, two-next, two-fails, two_ends}
+use mathlib.Core.Bool.{Bool, not}
+use mathlib.Core.Path.{◌≡◌, refl, ◌∙◌}
+use Rattle.std.proofs.Common.{rules}
+use Rattle.std.proofs.lemmas.Iterator.{YieldsList-from_range}
+use Rattle.std.proofs.lemmas.Iterator.Search.{all_from_yields_List}
+use Rattle.std.specs.List.{list_all, range_with_len}
+use Rattle.base_lists.specs.Lists.{tabulate}
+use Rattle.base_lists.specs.Tests.{any}
+use Rattle.tree_sections.specs.Held.{node_from}
+use Rattle.tree_nodes.specs.Scan.{same_node}
+use Rattle.tree_nodes.proofs.Ranges.{two_from_zero}
 use Rattle.tree_nodes.proofs.repeats.nodes_distinct.Goals as goal
 
-pub loop-i-init : goal.loop-i-init
-loop-i-init c = (omega arith, two-start _ _)
-
-pub returns-then-node_again : goal.returns-then-node_again
-returns-then-node_again c = two-fails _ _ _ _ c.loop-i-test.true (sym c.node_again.ensures ∙ c.if-node_again.true)
-
-pub loop-i-preserved : goal.loop-i-preserved
-loop-i-preserved c = let inv = c.loop-i.invariant in let n = c.args.n in
-    (omega arith, two-next _ _ _ n inv.1 (sym c.node_again.ensures ∙ c.if-node_again.false))
-
 pub returns : goal.returns
-returns c = two_ends _ _ _ _ c.loop-i.invariant.1 c.loop-i.invariant.0 c.loop-i-test.false
+returns c = let s = c.args.s.now in
+    let f = node_from c.args.t.now s.category s.parent s.at s.len in
+    let p : ℕ → Bool = λ i. not (any (λ y. same_node y (f i)) (tabulate f i)) in
+    let e : c.all.result ≡ list_all p (range_with_len 0 s.counts.nodes) =
+    all_from_yields_List p _ _ _ c.all.ensures.ran (YieldsList-from_range 0 s.counts.nodes s.counts.nodes refl (omega arith)) (λ x b q k. search rules) in
+    e ∙ two_from_zero same_node f _

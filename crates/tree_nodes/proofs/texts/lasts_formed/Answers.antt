@@ -1,28 +1,28 @@
+use Prim.Native.Nat.{ℕ}
 use native.Mathlib.Omega.{arith}
-use mathlib.Core.Path.{ap, ◌∙◌}
-use Rattle.base_lists.proofs.Tests.{all_start, all-next, all-fails, all-ends}
-use Rattle.urn_names.specs.Urn.{stored_name}
+use mathlib.Core.Bool.{Bool}
+use mathlib.Core.Path.{◌≡◌, refl, ap, ◌∙◌}
+use Rattle.std.proofs.Common.{rules}
+use Rattle.std.proofs.lemmas.Iterator.{YieldsList-from_range}
+use Rattle.std.proofs.lemmas.Iterator.Search.{all_from_yields_List}
+use Rattle.std.specs.List.{list_all, range_with_len}
+use Rattle.base_numbers.specs.Numbers.{most_nodes}
+use Rattle.base_lists.specs.Cuts.{stretch}
+use Rattle.node_search.specs.Arrays.{text_in}
 use Rattle.node_search.proofs.TextLaws.{text_in_lem}
+use Rattle.urn_names.specs.Urn.{stored_name}
 use Rattle.tree_nodes.proofs.ByArrays.{lasts-over, lasts-within}
+use Rattle.tree_nodes.proofs.Ranges.{all_from_zero}
 use Rattle.tree_nodes.proofs.texts.lasts_formed.Goals as goal
 
-pub returns-then-n-gt-MOST_NODES : goal.returns-then-n-gt-MOST_NODES
-returns-then-n-gt-MOST_NODES c = lasts-over _ _ _ _ c.if-n-gt-MOST_NODES.true
+pub returns-then-s-le-MOST_NODES : goal.returns-then-s-le-MOST_NODES
+returns-then-s-le-MOST_NODES c = let s = c.args.s.now in
+    let t = c.args.t.now in
+    let p : ℕ → Bool = λ i. stored_name (text_in most_nodes t s.at s.len i) in
+    let e : c.all.result ≡ list_all p (range_with_len 0 s.counts.nodes) =
+    all_from_yields_List p _ _ _ c.all.ensures.ran (YieldsList-from_range 0 s.counts.nodes s.counts.nodes refl (omega arith)) (λ x b q k. search rules) in
+    lasts-within _ _ _ _ c.if-s-le-MOST_NODES.true
+    (e ∙ all_from_zero p stored_name (stretch t s.at s.len) _ (λ i h. ap stored_name (text_in_lem _ _ _ _ _ refl (omega arith))))
 
-pub loop-i-init : goal.loop-i-init
-loop-i-init c = (omega arith, all_start _ _)
-
-pub loop-i-preserved : goal.loop-i-preserved
-loop-i-preserved c = let inv = c.loop-i.invariant in (
-  omega arith,
-  all-next _ _ _ inv.1 (c.stored_name.ensures
-      ∙ ap stored_name (text_in_lem _ _ _ _ _ c.node_text.ensures.result_value (omega arith))) c.if-stored_name.true,
-)
-
-pub returns-else-stored_name : goal.returns-else-stored_name
-returns-else-stored_name c = let loop-test = c.loop-i-test.true in
-    lasts-within _ _ _ _ (omega arith) (all-fails _ _ _ _ loop-test (c.stored_name.ensures
-    ∙ ap stored_name (text_in_lem _ _ _ _ _ c.node_text.ensures.result_value (omega arith))) c.if-stored_name.false)
-
-pub returns : goal.returns
-returns c = lasts-within _ _ _ _ (omega arith) (all-ends _ _ _ _ c.loop-i.invariant.1 c.loop-i.invariant.0 c.loop-i-test.false)
+pub returns-else-s-le-MOST_NODES : goal.returns-else-s-le-MOST_NODES
+returns-else-s-le-MOST_NODES c = lasts-over _ _ _ _ c.if-s-le-MOST_NODES.false

@@ -1,7 +1,5 @@
-use Prim.Native.Nat.{◌≤◌, ◌-◌}
+use Prim.Native.Nat.{◌-◌}
 use mathlib.Core.Path.{◌≡◌}
-use lib.ListN.{length}
-use Rattle.base_numbers.specs.Numbers.{most_nodes}
 use Rattle.base_lists.specs.Lists.{tabulate}
 use Rattle.table_sections.specs.Stored.{times}
 use Rattle.table_sections.proofs.Readings.{after}
@@ -10,9 +8,4 @@ use Rattle.tree_sections.specs.Held.{node_from}
 use Rattle.tree_sections.proofs.nodes.read_nodes.Given as goal
 
 abbrev pub invariant-loop-i : goal.invariant-loop-i
-invariant-loop-i l = (l.i ≤ l.n) × (length l.category ≡ most_nodes) × (length l.parent ≡ most_nodes)
-    × (length l.at ≡ most_nodes) × (length l.len ≡ most_nodes)
-    × (times (node l.t) l.n l.from ≡ after (tabulate (node_from l.t l.category l.parent l.at l.len) l.i) (λ x. x) (times (node l.t) (l.n - l.i) l.p))
-
-abbrev pub decreases-loop-i : goal.decreases-loop-i
-decreases-loop-i l = l.n - l.i
+invariant-loop-i l = times (node l.t) l.n l.from ≡ after (tabulate (node_from l.t l.category l.parent l.at l.len) l.i) (λ x. x) (times (node l.t) (l.n - l.i) l.p)

@@ -1,7 +1,5 @@
-use Prim.Native.Nat.{◌≤◌, ◌-◌}
+use Prim.Native.Nat.{◌-◌}
 use mathlib.Core.Path.{◌≡◌}
-use lib.ListN.{length}
-use Rattle.base_numbers.specs.Numbers.{most_table_urns}
 use Rattle.base_lists.specs.Lists.{tabulate}
 use Rattle.table_sections.specs.Stored.{times}
 use Rattle.table_sections.specs.Held.{tag}
@@ -11,9 +9,5 @@ use Rattle.tree_sections.specs.Tree.{any_byte}
 use Rattle.tree_sections.proofs.signals.read_numbers.Given as goal
 
 abbrev pub invariant-loop-i : goal.invariant-loop-i
-invariant-loop-i l = (l.i ≤ l.end) × (length l.number ≡ most_table_urns) × (length l.signal ≡ most_table_urns)
-    × (after (tabulate (number_at l.initial.signal l.initial.number) l.start) (tag l.s) (times (any_byte l.t) (l.end - l.start) l.from)
-    ≡ after (tabulate (number_at l.signal l.number) l.i) (tag l.s) (times (any_byte l.t) (l.end - l.i) l.p))
-
-abbrev pub decreases-loop-i : goal.decreases-loop-i
-decreases-loop-i l = l.end - l.i
+invariant-loop-i l = after (tabulate (number_at l.initial.signal l.initial.number) l.start) (tag l.s) (times (any_byte l.t) (l.end - l.start) l.from)
+    ≡ after (tabulate (number_at l.signal l.number) l.i) (tag l.s) (times (any_byte l.t) (l.end - l.i) l.p)

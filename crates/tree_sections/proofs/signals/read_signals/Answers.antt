@@ -1,28 +1,21 @@
 use native.Mathlib.Omega.{arith}
 use Rattle.base_lists.proofs.Numbers.{one_byte}
-use Rattle.table_sections.proofs.SectionLaws.{signals-start, signals-more, signals-stop, signals-done, at-most-got}
+use Rattle.table_sections.proofs.Readings.{passed-on}
+use Rattle.table_sections.proofs.SectionLaws.{signals-start, signals-more, signals-stop, signals-done}
 use Rattle.tree_sections.proofs.signals.read_signals.Goals as goal
 
 pub loop-s-init : goal.loop-s-init
-loop-s-init c = (omega arith, omega arith, omega arith, omega arith, signals-start _ _ _ _)
+loop-s-init c = (omega arith, signals-start _ _ _ _)
 
-pub read_signal-got-requires : goal.read_signal-got-requires
-read_signal-got-requires c = (omega arith, c.loop-s.invariant.2, c.loop-s.invariant.3)
-
-pub returns-in-Fault : goal.returns-in-Fault
-returns-in-Fault c = record { result_after = signals-stop _ _ _ _ _ _ _ c.loop-s.invariant.4 _ _ _ c.loop-s-test.true c.read_signal-got.ensures.result_after c.in-Fault.is; few = tt }
+pub returns-in_err-m-clause-result_after : goal.returns-in_err-m-clause-result_after
+returns-in_err-m-clause-result_after c = rw (passed-on c.from_residual.result c.from_residual.ensures)
+    (signals-stop _ _ _ _ _ _ _ c.loop-s.invariant.1 _ _ c.loop-s-test.true c.in_err-m.ensures.result_after)
 
 pub loop-s-preserved : goal.loop-s-preserved
-loop-s-preserved c = let small = c.small.ensures in
-    let loop-test = c.loop-s-test.true in
-    let inv = c.loop-s.invariant in
-    let k = at-most-got _ _ c.read_signal-got.ensures.few.0 c.in-Got.is in (
-      omega arith,
-      omega (arith, k),
-      c.read_signal-got.ensures.few.1,
-      c.read_signal-got.ensures.few.2,
-      signals-more _ _ _ _ _ _ _ inv.4 _ _ _ loop-test (one_byte small (omega arith)) c.read_signal-got.ensures.result_after c.in-Got.is,
-    )
+loop-s-preserved c = (
+  omega (arith, c.in_ok-m.ensures.few),
+  signals-more _ _ _ _ _ _ _ c.loop-s.invariant.1 _ _ _ c.loop-s-test.true (one_byte c.small.ensures (omega arith)) c.in_ok-m.ensures.result_after,
+)
 
-pub returns : goal.returns
-returns c = record { result_after = signals-done _ _ _ _ _ _ _ c.loop-s.invariant.4 c.loop-s-test.false; few = omega arith }
+pub returns-clause-result_after : goal.returns-clause-result_after
+returns-clause-result_after c = signals-done _ _ _ _ _ _ _ c.loop-s.invariant.1 c.loop-s-test.false

@@ -11,33 +11,38 @@ use Rattle.tree_bytes.proofs.Laying.{each_start, each_next, section-from, puts_o
 use Rattle.tree_to_table.proofs.urns.put_signals.Goals as goal
 
 pub loop-s-init : goal.loop-s-init
-loop-s-init c = (
-  omega arith,
-  omega (arith, (puts_of c.byte-p.ensures (omega arith)).end),
-  each_start (section (urn_bytes c.args.t.now c.args.name_at.now c.args.name_len.now c.args.category.now c.args.parent.now c.args.at.now
-      c.args.len.now c.args.size.now c.args.depth.now)) (λ (s : ℕ). of_signal s (tabulate (number_at c.args.signal.now c.args.number.now) c.args.m)) _ _,
-)
-
-pub put_urns-p-requires : goal.put_urns-p-requires
-put_urns-p-requires c = let inv = c.loop-s.invariant in
-    (c.requires.1, omega (arith, inv.1, inv.0, c.requires.0, c.requires.2), c.requires.3, c.requires.4)
-
-pub loop-s-preserved : goal.loop-s-preserved
-loop-s-preserved c = let inv = c.loop-s.invariant in
-    let the-s = c.loop-s.s in (
+loop-s-init c = let d = c.args.d.now in
+    let z = d.sections in (
       omega arith,
-      omega (arith, inv.1, c.put_urns-p.ensures.upper_bound),
-      each_next (section (urn_bytes c.args.t.now c.args.name_at.now c.args.name_len.now c.args.category.now c.args.parent.now c.args.at.now
-          c.args.len.now c.args.size.now c.args.depth.now))
-          (λ (s : ℕ). of_signal s (tabulate (number_at c.args.signal.now c.args.number.now) c.args.m)) the-s inv.2 c.put_urns-p.ensures.puts refl,
+      refl,
+      each_start (section (urn_bytes c.args.t.now z.name_at z.name_len z.category z.parent z.at z.len d.size d.depth))
+          (λ (s : ℕ). of_signal s (tabulate (number_at z.signal z.number) z.counts.numbers)) _ _,
     )
 
-pub shape_of-buf : goal.shape_of-buf
-shape_of-buf c = c.loop-s.invariant.2.long ∙ (puts_of c.byte-p.ensures (omega arith)).long
+pub put_urns-requires : goal.put_urns-requires
+put_urns-requires c = (
+  c.requires.1,
+  omega (arith, c.loop-s.invariant.0, (puts_of c.byte.ensures.wrote (omega arith)).end, c.loop-s-test.true, c.requires.0, c.requires.2),
+  c.requires.3,
+  c.requires.4,
+)
+
+pub loop-s-preserved : goal.loop-s-preserved
+loop-s-preserved c = let d = c.args.d.now in
+    let z = d.sections in
+    let inv = c.loop-s.invariant in (
+      omega (arith, inv.0, c.put_urns.ensures.upper_bound),
+      c.put_urns.ensures.same_reference ∙ inv.1,
+      each_next (section (urn_bytes c.args.t.now z.name_at z.name_len z.category z.parent z.at z.len d.size d.depth))
+          (λ (s : ℕ). of_signal s (tabulate (number_at z.signal z.number) z.counts.numbers)) c.loop-s.s inv.2 c.put_urns.ensures.puts refl,
+    )
 
 pub returns : goal.returns
-returns c = let inv = c.loop-s.invariant in let byte = c.byte-p.ensures in
-    let small = c.small.ensures in
-    section-from (section (urn_bytes c.args.t.now c.args.name_at.now c.args.name_len.now c.args.category.now c.args.parent.now c.args.at.now
-    c.args.len.now c.args.size.now c.args.depth.now)) (λ (s : ℕ). of_signal s (tabulate (number_at c.args.signal.now c.args.number.now) c.args.m))
-    c.loop-s.s c.args.n (one_byte small (omega arith)) inv.0 c.loop-s-test.false (puts_of byte (omega arith)) inv.2
+returns c = let d = c.args.d.now in
+    let z = d.sections in
+    let inv = c.loop-s.invariant in record {
+      same_reference = inv.1 ∙ c.byte.ensures.same_reference;
+      puts = section-from (section (urn_bytes c.args.t.now z.name_at z.name_len z.category z.parent z.at z.len d.size d.depth))
+          (λ (s : ℕ). of_signal s (tabulate (number_at z.signal z.number) z.counts.numbers))
+          c.loop-s.s z.counts.signals (one_byte c.small.ensures (omega arith)) c.loop-s.auto.s-end c.loop-s-test.false (puts_of c.byte.ensures.wrote (omega arith)) inv.2;
+    }

@@ -1,36 +1,23 @@
 use native.Mathlib.Omega.{arith}
-use Rattle.base_lists.proofs.Numbers.{one_byte}
-use Rattle.tree_to_table.proofs.Ancestry.{puts-urn}
 use mathlib.Core.Path.{◌∙◌}
-use Rattle.tree_bytes.proofs.Laying.{puts_of}
+use Rattle.base_lists.proofs.Numbers.{one_byte}
 use Rattle.node_search.proofs.TextLaws.{text_in_lem}
+use Rattle.tree_bytes.proofs.Laying.{puts_of}
+use Rattle.tree_to_table.proofs.Ancestry.{puts-urn}
 use Rattle.tree_to_table.proofs.urns.put_urn.Goals as goal
 
 pub put_path-requires : goal.put_path-requires
-put_path-requires c = let all = c.all-q.ensures in
-    let byte = c.byte-p.ensures in
-    let F = puts_of byte (omega (arith, c.requires.5)) in
-    let H = puts_of all (omega (arith, c.name_text.ensures.short, F.end, c.requires.5)) in
-    (c.requires.4, omega (arith, c.name_text.ensures.short, F.end, H.end, c.requires.5))
-
-pub shape_of-buf : goal.shape_of-buf
-shape_of-buf c = let all = c.all-q.ensures in
-    let byte = c.byte-p.ensures in
-    let F = puts_of byte (omega (arith, c.requires.5)) in
-    c.put_path.ensures.puts.long ∙ (puts_of all (omega (arith, c.name_text.ensures.short, F.end, c.requires.5))).long ∙ F.long
+put_path-requires c = let F = puts_of c.byte.ensures.wrote (omega (arith, c.requires.5)) in
+    let H = puts_of c.all.ensures.wrote (omega (arith, c.text_at.ensures.short, F.end, c.requires.5)) in
+    (c.requires.4, omega (arith, c.text_at.ensures.short, F.end, H.end, c.requires.5))
 
 pub returns : goal.returns
-returns c = let all = c.all-q.ensures in
-    let byte = c.byte-p.ensures in
-    let small = c.small.ensures in
-    let wide = c.wide-c.ensures in
-    let F = puts_of byte (omega (arith, c.requires.5)) in
-    let H = puts_of all (omega (arith, c.name_text.ensures.short, F.end, c.requires.5)) in record {
-      puts = puts-urn c.args.t.now c.args.name_at.now c.args.name_len.now c.args.category.now c.args.parent.now c.args.at.now c.args.len.now
-          c.args.size.now c.args.depth.now c.args.k (one_byte small (omega (arith, c.requires.3))) wide.0 (text_in_lem _ _ _ _ _ c.name_text.ensures.result_value (omega (
-            arith,
-            wide.0,
-            c.requires.2,
-          ))) F H c.put_path.ensures.puts;
-      upper_bound = omega (arith, F.end, H.end, c.name_text.ensures.short, c.put_path.ensures.upper_bound);
+returns c = let s = c.args.d.now.sections in
+    let F = puts_of c.byte.ensures.wrote (omega (arith, c.requires.5)) in
+    let H = puts_of c.all.ensures.wrote (omega (arith, c.text_at.ensures.short, F.end, c.requires.5)) in record {
+      same_reference = c.put_path.ensures.same_reference ∙ c.all.ensures.same_reference ∙ c.byte.ensures.same_reference;
+      puts = puts-urn c.args.t.now s.name_at s.name_len s.category s.parent s.at s.len
+          c.args.d.now.size c.args.d.now.depth c.args.k (one_byte c.small.ensures (omega (arith, c.requires.3))) c.from-c.ensures
+          (text_in_lem _ _ _ _ _ c.text_at.ensures.result_value (omega (arith, c.from-c.ensures, c.requires.2))) F H c.put_path.ensures.puts;
+      upper_bound = omega (arith, F.end, H.end, c.text_at.ensures.short, c.put_path.ensures.upper_bound);
     }
