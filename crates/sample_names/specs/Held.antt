@@ -19,10 +19,3 @@ held_urn t category at len i = urn (get_or category i 0) (fields 58 (stretch t a
 -- the URNs of the first m nodes, 64 at most
 unfoldable pub held_urns : (t category at len : List ℕ) → ℕ → List Urn
 held_urns t category at len m = tabulate (held_urn t category at len) (min m most_nodes)
-
--- the arrays hold n nodes with these URNs
-pub record UrnsIn (t category at len : List ℕ) (n : ℕ) (ns : List Urn) : Type 0 where
-  pub all-nodes : length ns ≡ n
-  pub few-nodes : n ≤ most_nodes
-  pub cat-at : (i : ℕ) → i < n → get_or category i 0 ≡ (node_at ns i).cat
-  pub path-at : (i : ℕ) → i < n → fields 58 (stretch t at len i) ≡ (node_at ns i).path
