@@ -1,16 +1,20 @@
 -- Entries as they are written: pieces one after the other.
 use Prim.Native.Nat.{ℕ, suc, ◌+◌, ◌-◌, ◌≤◌, ◌<◌}
-use mathlib.Core.Path.{◌≡◌, refl, sym, ap, ap₂, ◌∙◌, subst}
+use mathlib.Core.Path.{◌≡◌, refl, sym, ap, ap₂, ◌∙◌}
 use mathlib.Core.Bool.{Bool, true, false, cond}
 use mathlib.Core.List.{List, [], ◌∷◌, ◌++◌, append_assoc}
 use native.Mathlib.Omega.{arith}
 use lib.Dec.{eqb}
-use lib.ListN.{length, get_or, set, take, drop, length-append, length-take, drop_of_length-le}
-use lib.Seq.{drop-cons, sets, sets-eq}
+use lib.ListN.{length, get_or, set, take, drop, drop_of_length-le}
+use lib.Seq.{drop-cons, sets, sets-eq, length-sets}
 use denote.Ref.{Bor}
+use Rattle.std.proofs.lemmas.List.{drop-drop}
 use borrow.Rule.Slice.PartMut.{put_mid}
 use Rattle.base_lists.specs.Lists.{joined}
 use borrow.Author.Tests.{eq-eqb, ne_eqb}
+use Rattle.base_numbers.specs.Numbers.{most_categories, most_nodes}
+use Rattle.node_search.specs.Arrays.{text_in}
+use Rattle.node_search.proofs.TextLaws.{text_in_lem}
 use Rattle.theory_resolution.specs.Names.{Name, Parts}
 use Rattle.theory_resolution.specs.Table.{Urn, urn}
 use Rattle.theory_resolution.specs.Nodes.{nodes, node_at}
@@ -30,7 +34,9 @@ use Rattle.sample_library.proofs.ValueLaws.{chosen-node}
 pub put_whole : (b : List ℕ) (at : ℕ) (s : List ℕ) {c : List ℕ} → at + length s ≤ length b → c ≡ s → put_mid at (at + length s - at) b c ≡ sets b at s
 put_whole b at s {c} h e =
     let k : at + (at + length s - at) ≡ at + length s = omega arith in
-    ap₂ (λ (x : List ℕ) (j : ℕ). take at b ++ x ++ drop j b) e k ∙ sym (sets-eq s b at h)
+    ap (λ (x : List ℕ). take at b ++ (x ++ drop (at + length s - at) (drop at b))) e
+    ∙ ap (λ (l : List ℕ). take at b ++ (s ++ l)) (drop-drop (at + length s - at) at b ∙ ap (λ (j : ℕ). drop j b) k)
+    ∙ sym (append_assoc (take at b) s (drop (at + length s) b)) ∙ sym (sets-eq s b at h)
 
 pub sets-append : (b : List ℕ) (at : ℕ) (p s : List ℕ) → sets b at (p ++ s) ≡ sets (sets b at p) (at + length p) s
 sets-append b at [] s = let z : at ≡ at + 0 = omega arith in ap (λ (k : ℕ). sets b k s) z
@@ -41,6 +47,9 @@ sets-append b at (x ∷ p) s =
 -- a piece after what was written
 pub then-put : (b : List ℕ) (at : ℕ) (p s : List ℕ) {e : ℕ} {c d : List ℕ} → e ≡ at + length p → c ≡ sets b at p → d ≡ sets c e s → d ≡ sets b at (p ++ s)
 then-put b at p s {e} {c} {d} h k g = g ∙ ap₂ (λ (x : List ℕ) (j : ℕ). sets x j s) k h ∙ sym (sets-append b at p s)
+
+pub kept : (b : List ℕ) (at : ℕ) (s : List ℕ) {c : List ℕ} → c ≡ sets b at s → length c ≡ length b
+kept b at s e = ap length e ∙ length-sets b at s
 
 -- the texts that are left, one after the other
 module _ (ts : List (Bor (List ℕ))) (i : ℕ) where
@@ -83,18 +92,24 @@ module _ (t : List ℕ) (d : Decoded) (r : Ready t d) (i : ℕ) (h : i < d.nodes
   written : NodeText (category_names t) u
   written = node-at-text t r.formed i (omega (arith, h, r.holds.nodes.all-nodes))
 
-  pub cat-known : get_or d.category i 0 < d.categories
+  cat-known : get_or d.category i 0 < d.categories
   cat-known = omega (arith, r.holds.nodes.cat-at i h, written.known, r.holds.names.all-names)
 
-  pub cat-few : get_or d.category i 0 < 8
+  cat-few : get_or d.category i 0 < 8
   cat-few = omega (arith, cat-known, r.holds.names.few-names)
 
-  pub name-is : {w : List ℕ} → w ≡ take (get_or d.name_len (get_or d.category i 0) 0)
-      (drop (get_or d.name_at (get_or d.category i 0) 0) t) → w ≡ name_of (category_names t) u
-  name-is e = e ∙ r.holds.names.name-at (get_or d.category i 0) cat-known ∙ ap (λ (k : ℕ). get_or (category_names t) k []) (r.holds.nodes.cat-at i h)
+  node-few : i < most_nodes
+  node-few = omega (arith, h, r.holds.nodes.few-nodes)
 
-  pub path-is : {w : List ℕ} → w ≡ take (get_or d.len i 0) (drop (get_or d.at i 0) t) → fields 58 w ≡ u.path
-  path-is e = ap (fields 58) e ∙ r.holds.nodes.path-at i h
+  -- what stands in the table's bytes
+  pub name-is : {k : ℕ} {w : List ℕ} → k ≡ get_or d.category i 0 → w ≡ text_in most_categories t d.name_at d.name_len k → w ≡ name_of (category_names t) u
+  name-is e f =
+      let c = get_or d.category i 0 in
+      text_in_lem most_categories t d.name_at d.name_len c (f ∙ ap (text_in most_categories t d.name_at d.name_len) e) cat-few
+      ∙ r.holds.names.name-at c cat-known ∙ ap (λ (k : ℕ). get_or (category_names t) k []) (r.holds.nodes.cat-at i h)
+
+  pub path-is : {w : List ℕ} → w ≡ text_in most_nodes t d.at d.len i → fields 58 w ≡ u.path
+  path-is f = ap (fields 58) (text_in_lem most_nodes t d.at d.len i f node-few) ∙ r.holds.nodes.path-at i h
 
   module _ (x p : List ℕ) (e : x ≡ name_of (category_names t) u) (f : fields 58 p ≡ u.path) (kind : ℕ) where
     pub node-plain : (kind ≡ 1 → ⊥) → joined (first ∷ x ∷ (58 ∷ []) ∷ p ∷ (62 ∷ []) ∷ []) ≡ bare (node_uri (category_names t) (nodes (table_of t)) kind u)

@@ -6,7 +6,7 @@ ghost use Rattle.table_decode.specs.Tables.{table_of, category_names};
 ghost use Rattle.sample_library.specs.Sample.{node_uri, foreign_uri, draw_of, bare};
 ghost use Rattle.sample_library.specs.Written.{Ready, in_row};
 
-use node_search::texts::{name_text, node_text};
+use node_search::texts::text_at;
 use sample_seed::{Seed, choice};
 use table_decode::Decoded;
 
@@ -49,11 +49,15 @@ fn node_entry(t: &[u8], d: &Decoded, kind: u32, i: usize, buf: &mut [u8], at: us
         × (buf.new ≡ sets buf.old at (bare (node_uri (category_names t.now) (nodes (table_of t.now)) kind (node_at (nodes (table_of t.now)) i)))) }
 {
     let c = d.category[i];
-    let name = name_text(t, &d.name_at, &d.name_len, usize::from(c));
-    let path = node_text(t, &d.at, &d.len, i);
+    let name = text_at(t, &d.name_at, &d.name_len, usize::from(c));
+    let path = text_at(t, &d.at, &d.len, i);
     if kind == 1 {
         let z = sample_names::strange(t, d, c, path);
-        put(buf, at, &[b"<urn:alert:", name, b":", path, b":", z.text(), b">"])
+        put(
+            buf,
+            at,
+            &[b"<urn:alert:", name, b":", path, b":", z.text(), b">"],
+        )
     } else {
         put(buf, at, &[b"<urn:alert:", name, b":", path, b">"])
     }

@@ -1,19 +1,18 @@
 -- Loops that search: one turn, and the end.
-use Prim.Native.Nat.{ℕ, zero, suc, ◌+◌, ◌-◌, ◌≤◌, ◌<◌, min}
-use mathlib.Core.Path.{◌≡◌, refl, sym, ap, ap₂, ◌∙◌, subst}
+use Prim.Native.Nat.{ℕ, zero, suc, ◌+◌, ◌≤◌, ◌<◌, min}
+use mathlib.Core.Path.{◌≡◌, refl, sym, ap, ap₂, ◌∙◌}
 use mathlib.Core.Bool.{Bool, true, false, cond, ◌&&◌, ◌||◌, and-false}
 use mathlib.Core.List.{List, [], ◌∷◌, ◌++◌}
 use native.Mathlib.Omega.{arith}
-use native.Mathlib.Numerals.{add-one}
 use lib.Dec.{eqb, ltb}
 use Rattle.std.specs.List.{list_any, range_with_len}
 use Rattle.std.specs.Prelude.{Option, Some, None, unwrap_or, MatchOption}
-use lib.ListN.{length, get_or, take, drop, drop_of_length-le}
+use lib.ListN.{length, get_or, take, drop}
 use lib.Seq.{drop-cons}
 use borrow.Author.Tests.{eq-eqb, ne_eqb, eqb-true, eqb-false, lt-ltb}
 use Rattle.base_numbers.specs.Numbers.{most_categories, most_nodes}
 use Rattle.base_lists.specs.Cuts.{stretch}
-use Rattle.base_lists.proofs.Tabulated.{tabulate-length, tabulate-at, tabulate-same, tab-list}
+use Rattle.base_lists.proofs.Tabulated.{tabulate-length, tabulate-same, tab-list}
 use Rattle.base_lists.proofs.Bools.{by_test}
 use Rattle.base_lists.proofs.Lists.{member-join}
 use Rattle.std.proofs.lemmas.List.Folds.{list_any-append}

@@ -1,11 +1,10 @@
 -- The names of categories and the URNs of nodes that the arrays of a decoded table hold, whatever they are.
-use Rattle.std.specs.Prelude.{ℕ, ◌≤◌, ◌<◌, min, ◌≡◌, List, length, get_or}
+use Rattle.std.specs.Prelude.{ℕ, min, List, get_or}
 use Rattle.base_numbers.specs.Numbers.{most_categories, most_nodes}
 use Rattle.base_lists.specs.Cuts.{stretch}
 use Rattle.base_lists.specs.Lists.{tabulate}
 use Rattle.theory_resolution.specs.Names.{Name}
 use Rattle.theory_resolution.specs.Table.{Urn, urn}
-use Rattle.theory_resolution.specs.Nodes.{node_at}
 use Rattle.base_text.specs.Text.{fields}
 
 -- the names of the first m categories, 8 at most

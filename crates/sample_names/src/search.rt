@@ -11,7 +11,7 @@ ghost use Rattle.sample_names.specs.Held.{held_names, held_urn, held_urns};
 use crate::FreeName;
 use base_numbers::{MOST_CATEGORIES, MOST_NODES};
 use base_text::compare::same;
-use node_search::texts::{name_text, node_text};
+use node_search::texts::text_at;
 use table_decode::Decoded;
 
 // The k-th of the names is a category.
@@ -21,7 +21,7 @@ fn name_taken(t: &[u8], d: &Decoded, k: usize) -> bool
     let z = FreeName::new(k);
     (0..d.categories.min(MOST_CATEGORIES)).any(|i| same(
         z.text(),
-        name_text(t, &d.name_at, &d.name_len, i),
+        text_at(t, &d.name_at, &d.name_len, i),
     ))
 }
 
@@ -47,7 +47,7 @@ fn node_is(t: &[u8], d: &Decoded, c: u8, p: &[u8], z: &[u8], j: usize) -> bool
     ensures { result ≡ (ltb j most_nodes
         && same_urn (urn c (fields 58 (p.now ++ 58 ∷ z.now))) (held_urn t.now d.now.category d.now.at d.now.len j)) }
 {
-    j < MOST_NODES && c == d.category[j] && made_of(p, z, node_text(t, &d.at, &d.len, j))
+    j < MOST_NODES && c == d.category[j] && made_of(p, z, text_at(t, &d.at, &d.len, j))
 }
 
 // The k-th of the names makes a node, in category c under the path p.

@@ -17,7 +17,7 @@ pub returns-then-c-d : goal.returns-then-c-d
 returns-then-c-d c = elim c.if-j-lt-MOST_NODES.branch [
   | then-j-lt-MOST_NODES w ↦ within (lt-ltb _ _ w.if-j-lt-MOST_NODES.true)
       (node-same _ _ _ _ refl (eqb-true _ _ (sym w.value-is ∙ c.if-c-d.true))
-      (ap (fields 58) (text_in_lem _ _ _ _ _ c.node_text.ensures.result_value w.if-j-lt-MOST_NODES.true)) c.made_of.ensures)
+      (ap (fields 58) (text_in_lem _ _ _ _ _ c.text_at.ensures.result_value w.if-j-lt-MOST_NODES.true)) c.made_of.ensures)
   | else-j-lt-MOST_NODES w ↦ absurd (false≢true (sym (le-ltb _ _ w.if-j-lt-MOST_NODES.false) ∙ sym w.value-is ∙ c.if-c-d.true))
 ]
 
