@@ -1,3 +1,2 @@
 pub mod LineLaws
 mod NumberLaws
-mod Counted

@@ -1,25 +1,21 @@
 -- Digits, numbers and bytes in hex.
 -- Assumes nothing.
 use mathlib.Core.Path.{◌≡◌, refl, ap, ◌∙◌}
-use mathlib.Core.List.{List}
-use Prim.Native.Nat.{ℕ, ◌+◌, ◌*◌, ◌≤◌, ◌<◌}
+use mathlib.Core.List.{List, [], ◌∷◌}
+use Rattle.std.specs.List.{fold}
+use Prim.Native.Nat.{ℕ, ◌+◌, ◌*◌, ◌<◌}
 use native.Mathlib.Numerals.{add-one}
-use lib.ListN.{length, get_or, set, drop, drop_of_length-le}
-use lib.Seq.{drop-cons}
+use lib.ListN.{length, get_or, set}
 use Rattle.base_lists.proofs.Tabulated.{tabulate-length}
 use Rattle.base_lists.proofs.Over.{over-set}
 use Rattle.base_lists.specs.Lists.{tabulate, over}
 use Rattle.program_lines.specs.Numbers.{more_digits, number_of, hex_digit, hex_pair}
 
--- the digits that are left, one by one
-module _ (s : List ℕ) (n at : ℕ) where
-  pub number-next : at < length s → (m : ℕ) → m ≡ more_digits n (get_or s at 0) → number_of n (drop at s) ≡ number_of m (drop (at + 1) s)
-  unfolding number_of
-  number-next h m e = rw (drop-cons s at 0 h, add-one, e)
-
-  pub number-end : length s ≤ at → number_of n (drop at s) ≡ n
-  unfolding number_of
-  number-end h = rw (drop_of_length-le s)
+-- the digits, one after the other
+pub number-fold : (n : ℕ) (s : List ℕ) → fold more_digits n s ≡ number_of n s
+unfolding number_of
+number-fold n [] = refl
+number-fold n (b ∷ s) = number-fold (more_digits n b) s
 
 -- one store more
 pub over-more : (f : ℕ → ℕ) (r b : List ℕ) (k v : ℕ) → r ≡ over (tabulate f k) b → k < length b → v ≡ f k → set r k v ≡ over (tabulate f (k + 1)) b

@@ -13,73 +13,49 @@ ghost use Rattle.program_lines.specs.Numbers.{digit_of, more_digits, number_of, 
 pub fn first(s: &[u8]) -> u8
     ensures { result ≡ get_or s.now 0 0 }
 {
-    if 0 < s.len() { s[0] } else { 0 }
-}
-
-// Where the first byte that is `mark` stands; the length if there is none.
-fn find(s: &[u8], mark: u8) -> usize
-    ensures { result ≡ length (up_to mark s.now) }
-{
-    let mut at = 0;
-    while at < s.len() {
-        if s[at] == mark {
-            return at;
-        }
-        at += 1;
-    }
-    at
+    s.first().copied().unwrap_or(0)
 }
 
 // The bytes before the first `mark`; all if there is none.
-pub fn before<'a>(s: &'a [u8], mark: u8) -> &'a [u8]
+#[tactic(auto, unfolding(crate::specs::Lines::part_of))]
+pub fn before(s: &[u8], mark: u8) -> &[u8]
     ensures { result.now ≡ up_to mark s.now }
 {
-    let end = find(s, mark);
-    &s[0..end]
+    part(s, mark, 0)
 }
 
 // The bytes after the first `mark`; none if there is none.
-pub fn after<'a>(s: &'a [u8], mark: u8) -> &'a [u8]
+pub fn after(s: &[u8], mark: u8) -> &[u8]
     ensures { result.now ≡ past mark s.now }
 {
-    let at = find(s, mark);
-    let end = s.len();
-    if end <= at {
-        return &s[end..end];
-    }
-    let next = at + 1;
-    &s[next..end]
+    let end = before(s, mark).len();
+    if end < s.len() { &s[end + 1..] } else { &[] }
 }
 
 // Part k, counted from 0, where parts end at `mark`; empty if there is none.
-pub fn part<'a>(s: &'a [u8], mark: u8, k: usize) -> &'a [u8]
+pub fn part(s: &[u8], mark: u8, k: usize) -> &[u8]
     ensures { result.now ≡ part_of mark k s.now }
 {
-    if k == 0 {
-        return before(s, mark);
-    }
-    part(after(s, mark), mark, k - 1)
+    s.split(|b| *b == mark).nth(k).unwrap_or(&[])
 }
 
 // Word k of a line, counted from 0; empty if there is none.
-pub fn word<'a>(line: &'a [u8], k: usize) -> &'a [u8]
+pub fn word(line: &[u8], k: usize) -> &[u8]
     ensures { result.now ≡ part_of 32 k line.now }
 {
     part(line, b' ', k)
 }
 
 // What a decimal digit stands for; 0 for any other byte.
+#[tactic(auto, unfolding(crate::specs::Numbers::digit_of))]
 fn digit(b: u8) -> usize
     ensures value { result ≡ digit_of b }
     ensures upper_bound { result < 10 }
 {
-    if b < b'0' {
-        return 0;
+    match b {
+        b'0'..=b'9' => usize::from(b - b'0'),
+        _ => 0,
     }
-    if b'9' < b {
-        return 0;
-    }
-    (b - b'0') as usize
 }
 
 // One more digit after n, unless there are nine.
@@ -93,33 +69,20 @@ fn more_digits(n: usize, b: u8) -> usize
 pub fn number(s: &[u8]) -> usize
     ensures { result ≡ number_of 0 s.now }
 {
-    let mut n = 0;
-    let mut at = 0;
-    while at < s.len() {
-        n = more_digits(n, s[at]);
-        at += 1;
-    }
-    n
+    s.iter().fold(0, |n, b| more_digits(n, *b))
 }
 
 // What a hex digit stands for, of small letters; 0 for any other byte.
+#[tactic(auto, unfolding(crate::specs::Numbers::hex_digit))]
 fn hex_digit(b: u8) -> u8
     ensures value { result ≡ hex_digit b }
     ensures upper_bound { result < 16 }
 {
-    if b < b'0' {
-        return 0;
+    match b {
+        b'0'..=b'9' => b - b'0',
+        b'a'..=b'f' => b - b'a' + 10,
+        _ => 0,
     }
-    if b <= b'9' {
-        return b - b'0';
-    }
-    if b < b'a' {
-        return 0;
-    }
-    if b'f' < b {
-        return 0;
-    }
-    b - b'a' + 10
 }
 
 // Puts the bytes that hex says at the front of `out`, as many as there are whole pairs and as `out` holds, and answers
@@ -129,17 +92,11 @@ pub fn decode(text: &[u8], out: &mut [u8]) -> usize
     ensures out_after { out.new ≡ over (tabulate (hex_pair text.now) result) out.old }
     ensures upper_bound { (result ≤ length out.new) × (result ≡ length (take result out.new)) }
 {
-    let n = text.len() / 2;
-    let room = out.len();
-    let mut k = 0;
-    while k < n {
-        if room <= k {
-            return k;
-        }
+    let n = (text.len() / 2).min(out.len());
+    for k in 0..n {
         let high = hex_digit(text[2 * k]);
         let low = hex_digit(text[2 * k + 1]);
         out[k] = high * 16 + low;
-        k += 1;
     }
-    k
+    n
 }

@@ -19,8 +19,7 @@ use Rattle.table_decode.specs.Examples.{least}
 use Rattle.table_decode.proofs.RefusalNumbers.{refusal-numbers}
 use Rattle.table_decode.proofs.Examples.{least-formed, each_number}
 use Rattle.sample_seed.specs.Numbers.{next_of, choice_of}
-use Rattle.sample_library.specs.declared.Made.{Made}
-use Rattle.sample_library.specs.Sample.{drawn_of, value_of, sample_of, refused_with, made_of, buffer_of}
+use Rattle.sample_library.specs.Sample.{Made, drawn_of, value_of, sample_of, refused_with, made_of, buffer_of}
 use Rattle.sample_library.specs.Claims.{choices_in, after, GoodSample, AllGood, Answers, AllAnswers, MakerNumber, MakerNumbers, EachMakerNumber}
 use Rattle.sample_library.proofs.ValueLaws.{Good, bare-value, value-short, good-draws, draws-length, few-choice}
 use Rattle.sample_library.proofs.ChoiceLaws.{after_first, draws-choices}

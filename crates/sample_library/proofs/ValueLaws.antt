@@ -197,3 +197,10 @@ module _ (t : List ℕ) (formed : table_refusal t ≡ 0) where
 pub few-choice : (x : ℕ) → choice_of x 8 < 8
 unfolding choice_of
 few-choice x = mod-lt (x / 65536) (omega arith)
+
+-- the entries of a node and of the foreign category, each in the room that one has
+module _ (t : List ℕ) (formed : table_refusal t ≡ 0) where
+  pub node-fits : (kind k : ℕ) → k < length (nodes (table_of t)) → length (bare (node_uri (category_names t) (nodes (table_of t)) kind (node_at (nodes (table_of t)) k))) ≤ 271
+  node-fits kind k h =
+      let uri = node_uri (category_names t) (nodes (table_of t)) kind (node_at (nodes (table_of t)) k) in
+      omega (arith, bare-length uri, (good-node t formed kind k h).short)

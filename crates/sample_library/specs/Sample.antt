@@ -1,5 +1,7 @@
 -- The value that a table and a seed give, and what the maker answers.
-use Rattle.std.specs.Prelude.{ℕ, zero, suc, cond, List, [], ◌∷◌, ◌++◌, length, get_or, eqb, ltb}
+use Rattle.std.specs.Prelude.{ℕ, zero, suc, cond, List, [], ◌∷◌, ◌++◌, length, get_or, eqb, ltb, Result, Ok, Err}
+use Rattle.base_numbers.specs.Refusals.{refusal_number}
+use Rattle.base_numbers.specs.declared.refusal.Refusal.{Refusal}
 use Rattle.base_numbers.specs.Numbers.{sample_no_room, sample_room}
 use Rattle.base_lists.specs.Lists.{over}
 use Rattle.theory_resolution.specs.Names.{Name, Parts}
@@ -10,7 +12,6 @@ use Rattle.base_ascii.specs.Ascii.{bytes}
 use Rattle.table_decode.specs.Tables.{table_refusal, table_of, category_names}
 use Rattle.sample_seed.specs.Numbers.{next_of, choice_of}
 use Rattle.sample_names.specs.FirstFree.{foreign, strange}
-use Rattle.sample_library.specs.declared.Made.{Made}
 use Rattle.sample_library.specs.declared.Answer.{Answer}
 
 -- the URI of a category's name and a path
@@ -81,6 +82,12 @@ pub record Sample : Type 0 where
 abbrev pub sample_of : List ℕ → ℕ → Sample
 sample_of t x = record { value = value_of (drawn_of t x).uris; seed = (drawn_of t x).seed }
 
+-- what the maker comes to: a refusal number, the length of the value, and the seed after its last choice
+pub record Made : Type 0 where
+  pub refusal : ℕ
+  pub len : ℕ
+  pub seed : ℕ
+
 -- refused with k: nothing is written, and the seed stays
 abbrev pub refused_with : ℕ → ℕ → Made
 refused_with k x = record { refusal = k; len = 0; seed = x }
@@ -99,3 +106,8 @@ buffer_of t x b = cond (eqb (table_refusal t) 0) (cond (ltb (length b) sample_ro
 -- what the caller is told of it
 abbrev pub answer_of : Made → Answer
 answer_of m = record { refusal = m.refusal; len = m.len }
+
+-- a length or a refusal, as the caller is told of it
+abbrev pub told : Result ℕ Refusal → Answer
+told (Ok n) = record { refusal = 0; len = n }
+told (Err k) = record { refusal = refusal_number k; len = 0 }

@@ -1,6 +1,7 @@
 -- What is known while entries are written. Only private functions promise this.
-use Rattle.std.specs.Prelude.{ℕ, ◌≡◌, List, ◌∷◌, ◌++◌}
-use Rattle.base_ascii.specs.Ascii.{bytes}
+use Rattle.std.specs.Prelude.{ℕ, ◌≡◌, List, map}
+use denote.Ref.{Bor}
+use Rattle.base_lists.specs.Lists.{joined}
 use Rattle.table_decode.specs.Tables.{table_refusal, table_of}
 use Rattle.table_decode.specs.Decoded.{Holds}
 use Rattle.node_search.specs.declared.decoded.Decoded.{Decoded}
@@ -10,6 +11,6 @@ pub record Ready (t : List ℕ) (d : Decoded) : Type 0 where
   pub formed : table_refusal t ≡ 0
   pub holds : Holds t (table_of t) d
 
--- an entry as far as the end of its path: <urn:alert: , the category's name, a colon (58) and the path's text
-unfoldable pub opening : List ℕ → List ℕ → List ℕ
-opening name path = bytes "<urn:alert:" ++ (name ++ 58 ∷ path)
+-- the bytes of some texts, one text after the other
+abbrev pub in_row : List (Bor (List ℕ)) → List ℕ
+in_row texts = joined (map (λ s. s.now) texts)

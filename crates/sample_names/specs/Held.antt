@@ -1,11 +1,10 @@
 -- The names of categories and the URNs of nodes that the arrays of a decoded table hold, whatever they are.
-use Rattle.std.specs.Prelude.{ℕ, ◌≤◌, ◌<◌, min, ◌≡◌, List, length, get_or}
+use Rattle.std.specs.Prelude.{ℕ, min, List, get_or}
 use Rattle.base_numbers.specs.Numbers.{most_categories, most_nodes}
 use Rattle.base_lists.specs.Cuts.{stretch}
 use Rattle.base_lists.specs.Lists.{tabulate}
 use Rattle.theory_resolution.specs.Names.{Name}
 use Rattle.theory_resolution.specs.Table.{Urn, urn}
-use Rattle.theory_resolution.specs.Nodes.{node_at}
 use Rattle.base_text.specs.Text.{fields}
 
 -- the names of the first m categories, 8 at most
@@ -19,10 +18,3 @@ held_urn t category at len i = urn (get_or category i 0) (fields 58 (stretch t a
 -- the URNs of the first m nodes, 64 at most
 unfoldable pub held_urns : (t category at len : List ℕ) → ℕ → List Urn
 held_urns t category at len m = tabulate (held_urn t category at len) (min m most_nodes)
-
--- the arrays hold n nodes with these URNs
-pub record UrnsIn (t category at len : List ℕ) (n : ℕ) (ns : List Urn) : Type 0 where
-  pub all-nodes : length ns ≡ n
-  pub few-nodes : n ≤ most_nodes
-  pub cat-at : (i : ℕ) → i < n → get_or category i 0 ≡ (node_at ns i).cat
-  pub path-at : (i : ℕ) → i < n → fields 58 (stretch t at len i) ≡ (node_at ns i).path

@@ -14,8 +14,6 @@ ghost use Rattle.base_text.specs.Text.{fields};
 ghost use Rattle.sample_names.specs.FirstFree.{z_name, foreign as foreign_of, strange as strange_of};
 ghost use Rattle.sample_names.specs.Held.{held_names, held_urns};
 
-use base_bytes::numbers::at_most;
-use base_numbers::{MOST_CATEGORIES, MOST_NODES};
 use table_decode::Decoded;
 
 // One of the names: z and one or two digits. Which bytes stand past its length is open.
@@ -23,45 +21,49 @@ use table_decode::Decoded;
 pub struct FreeName {
     pub bytes: [u8; 3],
     pub len: usize,
+    ghost within: { len ≤ length bytes },
+    ghost short: { len ≤ 3 },
 }
 
-// The k-th of the names.
-pub(crate) fn z_name(k: usize) -> FreeName
-    requires { k ≤ most_nodes }
-    ensures { (take result.len result.bytes ≡ z_name k) × (result.len ≤ length result.bytes) × (result.len ≤ 3) }
-{
-    if k < 10 {
-        let last = 48 + k as u8;
-        return FreeName {
-            bytes: [122, last, 0],
-            len: 2,
-        };
+impl FreeName {
+    // The k-th of the names.
+    pub(crate) fn new(k: usize) -> FreeName
+        ensures { k ≤ most_nodes → take result.len result.bytes ≡ z_name k }
+    {
+        let last = b'0' + (k % 10) as u8;
+        if k < 10 {
+            FreeName {
+                bytes: [b'z', last, 0],
+                len: 2,
+            }
+        } else {
+            FreeName {
+                bytes: [b'z', b'0' + (k / 10 % 10) as u8, last],
+                len: 3,
+            }
+        }
     }
-    let first = 48 + (k / 10) as u8;
-    let second = 48 + (k % 10) as u8;
-    FreeName {
-        bytes: [122, first, second],
-        len: 3,
+
+    // Its bytes.
+    pub fn text(&self) -> &[u8]
+        ensures text { result.now ≡ take self.now.len self.now.bytes }
+        ensures short { length result.now ≤ 3 }
+    {
+        &self.bytes[..self.len]
     }
 }
 
 // The first of the names that is no category of the table decoded as d, whose names stand in t.
-pub fn foreign(t: &[u8], d: Decoded) -> FreeName
-    ensures bytes_value { take result.len result.bytes ≡ foreign_of (held_names t.now d.name_at d.name_len d.categories) }
-    ensures short { (result.len ≤ length result.bytes) × (result.len ≤ 3) }
+pub fn foreign(t: &[u8], d: &Decoded) -> FreeName
+    ensures { take result.len result.bytes ≡ foreign_of (held_names t.now d.now.name_at d.now.name_len d.now.categories) }
 {
-    let n = at_most(d.categories, MOST_CATEGORIES);
-    let k = search::first_name(t, &d.name_at, &d.name_len, n);
-    z_name(k)
+    FreeName::new(search::first_name(t, d))
 }
 
 // The first of the names that makes no node of the table decoded as d, whose paths stand in t, in category c under the path p.
-pub fn strange(t: &[u8], d: Decoded, c: u8, p: &[u8]) -> FreeName
-    ensures bytes_value { take result.len result.bytes
-        ≡ strange_of (held_urns t.now d.category d.at d.len d.nodes) (urn c (fields 58 p.now)) }
-    ensures short { (result.len ≤ length result.bytes) × (result.len ≤ 3) }
+pub fn strange(t: &[u8], d: &Decoded, c: u8, p: &[u8]) -> FreeName
+    ensures { take result.len result.bytes
+        ≡ strange_of (held_urns t.now d.now.category d.now.at d.now.len d.now.nodes) (urn c (fields 58 p.now)) }
 {
-    let n = at_most(d.nodes, MOST_NODES);
-    let k = search::first_part(t, &d.category, &d.at, &d.len, n, c, p);
-    z_name(k)
+    FreeName::new(search::first_part(t, d, c, p))
 }

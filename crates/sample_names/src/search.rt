@@ -1,78 +1,37 @@
 // The search for the first name that is not taken, as a category or as a part of a path.
-ghost use Rattle.std.specs.Prelude.{◌≡◌, List, ◌∷◌, ◌++◌, ◌≤◌, ◌<◌, length, get_or};
+ghost use Rattle.std.specs.Prelude.{◌≡◌, ◌∷◌, ◌++◌, ◌≤◌, ◌&&◌, ltb, min};
 ghost use Rattle.base_numbers.specs.Numbers.{most_categories, most_nodes};
-ghost use Rattle.base_lists.specs.Cuts.{stretch};
-ghost use Rattle.base_lists.specs.Lists.{member_by};
-ghost use Rattle.theory_resolution.specs.Names.{Name, same_name};
-ghost use Rattle.theory_resolution.specs.Table.{Urn, urn};
-ghost use Rattle.theory_resolution.specs.Nodes.{same_urn, is_node};
+ghost use Rattle.theory_resolution.specs.Names.{same_name};
+ghost use Rattle.theory_resolution.specs.Table.{urn};
+ghost use Rattle.theory_resolution.specs.Nodes.{same_urn};
 ghost use Rattle.base_text.specs.Text.{fields};
-ghost use Rattle.node_search.specs.Arrays.{NamesIn};
 ghost use Rattle.sample_names.specs.FirstFree.{first_free, name_taken, part_taken};
-ghost use Rattle.sample_names.specs.Held.{UrnsIn};
+ghost use Rattle.sample_names.specs.Held.{held_names, held_urn, held_urns};
 
-use crate::z_name;
+use crate::FreeName;
 use base_numbers::{MOST_CATEGORIES, MOST_NODES};
-use node_search::texts::{name_text, node_text};
+use base_text::compare::same;
+use node_search::texts::text_at;
+use table_decode::Decoded;
 
-// The text z is one of n categories.
-fn is_category(
-    t: &[u8],
-    at: &[u16; MOST_CATEGORIES],
-    len: &[u8; MOST_CATEGORIES],
-    n: usize,
-    z: &[u8],
-) -> bool
-    ensures { (names : List Name) → NamesIn t.now at.now len.now n names → result ≡ member_by same_name z.now names }
+// The k-th of the names is a category.
+fn name_taken(t: &[u8], d: &Decoded, k: usize) -> bool
+    ensures { k ≤ most_nodes → result ≡ name_taken (held_names t.now d.now.name_at d.now.name_len d.now.categories) k }
 {
-    let mut i = 0;
-    while i < n {
-        if base_text::compare::same(z, name_text(t, at, len, i)) {
-            return true;
-        }
-        i += 1;
-    }
-    false
+    let z = FreeName::new(k);
+    (0..d.categories.min(MOST_CATEGORIES)).any(|i| same(
+        z.text(),
+        text_at(t, &d.name_at, &d.name_len, i),
+    ))
 }
 
-// The k-th of the names is one of n categories.
-fn name_taken(
-    t: &[u8],
-    at: &[u16; MOST_CATEGORIES],
-    len: &[u8; MOST_CATEGORIES],
-    n: usize,
-    k: usize,
-) -> bool
-    requires { k ≤ most_nodes }
-    ensures { (names : List Name) → NamesIn t.now at.now len.now n names → result ≡ name_taken names k }
-{
-    let z = z_name(k);
-    let bytes = z.bytes;
-    let from = 0;
-    let to = z.len;
-    is_category(t, at, len, n, &bytes[from..to])
-}
-
-// The number of the first name that is none of n categories.
-pub(crate) fn first_name<'a>(
-    t: &[u8],
-    at: &'a [u16; MOST_CATEGORIES],
-    len: &'a [u8; MOST_CATEGORIES],
-    n: usize,
-) -> usize
-    requires { n ≤ most_categories }
-    ensures value { (names : List Name) → NamesIn t.now at.now len.now n names → result ≡ first_free (name_taken names) (length names) 0 }
+// The number of the first name that is no category.
+pub(crate) fn first_name(t: &[u8], d: &Decoded) -> usize
+    ensures value { result ≡ first_free (name_taken (held_names t.now d.now.name_at d.now.name_len d.now.categories)) (min d.now.categories most_categories) 0 }
     ensures few { result ≤ most_nodes }
 {
-    let mut k = 0;
-    while k < n {
-        if name_taken(t, at, len, n, k) {
-            k += 1;
-        } else {
-            return k;
-        }
-    }
-    k
+    let n = d.categories.min(MOST_CATEGORIES);
+    (0..n).find(|&k| !name_taken(t, d, k)).unwrap_or(n)
 }
 
 // The text w is p, a colon and z.
@@ -80,112 +39,30 @@ fn made_of(p: &[u8], z: &[u8], w: &[u8]) -> bool
     ensures { result ≡ same_name (p.now ++ 58 ∷ z.now) w.now }
 {
     let k = p.len();
-    let n = w.len();
-    if n <= k {
-        return false;
-    }
-    let a = 0;
-    if base_text::compare::same(p, &w[a..k]) {
-        if w[k] == b':' {
-            let from = k + 1;
-            return base_text::compare::same(z, &w[from..n]);
-        }
-        return false;
-    }
-    false
+    k < w.len() && same(p, &w[..k]) && w[k] == b':' && same(z, &w[k + 1..])
 }
 
 // The node at j is of category c, with the path p, a colon and z.
-fn node_is(
-    t: &[u8],
-    category: &[u8; MOST_NODES],
-    at: &[u16; MOST_NODES],
-    len: &[u8; MOST_NODES],
-    c: u8,
-    p: &[u8],
-    z: &[u8],
-    j: usize,
-) -> bool
-    requires { j < most_nodes }
-    ensures { (u : Urn) → get_or category.now j 0 ≡ u.cat → fields 58 (stretch t.now at.now len.now j) ≡ u.path
-        → result ≡ same_urn (urn c (fields 58 (p.now ++ 58 ∷ z.now))) u }
+fn node_is(t: &[u8], d: &Decoded, c: u8, p: &[u8], z: &[u8], j: usize) -> bool
+    ensures { result ≡ (ltb j most_nodes
+        && same_urn (urn c (fields 58 (p.now ++ 58 ∷ z.now))) (held_urn t.now d.now.category d.now.at d.now.len j)) }
 {
-    if c == category[j] {
-        let w = node_text(t, at, len, j);
-        return made_of(p, z, w);
-    }
-    false
+    j < MOST_NODES && c == d.category[j] && made_of(p, z, text_at(t, &d.at, &d.len, j))
 }
 
-// One of n nodes is of category c, with the path p, a colon and z.
-fn is_node(
-    t: &[u8],
-    category: &[u8; MOST_NODES],
-    at: &[u16; MOST_NODES],
-    len: &[u8; MOST_NODES],
-    n: usize,
-    c: u8,
-    p: &[u8],
-    z: &[u8],
-) -> bool
-    requires { n ≤ most_nodes }
-    ensures { (ns : List Urn) → UrnsIn t.now category.now at.now len.now n ns
-        → result ≡ is_node ns c (fields 58 (p.now ++ 58 ∷ z.now)) }
+// The k-th of the names makes a node, in category c under the path p.
+fn part_taken(t: &[u8], d: &Decoded, c: u8, p: &[u8], k: usize) -> bool
+    ensures { k ≤ most_nodes → result ≡ part_taken (held_urns t.now d.now.category d.now.at d.now.len d.now.nodes) (urn c (fields 58 p.now)) k }
 {
-    let mut j = 0;
-    while j < n {
-        if node_is(t, category, at, len, c, p, z, j) {
-            return true;
-        }
-        j += 1;
-    }
-    false
+    let z = FreeName::new(k);
+    (0..d.nodes.min(MOST_NODES)).any(|j| node_is(t, d, c, p, z.text(), j))
 }
 
-// The k-th of the names makes one of n nodes, in category c under the path p.
-fn part_taken(
-    t: &[u8],
-    category: &[u8; MOST_NODES],
-    at: &[u16; MOST_NODES],
-    len: &[u8; MOST_NODES],
-    n: usize,
-    c: u8,
-    p: &[u8],
-    k: usize,
-) -> bool
-    requires { (n ≤ most_nodes) × (k ≤ most_nodes) }
-    ensures { (ns : List Urn) → UrnsIn t.now category.now at.now len.now n ns
-        → result ≡ part_taken ns (urn c (fields 58 p.now)) k }
-{
-    let z = z_name(k);
-    let bytes = z.bytes;
-    let from = 0;
-    let to = z.len;
-    is_node(t, category, at, len, n, c, p, &bytes[from..to])
-}
-
-// The number of the first name that makes none of n nodes, in category c under the path p.
-pub(crate) fn first_part<'a>(
-    t: &[u8],
-    category: &'a [u8; MOST_NODES],
-    at: &'a [u16; MOST_NODES],
-    len: &'a [u8; MOST_NODES],
-    n: usize,
-    c: u8,
-    p: &[u8],
-) -> usize
-    requires { n ≤ most_nodes }
-    ensures value { (ns : List Urn) → UrnsIn t.now category.now at.now len.now n ns
-        → result ≡ first_free (part_taken ns (urn c (fields 58 p.now))) (length ns) 0 }
+// The number of the first name that makes no node, in category c under the path p.
+pub(crate) fn first_part(t: &[u8], d: &Decoded, c: u8, p: &[u8]) -> usize
+    ensures value { result ≡ first_free (part_taken (held_urns t.now d.now.category d.now.at d.now.len d.now.nodes) (urn c (fields 58 p.now))) (min d.now.nodes most_nodes) 0 }
     ensures few { result ≤ most_nodes }
 {
-    let mut k = 0;
-    while k < n {
-        if part_taken(t, category, at, len, n, c, p, k) {
-            k += 1;
-        } else {
-            return k;
-        }
-    }
-    k
+    let n = d.nodes.min(MOST_NODES);
+    (0..n).find(|&k| !part_taken(t, d, c, p, k)).unwrap_or(n)
 }

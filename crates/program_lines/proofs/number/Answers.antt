@@ -1,11 +1,10 @@
-use mathlib.Core.Path.{sym, ◌∙◌}
-use Rattle.program_lines.proofs.NumberLaws.{number-next, number-end}
-use borrow.Author.Rules.{rules}
+use Rattle.std.proofs.Common.{◌≡◌, ◌∙◌, rules}
+use Rattle.std.specs.List.{fold}
+use Rattle.program_lines.specs.Numbers.{more_digits}
+use Rattle.program_lines.proofs.NumberLaws.{number-fold}
 use Rattle.program_lines.proofs.number.Goals as goal
 
-pub loop-at-preserved : goal.loop-at-preserved
-loop-at-preserved c = c.loop-at.invariant ∙ number-next c.args.s.now
-    c.loop-at.n c.loop-at.at (search rules) _ c.more_digits-n.ensures
-
 pub returns : goal.returns
-returns c = sym (c.loop-at.invariant ∙ number-end c.args.s.now c.loop-at.n c.loop-at.at (search rules))
+returns c =
+    let e : c.fold.result ≡ fold (λ n b. more_digits n b) 0 c.args.s.now = search rules in
+    e ∙ number-fold 0 c.args.s.now

@@ -1,85 +1,67 @@
-use Prim.Native.Nat.{suc}
-use mathlib.Core.Path.{refl, ◌∙◌}
-use lib.ListN.{length-set}
-use native.Mathlib.Omega.{arith}
+use Rattle.std.proofs.Common.{ℕ, suc, ◌+◌, ap, refl, ◌∙◌, arith, length-set}
+use Rattle.sample_library.proofs.WriteLaws.{kept}
+use Rattle.sample_seed.specs.Numbers.{next_of, choice_of}
 use Rattle.sample_library.proofs.ValueLaws.{few-choice}
-use Rattle.sample_library.proofs.WholeValue.{value-few, after_first, after_more, after-all}
+use Rattle.sample_library.proofs.WholeValue.{value_up_to, value-few, after_first, after_more, after-all}
 use Rattle.sample_library.proofs.entries.Goals as goal
 
-pub loop-k-init : goal.loop-k-init
-loop-k-init c = let buf = c.args.buf.now in
-    (omega arith, refl, (after_first _ c.requires.0.formed _ buf c.entry-w.ensures).0, λ o e. e)
+pub loop-init : goal.loop-init
+loop-init c =
+    let first = after_first c.args.t.now c.requires.0.formed (next_of c.args.seed.now.x) c.args.buf.now c.draw.ensures.1 c.entry-len.ensures in
+    (kept c.args.buf.now 0 (value_up_to c.args.t.now (next_of c.args.seed.now.x) 1) first.1, first.0, first.1)
 
-pub bounds-buf-comma : goal.bounds-buf-comma
-bounds-buf-comma c = let inv = c.loop-k.invariant in let buf-given = c.buf-1.given in
-    let choice = c.choice-more.ensures in
-    let drawn-result = c.drawn-y.result in
+pub bounds-buf-len : goal.bounds-buf-len
+bounds-buf-len c =
+    let inv = c.loop.invariant in
     omega (
       arith,
-      inv.1,
-      buf-given,
-      inv.2.0,
-      value-few _ c.requires.0.formed drawn-result (suc c.loop-k.k),
-      c.loop-k-test.true,
-      choice,
-      few-choice drawn-result,
+      inv.0,
+      inv.1.0,
+      value-few c.args.t.now c.requires.0.formed (next_of c.args.seed.now.x) (suc c.loop.counter),
+      c.loop-test.true,
+      c.choice-more.ensures,
+      few-choice c.draw.result,
       c.requires.1,
     )
 
-pub overflow_add-at : goal.overflow_add-at
-overflow_add-at c = let choice = c.choice-more.ensures in
-    let drawn-result = c.drawn-y.result in
+pub overflow_add-len : goal.overflow_add-len
+overflow_add-len c =
+    let inv = c.loop.invariant in
     omega (
       arith,
-      c.loop-k.invariant.2.0,
-      value-few _ c.requires.0.formed drawn-result (suc c.loop-k.k),
-      c.loop-k-test.true,
-      choice,
-      few-choice drawn-result,
+      inv.1.0,
+      value-few c.args.t.now c.requires.0.formed (next_of c.args.seed.now.x) (suc c.loop.counter),
+      c.loop-test.true,
+      c.choice-more.ensures,
+      few-choice c.draw.result,
     )
 
-pub entry-w-requires-in-loop-k : goal.entry-w-requires-in-loop-k
-entry-w-requires-in-loop-k c = let inv = c.loop-k.invariant in let buf-given = c.buf-1.given in
-    let choice = c.choice-more.ensures in
-    let drawn-result = c.drawn-y.result in (
+pub entry-len-requires-in-loop : goal.entry-len-requires-in-loop
+entry-len-requires-in-loop c =
+    let inv = c.loop.invariant in (
       c.requires.0,
       omega (
         arith,
-        length-set c.loop-k.buf c.loop-k.w.len 44,
-        inv.1,
-        buf-given,
-        inv.2.0,
-        value-few _ c.requires.0.formed drawn-result (suc c.loop-k.k),
-        c.loop-k-test.true,
-        choice,
-        few-choice drawn-result,
+        length-set c.loop.buf c.loop.len 44,
+        inv.0,
+        inv.1.0,
+        value-few c.args.t.now c.requires.0.formed (next_of c.args.seed.now.x) (suc c.loop.counter),
+        c.loop-test.true,
+        c.choice-more.ensures,
+        few-choice c.draw.result,
         c.requires.1,
       ),
     )
 
-pub loop-k-smaller : goal.loop-k-smaller
-loop-k-smaller c = omega (arith, c.loop-k-test.true)
-
-pub loop-k-preserved : goal.loop-k-preserved
-loop-k-preserved c = let entry2 = c.entry-w-in-loop-k.ensures in let loop-test = c.loop-k-test.true in
-    let buf = c.loop-k.buf in
-    let inv = c.loop-k.invariant in
-    let k = c.loop-k.k in
-    let w = c.loop-k.w in (
-      omega (arith, loop-test),
-      c.buf-in-loop-k-1.given ∙ length-set buf w.len 44 ∙ inv.1,
-      (after_more _ c.requires.0.formed _ k {b = buf} inv.2 entry2).0,
-      λ o e. (after_more _ c.requires.0.formed _ k {b = buf} inv.2 entry2).1 o (inv.3 o e),
-    )
-
-pub shape_of-buf : goal.shape_of-buf
-shape_of-buf c = c.loop-k.invariant.1 ∙ c.buf-1.given
+pub loop-preserved : goal.loop-preserved
+loop-preserved c =
+    let inv = c.loop.invariant in
+    let more = after_more c.args.t.now c.requires.0.formed (next_of c.args.seed.now.x) c.loop.counter inv.1 c.entry-len-in-loop.ensures in
+    let written = more.1 c.args.buf.now inv.2 in
+    (kept c.args.buf.now 0 (value_up_to c.args.t.now (next_of c.args.seed.now.x) (suc (c.loop.counter + 1))) written, more.0, written)
 
 pub returns : goal.returns
-returns c = let inv = c.loop-k.invariant in let entry = c.entry-w.ensures in
-    let choice = c.choice-more.ensures in
-    let drawn = c.drawn-y.ensures in
-    let buf = c.args.buf.now in
-    let x = c.args.x in
-    after-all _ c.requires.0.formed x buf drawn choice (omega (arith, c.loop-k-test.false, inv.0)) c.requires.1 inv.2
-    (inv.3 _ (after_first _ c.requires.0.formed _ buf entry).1)
+returns c =
+    let inv = c.loop.invariant in
+    after-all c.args.t.now c.requires.0.formed c.args.seed.now.x c.args.buf.now refl
+    (c.choice-more.ensures ∙ ap (λ (z : ℕ). choice_of z 8) c.draw.ensures.0) (omega (arith, c.loop-test.false)) c.requires.1 inv.1 inv.2

@@ -2,4 +2,4 @@ use Rattle.sample_names.proofs.SearchLaws.{foreign-name}
 use Rattle.sample_names.proofs.foreign.Goals as goal
 
 pub returns : goal.returns
-returns c = record { bytes_value = foreign-name _ _ _ _ c.at_most-n.ensures.0 c.first_name-k.ensures.value c.z_name.ensures.0; short = (c.z_name.ensures.1, c.z_name.ensures.2) }
+returns c = foreign-name _ _ _ _ c.first_name.ensures.value (c.new.ensures c.first_name.ensures.few)

@@ -1,11 +1,9 @@
-use Prim.Native.Nat.{◌+◌, ◌-◌, ◌≤◌}
-use mathlib.Core.Path.{◌≡◌}
-use lib.ListN.{length, drop}
-use lib.Seq.{sets}
+use Rattle.std.proofs.Common.{◌≡◌, ◌+◌, length, drop}
+use Rattle.std.proofs.lemmas.List.Edits.{sets}
+use Rattle.sample_library.specs.Written.{in_row}
 use Rattle.sample_library.proofs.entry.put.Given as goal
 
-abbrev pub invariant-loop-i : goal.invariant-loop-i
-invariant-loop-i l = (l.i ≤ length l.s) × (sets l.initial.buf l.at l.s ≡ sets l.buf (l.at + l.i) (drop l.i l.s)) × (length l.buf ≡ length l.initial.buf)
-
-abbrev pub decreases-loop-i : goal.decreases-loop-i
-decreases-loop-i l = length l.s - l.i
+abbrev pub invariant-loop-s : goal.invariant-loop-s
+invariant-loop-s l = (length l.buf ≡ length l.initial.buf)
+    × (l.end + length (in_row (drop l.s-index l.texts)) ≡ l.at + length (in_row l.texts))
+    × (sets l.initial.buf l.at (in_row l.texts) ≡ sets l.buf l.end (in_row (drop l.s-index l.texts)))

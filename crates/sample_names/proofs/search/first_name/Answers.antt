@@ -1,19 +1,15 @@
-use native.Mathlib.Omega.{arith}
-use Rattle.sample_names.proofs.SearchLaws.{free-start, name-on, name-first, name-last}
+use Rattle.std.proofs.Common.{◌≡◌, ◌≤◌, ◌∙◌, arith, ap, rules, tests, true, false}
+use Rattle.std.proofs.lemmas.Iterator.{first_from_Range}
+use Rattle.sample_names.specs.FirstFree.{first_free, name_taken}
+use Rattle.sample_names.specs.Held.{held_names}
+use Rattle.sample_names.proofs.SearchLaws.{first-found}
 use Rattle.sample_names.proofs.search.first_name.Goals as goal
 
-pub loop-k-init : goal.loop-k-init
-loop-k-init c = (omega arith, λ names h. free-start _ _)
-
-pub loop-k-smaller : goal.loop-k-smaller
-loop-k-smaller c = omega (arith, c.loop-k-test.true)
-
-pub loop-k-preserved : goal.loop-k-preserved
-loop-k-preserved c = let loop-test = c.loop-k-test.true in let inv = c.loop-k.invariant in
-    (omega (arith, loop-test), name-on _ _ _ _ _ inv.1 loop-test c.name_taken.ensures c.if-name_taken.true)
-
-pub returns-else-name_taken : goal.returns-else-name_taken
-returns-else-name_taken c = let loop-test = c.loop-k-test.true in let inv = c.loop-k.invariant in record { value = name-first _ _ _ _ _ inv.1 loop-test c.name_taken.ensures c.if-name_taken.false; few = omega (arith, c.requires, loop-test) }
-
-pub returns : goal.returns
-returns c = record { value = name-last _ _ _ _ _ c.loop-k.invariant.1 c.loop-k-test.false; few = omega (arith, c.requires, c.loop-k.invariant.0) }
+pub returns-clause-value : goal.returns-clause-value
+returns-clause-value c =
+    let d = c.args.d.now in
+    let taken = name_taken (held_names c.args.t.now d.name_at d.name_len d.categories) in
+    let found = first_from_Range _ _ _ c.find.result (λ k. k ≤ 64 → taken k ≡ false) (λ k. k ≤ 64 → taken k ≡ true) c.find.ensures.ran
+    (λ x q k. search (rules, tests)) (λ x q k. search (rules, tests)) in
+    let few : c.min-n.result ≤ 64 = omega (arith, c.min-n.ensures) in
+    c.unwrap_or.ensures ∙ first-found taken c.min-n.result c.find.result few found ∙ ap (λ n. first_free taken n 0) c.min-n.ensures

@@ -1,19 +1,17 @@
-use native.Mathlib.Omega.{arith}
-use Rattle.sample_names.proofs.SearchLaws.{free-start, part-on, part-first, part-last}
+use Rattle.std.proofs.Common.{◌≡◌, ◌≤◌, ◌∙◌, arith, ap, rules, tests, true, false}
+use Rattle.std.proofs.lemmas.Iterator.{first_from_Range}
+use Rattle.theory_resolution.specs.Table.{urn}
+use Rattle.base_text.specs.Text.{fields}
+use Rattle.sample_names.specs.FirstFree.{first_free, part_taken}
+use Rattle.sample_names.specs.Held.{held_urns}
+use Rattle.sample_names.proofs.SearchLaws.{first-found}
 use Rattle.sample_names.proofs.search.first_part.Goals as goal
 
-pub loop-k-init : goal.loop-k-init
-loop-k-init c = (omega arith, λ T h. free-start _ _)
-
-pub loop-k-smaller : goal.loop-k-smaller
-loop-k-smaller c = omega (arith, c.loop-k-test.true)
-
-pub loop-k-preserved : goal.loop-k-preserved
-loop-k-preserved c = let loop-test = c.loop-k-test.true in let inv = c.loop-k.invariant in
-    (omega (arith, loop-test), part-on _ _ _ _ _ _ _ inv.1 loop-test c.part_taken.ensures c.if-part_taken.true)
-
-pub returns-else-part_taken : goal.returns-else-part_taken
-returns-else-part_taken c = let loop-test = c.loop-k-test.true in let inv = c.loop-k.invariant in record { value = part-first _ _ _ _ _ _ _ inv.1 loop-test c.part_taken.ensures c.if-part_taken.false; few = omega (arith, c.requires, loop-test) }
-
-pub returns : goal.returns
-returns c = let inv = c.loop-k.invariant in record { value = part-last _ _ _ _ _ _ _ inv.1 c.loop-k-test.false; few = omega (arith, c.requires, inv.0) }
+pub returns-clause-value : goal.returns-clause-value
+returns-clause-value c =
+    let d = c.args.d.now in
+    let taken = part_taken (held_urns c.args.t.now d.category d.at d.len d.nodes) (urn c.args.c (fields 58 c.args.p.now)) in
+    let found = first_from_Range _ _ _ c.find.result (λ k. k ≤ 64 → taken k ≡ false) (λ k. k ≤ 64 → taken k ≡ true) c.find.ensures.ran
+    (λ x q k. search (rules, tests)) (λ x q k. search (rules, tests)) in
+    let few : c.min-n.result ≤ 64 = omega (arith, c.min-n.ensures) in
+    c.unwrap_or.ensures ∙ first-found taken c.min-n.result c.find.result few found ∙ ap (λ n. first_free taken n 0) c.min-n.ensures
