@@ -1,7 +1,7 @@
 -- One turn of going through a value.
 use Prim.Native.Nat.{ℕ, zero, suc, ◌+◌, ◌-◌, ◌≤◌, ◌<◌}
-use mathlib.Core.Path.{◌≡◌, refl, sym, ap, ap₂, ◌∙◌, subst}
-use mathlib.Core.Bool.{Bool, true, false, cond, ◌&&◌, ◌||◌, or-true, true≢false}
+use mathlib.Core.Path.{◌≡◌, refl, sym, ap, ap₂, ◌∙◌}
+use mathlib.Core.Bool.{Bool, true, false, cond, ◌&&◌, ◌||◌, or-true}
 use mathlib.Core.List.{List, [], ◌∷◌}
 use lib.Dec.{leb}
 use lib.ListN.{length, take, drop}
@@ -111,48 +111,51 @@ module _ (t : List ℕ) (d : Decoded) (v : List ℕ) (st : Packed) (n at : ℕ) 
       first-nothing zero = refl
       first-nothing (suc m) = refl
 
-      module _ {e : Entry} (stands : e ≡ entry_of (entry_at v at)) where
-        pub run_more : {next : Packed} → e.fits ≡ true → e.last ≡ false → next ≡ after_uri t d st (part_of v e.span)
-            → all ≡ run_from t d v next (n + 1) e.next
-        unfolding run_from
-        run_more {next} =
-            subst (λ (e : Entry). e.fits ≡ true → e.last ≡ false → next ≡ after_uri t d st (part_of v e.span)
-            → all ≡ run_from t d v next (n + 1) e.next) (sym stands)
-            (go (entry_at v at) refl)
-          where
-            go : (f : Option Found) → f ≡ entry_at v at → (entry_of f).fits ≡ true → (entry_of f).last ≡ false → next ≡ after_uri t d st (part_of v (entry_of f).span)
-                → all ≡ run_from t d v next (n + 1) (entry_of f).next
-            go (Some (More p c)) here a b q =
-                inv ∙ ap (λ x. over st n (first_of (most_entries - n) x)) (front-more v at (Some (More p c)) here p c refl).0
-                ∙ ap (over st n) (first_more p (front_from v c.at))
-                ∙ one_more p (first_of (most_entries - (n + 1)) (front_from v c.at)).parts (first_of (most_entries - (n + 1)) (front_from v c.at)).ended
-                ∙ ap (λ s. over s (n + 1) (first_of (most_entries - (n + 1)) (front_from v c.at))) (sym q)
-            go (Some (Last p)) here a b q = absurd (true≢false b)
-            go None here a b q = absurd (true≢false (sym a))
+      module _ {o : Option Entry} (stands : o ≡ entry_of (entry_at v at)) where
+        module _ (e : Entry) (there : o ≡ Some e) where
+          pub run_more : {next : Packed} (m : ℕ) → e.next ≡ Some m → next ≡ after_uri t d st (part_of v e.span)
+              → all ≡ run_from t d v next (n + 1) m
+          unfolding run_from
+          run_more {next} m b q = go (entry_at v at) refl (sym there ∙ stands)
+            where
+              go : (f : Option Found) → f ≡ entry_at v at → Some e ≡ entry_of f → all ≡ run_from t d v next (n + 1) m
+              go (Some (More p c)) here s =
+                  let x : record { span = p; next = Some c.at } ≡ e = cc in
+                  let y : c.at ≡ m = let z = ap (λ (i : Entry). i.next) x ∙ b in cc in
+                  let w : next ≡ after_uri t d st (part_of v p) = q ∙ ap (λ (i : Entry). after_uri t d st (part_of v i.span)) (sym x) in
+                  inv ∙ ap (λ x. over st n (first_of (most_entries - n) x)) (front-more v at (Some (More p c)) here p c refl).0
+                  ∙ ap (over st n) (first_more p (front_from v c.at))
+                  ∙ one_more p (first_of (most_entries - (n + 1)) (front_from v c.at)).parts (first_of (most_entries - (n + 1)) (front_from v c.at)).ended
+                  ∙ ap (λ s. over s (n + 1) (first_of (most_entries - (n + 1)) (front_from v c.at))) (sym w)
+                  ∙ ap (λ (i : ℕ). over next (n + 1) (first_of (most_entries - (n + 1)) (front_from v i))) y
+              go (Some (Last p)) here s =
+                  let x : record { span = p; next = None } ≡ e = cc in
+                  let z = ap (λ (i : Entry). i.next) x ∙ b in absurd (let y : ◌≡◌ {A = ℕ} 0 1 = cc in omega arith)
+              go None here s = absurd (let y : ◌≡◌ {A = ℕ} 0 1 = cc in omega arith)
 
-        pub run-last : {next : Packed} → e.fits ≡ true → e.last ≡ true → next ≡ after_uri t d st (part_of v e.span) → reached_at true next (n + 1) ≡ all
-        unfolding run_from run_over
-        run-last {next} =
-            subst (λ (e : Entry). e.fits ≡ true → e.last ≡ true → next ≡ after_uri t d st (part_of v e.span)
-            → reached_at true next (n + 1) ≡ all) (sym stands)
-            (go (entry_at v at) refl)
-          where
-            go : (f : Option Found) → f ≡ entry_at v at → (entry_of f).fits ≡ true → (entry_of f).last ≡ true
-                → next ≡ after_uri t d st (part_of v (entry_of f).span) → reached_at true next (n + 1) ≡ all
-            go (Some (More p c)) here a b q = absurd (true≢false (sym b))
-            go (Some (Last p)) here a b q =
-                sym (inv ∙ ap (λ x. over st n (first_of (most_entries - n) x)) (front-last v at (Some (Last p)) here p refl)
-                ∙ ap (over st n) (first-only p) ∙ one_more p [] true
-                ∙ ap (λ s. reached_at true s (n + 1)) (sym q))
-            go None here a b q = absurd (true≢false (sym a))
+          pub run-last : {next : Packed} → e.next ≡ None → next ≡ after_uri t d st (part_of v e.span) → reached_at true next (n + 1) ≡ all
+          unfolding run_from run_over
+          run-last {next} b q = go (entry_at v at) refl (sym there ∙ stands)
+            where
+              go : (f : Option Found) → f ≡ entry_at v at → Some e ≡ entry_of f → reached_at true next (n + 1) ≡ all
+              go (Some (More p c)) here s =
+                  let x : record { span = p; next = Some c.at } ≡ e = cc in
+                  let z = ap (λ (i : Entry). i.next) x ∙ b in absurd (let y : ◌≡◌ {A = ℕ} 0 1 = cc in omega arith)
+              go (Some (Last p)) here s =
+                  let x : record { span = p; next = None } ≡ e = cc in
+                  let w : next ≡ after_uri t d st (part_of v p) = q ∙ ap (λ (i : Entry). after_uri t d st (part_of v i.span)) (sym x) in
+                  sym (inv ∙ ap (λ x. over st n (first_of (most_entries - n) x)) (front-last v at (Some (Last p)) here p refl)
+                  ∙ ap (over st n) (first-only p) ∙ one_more p [] true
+                  ∙ ap (λ s. reached_at true s (n + 1)) (sym w))
+              go None here s = absurd (let y : ◌≡◌ {A = ℕ} 0 1 = cc in omega arith)
 
-        pub run_none : e.fits ≡ false → reached_at false st n ≡ all
+        pub run_none : o ≡ None → reached_at false st n ≡ all
         unfolding run_from
-        run_none = subst (λ (e : Entry). e.fits ≡ false → reached_at false st n ≡ all) (sym stands) (go (entry_at v at) refl)
+        run_none none = go (entry_at v at) refl (sym none ∙ stands)
           where
-            go : (f : Option Found) → f ≡ entry_at v at → (entry_of f).fits ≡ false → reached_at false st n ≡ all
-            go (Some (More p c)) here a = absurd (true≢false a)
-            go (Some (Last p)) here a = absurd (true≢false a)
-            go None here a =
+            go : (f : Option Found) → f ≡ entry_at v at → None ≡ entry_of f → reached_at false st n ≡ all
+            go (Some (More p c)) here s = absurd (let y : ◌≡◌ {A = ℕ} 0 1 = cc in omega arith)
+            go (Some (Last p)) here s = absurd (let y : ◌≡◌ {A = ℕ} 0 1 = cc in omega arith)
+            go None here s =
                 sym (inv ∙ ap (λ x. over st n (first_of (most_entries - n) x)) (front-none v at None here refl)
                 ∙ ap (over st n) (first-nothing (most_entries - n)) ∙ no_more)

@@ -81,10 +81,9 @@ pub(crate) fn run(t: &[u8], d: Decoded, v: &[u8]) -> Reached
         if MOST_ENTRIES <= n {
             return ended(false, st, n);
         }
-        let e = entry_at(v, at);
-        if !e.fits {
+        let Some(e) = entry_at(v, at) else {
             return ended(false, st, n);
-        }
+        };
         let start = e.span.start;
         let end = start + e.span.len;
         let u = uses(
@@ -101,14 +100,14 @@ pub(crate) fn run(t: &[u8], d: Decoded, v: &[u8]) -> Reached
             &v[start..end],
         );
         let next = taken(&d.rows, &d.parent, &d.inner, d.signals, st, u);
-        if e.last {
+        let Some(after) = e.next else {
             return ended(true, next, n + 1);
-        }
+        };
         if !same(st, next) {
             ends = settled(&d.rows, &d.parent, &d.inner, d.signals, d.categories, next);
         }
         st = next;
         n += 1;
-        at = e.next;
+        at = after;
     }
 }

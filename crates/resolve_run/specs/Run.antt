@@ -78,10 +78,10 @@ unfoldable pub after : List ℕ → Decoded → Machine → Point → List ℕ �
 after t d m p uri = after_use d.rows d.parent d.inner d.signals m p (use_in t d uri)
 
 -- what stands at a place of a value: an entry with the place of the next, the last entry, or no entry
-abbrev pub entry_of : std.Option Found → Entry
-entry_of (Some (More p c)) = record { fits = true; last = false; span = p; next = c.at }
-entry_of (Some (Last p)) = record { fits = true; last = true; span = p; next = 0 }
-entry_of None = record { fits = false; last = true; span = record { start = 0; len = 0 }; next = 0 }
+abbrev pub entry_of : std.Option Found → std.Option Entry
+entry_of (Some (More p c)) = Some (record { span = p; next = Some c.at })
+entry_of (Some (Last p)) = Some (record { span = p; next = None })
+entry_of None = None
 
 -- the whole run over a reading of v, none where the value does not fit
 unfoldable pub over : {S : Type 0} → List ℕ → (S → List ℕ → S) → S → Reading → Option S

@@ -210,10 +210,9 @@ pub(crate) fn run(
     let mut at = 0;
     let mut p = from;
     loop {
-        let e = entry_at(v, at);
-        if !e.fits {
+        let Some(e) = entry_at(v, at) else {
             return ended(false, from);
-        }
+        };
         let start = e.span.start;
         let end = start + e.span.len;
         let u = uses(
@@ -232,9 +231,9 @@ pub(crate) fn run(
         p = taken(
             &d.rows, &d.parent, &d.inner, d.signals, index, symbols, count, categories, image, p, u,
         );
-        if e.last {
+        let Some(next) = e.next else {
             return ended(true, p);
-        }
-        at = e.next;
+        };
+        at = next;
     }
 }

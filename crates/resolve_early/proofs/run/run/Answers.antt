@@ -1,6 +1,5 @@
 use mathlib.Core.Path.{◌∙◌}
 use native.Mathlib.Omega.{arith}
-use borrow.Author.Tests.{not-true, not-false}
 use Rattle.resolve_run.proofs.RunLaws.{met}
 use Rattle.resolve_early.specs.SettledBy.{settled_by}
 use Rattle.resolve_early.proofs.SettledLaws.{same-settled}
@@ -24,20 +23,20 @@ pub returns-then-n-ge-MOST_ENTRIES : goal.returns-then-n-ge-MOST_ENTRIES
 returns-then-n-ge-MOST_ENTRIES c = c.ended-then-n-ge-MOST_ENTRIES.ensures ∙ run-full _ _ _ _ _ _ _ c.loop-ends.invariant.0 _
     c.loop-ends.invariant.1 c.if-ends.false c.if-n-ge-MOST_ENTRIES.true
 
-pub ended-requires-then-not-e : goal.ended-requires-then-not-e
-ended-requires-then-not-e c = c.loop-ends.invariant.2
+pub ended-requires-in_default : goal.ended-requires-in_default
+ended-requires-in_default c = c.loop-ends.invariant.2
 
-pub returns-then-not-e : goal.returns-then-not-e
-returns-then-not-e c = c.ended-then-not-e.ensures ∙ run_none _ _ _ _ _ _ _ c.loop-ends.invariant.0 _
+pub returns-in_default : goal.returns-in_default
+returns-in_default c = c.ended-in_default.ensures ∙ run_none _ _ _ _ _ _ _ c.loop-ends.invariant.0 _
     c.loop-ends.invariant.1
     c.if-ends.false c.if-n-ge-MOST_ENTRIES.false
-    c.entry_at-e.ensures (not-true _ c.if-not-e.true)
+    c.entry_at.ensures c.in_default.is
 
 pub overflow_add-end : goal.overflow_add-end
-overflow_add-end c = omega (arith, (met _ _ c.entry_at-e.ensures).inside)
+overflow_add-end c = omega (arith, (met _ _ c.entry_at.ensures _ c.in-Some.is).inside)
 
 pub slice_bounds-uses-end : goal.slice_bounds-uses-end
-slice_bounds-uses-end c = omega (arith, (met _ _ c.entry_at-e.ensures).inside)
+slice_bounds-uses-end c = omega (arith, (met _ _ c.entry_at.ensures _ c.in-Some.is).inside)
 
 pub overflow_add-n : goal.overflow_add-n
 overflow_add-n c = omega (
@@ -45,21 +44,20 @@ overflow_add-n c = omega (
   c.if-n-ge-MOST_ENTRIES.false,
 )
 
-pub ended-requires-then-e : goal.ended-requires-then-e
-ended-requires-then-e c = omega (
+pub ended-requires-in_default-next : goal.ended-requires-in_default-next
+ended-requires-in_default-next c = omega (
   arith,
   c.if-n-ge-MOST_ENTRIES.false,
 )
 
-pub returns-then-e : goal.returns-then-e
-returns-then-e c = let l = c.loop-ends.invariant in
-    let u = after-uri _ _ _ _ c.entry_at-e.result.span
+pub returns-in_default-next : goal.returns-in_default-next
+returns-in_default-next c = let l = c.loop-ends.invariant in
+    let u = after-uri _ _ _ _ c.in-Some.e.span
     c.uses-u.ensures c.taken-next.ensures in
-    c.ended-then-e.ensures ∙ run-last _ _ _ _ _ _ _ l.0 _ l.1
+    c.ended-in_default-next.ensures ∙ run-last _ _ _ _ _ _ _ l.0 _ l.1
     c.if-ends.false
     c.if-n-ge-MOST_ENTRIES.false
-    c.entry_at-e.ensures
-    (not-false _ c.if-not-e.false) c.if-e.true u
+    c.entry_at.ensures _ c.in-Some.is c.in_default-next.is u
 
 pub overflow_add-n-in-loop-ends : goal.overflow_add-n-in-loop-ends
 overflow_add-n-in-loop-ends c = omega (
@@ -70,20 +68,17 @@ overflow_add-n-in-loop-ends c = omega (
 pub loop-ends-smaller : goal.loop-ends-smaller
 loop-ends-smaller c = omega (
   arith,
-  (met _ _
-      c.entry_at-e.ensures).more
-      (not-false _ c.if-not-e.false) c.if-e.false,
+  (met _ _ c.entry_at.ensures _ c.in-Some.is).more _ c.in-Some-next.is,
 )
 
 pub loop-ends-preserved : goal.loop-ends-preserved
 loop-ends-preserved c = let l = c.loop-ends.invariant in
-    let fits = not-false _ c.if-not-e.false in
-    let u = after-uri _ _ _ _ c.entry_at-e.result.span
+    let u = after-uri _ _ _ _ c.in-Some.e.span
     c.uses-u.ensures c.taken-next.ensures in (
       run_more _ _ _ _ _ _ _ l.0 _ l.1
           c.if-ends.false
           c.if-n-ge-MOST_ENTRIES.false
-          c.entry_at-e.ensures fits c.if-e.false u,
+          c.entry_at.ensures _ c.in-Some.is _ c.in-Some-next.is u,
       elim c.if-not-same.branch [
         | then-not-same w ↦ w.ends-is ∙ w.settled-ends-then-not-same.ensures
         | else-not-same w ↦ w.ends-is ∙ same-settled (settled_by _ _ _ _ _) _ _ l.1 c.same.ensures w.if-not-same.false
@@ -92,5 +87,5 @@ loop-ends-preserved c = let l = c.loop-ends.invariant in
         arith,
         c.if-n-ge-MOST_ENTRIES.false,
       ),
-      ((met _ _ c.entry_at-e.ensures).more fits c.if-e.false).2,
+      ((met _ _ c.entry_at.ensures _ c.in-Some.is).more _ c.in-Some-next.is).2,
     )
