@@ -37,7 +37,7 @@ fn slot_of(st: Packed) -> usize
     (low * LOW_FACTOR + high * HIGH_FACTOR + usize::from(st.signal) * SIGNAL_FACTOR) / 65536 % SLOTS
 }
 
-// The states that are kept: so many, each as it was first met, and the hash table.
+// The states that are kept: so many, each as it was first met, and the hash table. A count beside an array, since memory is fixed.
 #[derive(Clone, Copy)]
 struct States {
     count: usize,
@@ -144,16 +144,24 @@ fn write_pair(pair: &mut [u8], st: Packed, categories: usize)
     }
 }
 
+// The row writer: it is lent a state's row, from its first byte to its last, and writes one target for each symbol.
+fn write_row(row: &mut [u8], targets: &[u8])
+    requires { length row.old ≡ length targets.now }
+    ensures { row.new ≡ targets.now }
+{
+    row.copy_from_slice(targets);
+}
+
 // A state in its stretch at a of the part, if that lies in it: its pair, then its row.
-fn write_state(part: &mut [u8], a: usize, st: Packed, categories: usize, row: &[u8])
-    requires { (a ≤ 65536) × (categories ≤ most_categories) × (length row.now ≤ most_symbols) }
-    ensures { Placed categories st row.now a part.old part.new }
+fn write_state(part: &mut [u8], a: usize, st: Packed, categories: usize, targets: &[u8])
+    requires { (a ≤ 65536) × (categories ≤ most_categories) × (length targets.now ≤ most_symbols) }
+    ensures { Placed categories st targets.now a part.old part.new }
 {
     let from = a + categories + 1;
-    let to = from + row.len();
+    let to = from + targets.len();
     if to <= part.len() {
         write_pair(&mut part[a..from], st, categories);
-        part[from..to].copy_from_slice(row);
+        write_row(&mut part[from..to], targets);
     }
 }
 

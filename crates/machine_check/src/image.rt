@@ -1,4 +1,5 @@
-// Reading an image, wherever its bytes come from: past its end every byte is 0.
+// Reading an image, wherever its bytes come from: past its end every byte is 0. The bytes and the number of categories are two
+// arguments, since the same bytes are read over the table's categories or, as a small image, over none.
 ghost use Rattle.std.specs.Prelude.{◌≡◌, ◌≤◌, ◌<◌, min, get_or};
 ghost use Rattle.base_numbers.specs.Numbers.{most_categories};
 ghost use Rattle.base_lists.specs.Numbers.{word_of};

@@ -5,7 +5,7 @@ ghost use Rattle.machine_library.specs.Matching.{refused_match, match_use};
 use node_search::uses::Used;
 
 // A refusal number, 0 if the table is well-formed; whether the URI is used; the category and the node or root; whether the URN
-// is that node; and how many bytes were compared.
+// is that node; and how many bytes were compared. Numbers for yes and no, since C reads it.
 #[repr(C)]
 #[derive(Clone, Copy)]
 pub struct Match {

@@ -20,6 +20,7 @@ use node_step::inner_at;
 pub const SLOTS: usize = MOST_CATEGORIES + 2 * MOST_NODES;
 
 // How many symbols there are, three bytes for each, and at each one's slot the number of the first that has this slot.
+// A count beside an array, since memory is fixed; and bytes, since an image stores them as they stand here.
 #[derive(Clone, Copy)]
 pub struct Symbols {
     pub count: usize,
