@@ -9,6 +9,9 @@ use lib.ListN.{length, take, replicate}
 use borrow.Author.Tests.{eqb-true, eqb-false, eq-eqb, ne_eqb}
 use native.Mathlib.Omega.{arith}
 use Rattle.base_numbers.specs.Numbers.{most_symbols}
+use Rattle.base_numbers.specs.Refusals.{refusal_number}
+use Rattle.base_numbers.specs.declared.refusal.Refusal.{Refusal}
+use Rattle.base_numbers.proofs.Refusals.{refusal-some}
 use Rattle.base_bytes.specs.Built.{refused}
 use Rattle.base_lists.proofs.Numbers.{min-le}
 use Rattle.theory_resolution.specs.Symbols.{symbols}
@@ -18,7 +21,7 @@ use Rattle.machine_image.specs.Refusals.{check_of}
 use Rattle.machine_image.proofs.Form.{Formed, form-to}
 use Rattle.machine_image.proofs.Check.{check-to}
 use Rattle.table_decode.specs.Tables.{table_of, table_refusal}
-use Rattle.table_decode.specs.Decoded.{Means}
+use Rattle.table_decode.specs.Decoded.{DecodedAs}
 use Rattle.node_search.specs.declared.decoded.Decoded.{Decoded}
 use Rattle.table_decode.specs.Accepted.{Accepted}
 use Rattle.table_decode.proofs.Accepting.{accepted}
@@ -90,25 +93,28 @@ pub given-some : (x : Option (List ℕ)) (p : List ℕ) (b : Bool) → x ≡ con
 given-some x p b e t = e ∙ rw t
 
 -- what is refused before
-module _ (t im : List ℕ) (k : ℕ) (e : k ≡ check_from t im) (n : k ≡ 0 → ⊥) where
+module _ (t im : List ℕ) (r : Refusal) (e : refusal_number r ≡ check_from t im) where
+  n : refusal_number r ≡ 0 → ⊥
+  n z = omega (arith, z, refusal-some r)
+
   other : eqb (check_from t im) 0 ≡ false
   other = ne_eqb (check_from t im) 0 (λ z. n (e ∙ z))
 
-  pub check-refused : (p : List ℕ) → k ≡ classes_refusal t im p
+  pub check-refused : (p : List ℕ) → refusal_number r ≡ classes_refusal t im p
   unfolding classes_refusal
   check-refused p = e ∙ sym (rw other)
 
-  propose-number : k ≡ propose_refusal t im
+  propose-number : refusal_number r ≡ propose_refusal t im
   unfolding propose_refusal
   propose-number = e ∙ sym (rw other)
 
-  pub write-refused : (p bytes : List ℕ) (room : ℕ) → (refused k ≡ answer_in (classes_refusal t im p) bytes room)
+  pub write-refused : (p bytes : List ℕ) (room : ℕ) → (refused (refusal_number r) ≡ answer_in (classes_refusal t im p) bytes room)
       × (replicate room 0 ≡ buffer_in (classes_refusal t im p) bytes room)
-  write-refused p bytes room = rw (← check-refused p) (answer-refused bytes room k n)
+  write-refused p bytes room = rw (← check-refused p) (answer-refused bytes room (refusal_number r) n)
 
-  pub propose-refused : (bytes : List ℕ) (room : ℕ) → (refused k ≡ answer_in (propose_refusal t im) bytes room)
+  pub propose-refused : (bytes : List ℕ) (room : ℕ) → (refused (refusal_number r) ≡ answer_in (propose_refusal t im) bytes room)
       × (replicate room 0 ≡ buffer_in (propose_refusal t im) bytes room)
-  propose-refused bytes room = rw (← propose-number) (answer-refused bytes room k n)
+  propose-refused bytes room = rw (← propose-number) (answer-refused bytes room (refusal_number r) n)
 
 both_zero : (b : Bool) (x r : ℕ) → eqb r 0 ≡ b → ◌≡◌ {A = ℕ} (cond b x r) 0 → (r ≡ 0) × (x ≡ 0)
 both_zero true x r e z = (eqb-true r 0 e, z)
@@ -189,9 +195,8 @@ module _ (t im : List ℕ) (z : check_from t im ≡ 0) where
     )
 
 -- the bytes before a state's targets: one for the signal, and one for each category
-pub head-is : (t : List ℕ) (r : Decoded) → Means t r → r.refusal ≡ 0 → (n : ℕ) → n ≡ min r.categories 8 → n + 1 ≡ 1 + (table_of t).cats
-head-is t r m z n e =
-    let h = m.holds (sym m.refusal ∙ z) in
+pub head-is : (t : List ℕ) (r : Decoded) → DecodedAs t r → (n : ℕ) → n ≡ min r.categories 8 → n + 1 ≡ 1 + (table_of t).cats
+head-is t r m n e =
     let w : n ≡ (table_of t).cats =
-    e ∙ ap (λ k. min k 8) h.categories ∙ sym (min-le (table_of t).cats 8 (accepted t (sym m.refusal ∙ z)).few-categories) in
+    e ∙ ap (λ k. min k 8) m.holds.categories ∙ sym (min-le (table_of t).cats 8 (accepted t m.refusal).few-categories) in
     omega (arith, w)

@@ -1,7 +1,7 @@
 // An accepted image handed to the check of a proposal, to the proposer and to the writer: as rows, with their counts.
-ghost use Rattle.std.specs.Prelude.{◌≡◌, ◌+◌, ◌*◌, ◌≤◌, ◌<◌, length, get_or, MatchResult};
+ghost use Rattle.std.specs.Prelude.{◌≡◌, ◌+◌, ◌*◌, ◌≤◌, length};
 ghost use Rattle.base_numbers.specs.Numbers.{most_states};
-ghost use Rattle.base_numbers.specs.Refusals.{refusal_number};
+ghost use Rattle.machine_check.specs.Checks.{check_number};
 ghost use Rattle.machine_image.specs.Image.{symbol_count, state_count};
 ghost use Rattle.small_classes.specs.Check.{stored_proposed};
 ghost use Rattle.small_write.specs.Answer.{answer_in, buffer_in};
@@ -11,24 +11,8 @@ ghost use Rattle.small_library.specs.Rows.{front_of, rows_of, machine_by};
 
 use base_bytes::Built;
 use base_numbers::{BAD_CLASSES, MOST_STATES, Refusal};
+use machine_check::image::{at, state_count};
 use small_rounds::Rows;
-
-// The byte at i, or 0 past the end.
-fn at(im: &[u8], i: usize) -> usize
-    ensures { (result ≡ get_or im.now i 0) × (result < 256) }
-{
-    usize::from(im.get(i).copied().unwrap_or(0))
-}
-
-// How many states the image says.
-fn state_count(im: &[u8]) -> usize
-    ensures { (result ≡ state_count im.now) × (result < 65536) }
-{
-    let k = at(im, 0);
-    let low = at(im, 3 * k + 1);
-    let high = at(im, 3 * k + 2);
-    low + 256 * high
-}
 
 // The states' rows, with so many bytes before a state's targets.
 fn rows(im: &[u8], head: usize) -> Rows
@@ -47,8 +31,7 @@ fn rows(im: &[u8], head: usize) -> Rows
 // Whether the proposal fits the machine in the image, with so many bytes before a state's targets.
 pub(crate) fn fit(im: &[u8], p: &[u8], head: usize) -> Result<(), Refusal>
     requires { 3 + 3 * symbol_count im.now ≤ length im.now }
-    ensures { MatchResult result (λ z. 0 ≡ fit_refusal (rows_of im.now) (state_count im.now) head (symbol_count im.now) p.now)
-        (λ k. refusal_number k ≡ fit_refusal (rows_of im.now) (state_count im.now) head (symbol_count im.now) p.now) }
+    ensures { check_number result ≡ fit_refusal (rows_of im.now) (state_count im.now) head (symbol_count im.now) p.now }
 {
     if small_classes::check(rows(im, head), p) {
         Ok(())

@@ -7,7 +7,7 @@
 //   c.rt      all of it as the crate small_library_c exports it for C
 #![tactic(auto)]
 
-use base_numbers::MOST_CATEGORIES;
+use base_numbers::{MOST_CATEGORIES, Refusal};
 
 pub mod c;
 mod image;
@@ -15,55 +15,35 @@ mod image;
 ghost use Rattle.std.specs.Prelude.{◌≡◌, length};
 ghost use Rattle.small_library.specs.Smaller.{classes_refusal, small_from, small_buffer, proposed_from, proposed_buffer};
 ghost use Rattle.small_library.specs.Rows.{Judges};
+ghost use Rattle.machine_check.specs.Checks.{check_number};
 
 pub use base_bytes::Built;
 
-// What the checker says of an image, and how many bytes each of its states has before the targets.
-#[derive(Clone, Copy)]
-struct Judged {
-    refusal: u8,
-    head: usize,
-}
-
-fn judge(t: &[u8], im: &[u8]) -> Judged
+// How many bytes each state of the image has before its targets, or what the checker says of it.
+fn judge(t: &[u8], im: &[u8]) -> Result<usize, Refusal>
     ensures { Judges t.now im.now result }
 {
-    let d = table_decode::decode(t);
-    let refused = d.refusal;
-    if refused != 0 {
-        return Judged {
-            refusal: refused,
-            head: 0,
-        };
-    }
-    let s = machine_symbols::list(&d.category, &d.inner, d.nodes, d.categories);
-    let refusal = machine_check::check_by(
-        &d.rows,
-        &d.parent,
-        &d.inner,
-        &d.category,
-        d.nodes,
-        d.signals,
-        d.categories,
-        &s.bytes,
-        s.count,
-        im,
-    );
-    let head = base_bytes::numbers::at_most(d.categories, MOST_CATEGORIES) + 1;
-    Judged { refusal, head }
+    let d = table_decode::decode(t)?;
+    let s = machine_symbols::list(&d);
+    machine_check::check_by(&d, &s, im)?;
+    Ok(d.categories.min(MOST_CATEGORIES) + 1)
+}
+
+// The proposal fits the image's machine, or what is wrong.
+fn checked(t: &[u8], im: &[u8], p: &[u8]) -> Result<(), Refusal>
+    ensures { check_number result ≡ classes_refusal t.now im.now p.now }
+{
+    let head = judge(t, im)?;
+    image::fit(im, p, head)
 }
 
 // 0 if the proposal fits the image's machine, else the number of what is wrong.
 pub fn check(t: &[u8], im: &[u8], p: &[u8]) -> u8
     ensures { result ≡ classes_refusal t.now im.now p.now }
 {
-    let j = judge(t, im);
-    if j.refusal != 0 {
-        return j.refusal;
-    }
-    match image::fit(im, p, j.head) {
+    match checked(t, im, p) {
         Ok(()) => 0,
-        Err(k) => u8::from(k),
+        Err(r) => u8::from(r),
     }
 }
 
@@ -73,11 +53,10 @@ pub fn write(t: &[u8], im: &[u8], p: &[u8], buf: &mut [u8]) -> Built
     ensures value { result ≡ small_from t.now im.now p.now (length buf.old) }
     ensures buf_after { buf.new ≡ small_buffer t.now im.now p.now (length buf.old) }
 {
-    let j = judge(t, im);
-    if j.refusal != 0 {
-        return base_bytes::refuse(buf, j.refusal);
+    match judge(t, im) {
+        Ok(head) => image::write(im, p, buf, head),
+        Err(r) => base_bytes::refuse(buf, u8::from(r)),
     }
-    image::write(im, p, buf, j.head)
 }
 
 // The smallest machine's proposal, its classes numbered by their first states, written to the buffer in the same way.
@@ -85,9 +64,8 @@ pub fn propose(t: &[u8], im: &[u8], buf: &mut [u8]) -> Built
     ensures value { result ≡ proposed_from t.now im.now (length buf.old) }
     ensures buf_after { buf.new ≡ proposed_buffer t.now im.now (length buf.old) }
 {
-    let j = judge(t, im);
-    if j.refusal != 0 {
-        return base_bytes::refuse(buf, j.refusal);
+    match judge(t, im) {
+        Ok(head) => image::propose(im, buf, head),
+        Err(r) => base_bytes::refuse(buf, u8::from(r)),
     }
-    image::propose(im, buf, j.head)
 }

@@ -1,16 +1,22 @@
-use mathlib.Core.Path.{◌∙◌}
+use Rattle.std.proofs.Common.{rules, ap, sym, ◌∙◌}
+use Rattle.std.proofs.lemmas.Result.{err_from_is_err_and}
+use Rattle.machine_check.specs.Checks.{check_number}
 use Rattle.machine_library.proofs.TableRight.{refused-check, table-check}
 use Rattle.small_library.proofs.AnswerLaws.{head-is}
 use Rattle.small_library.proofs.judge.Goals as goal
 
-pub returns-then-refused-ne0 : goal.returns-then-refused-ne0
-returns-then-refused-ne0 c = let e = refused-check c.args.t.now c.decode-d.result c.decode-d.ensures c.if-refused-ne0.true c.args.im.now in
-    record { number = e; head = λ z. absurd (c.if-refused-ne0.true (e ∙ z)) }
+pub returns-in_err-d : goal.returns-in_err-d
+returns-in_err-d c = let p = err_from_is_err_and c.from_residual.result c.from_residual.ensures.1 in
+    rw (p.1, p.2) (refused-check c.args.t.now _ c.in_err-d.ensures c.args.im.now)
+
+pub returns-in_err-check_by : goal.returns-in_err-check_by
+returns-in_err-check_by c =
+    let p = err_from_is_err_and c.from_residual-in_err-check_by.result c.from_residual-in_err-check_by.ensures.1 in
+    rw (p.1, p.2)
+    (ap check_number c.in_err-check_by.ensures ∙ table-check c.args.t.now c.in_ok-d.d c.in_ok-d.ensures c.list-s.result c.list-s.ensures c.args.im.now)
 
 pub returns : goal.returns
-returns c = let t = c.args.t.now in
-    record {
-      number = c.check_by-refusal.ensures ∙ table-check t c.decode-d.result c.decode-d.ensures c.if-refused-ne0.false c.list-s.result c.list-s.ensures
-          c.args.im.now;
-      head = λ z. head-is t c.decode-d.result c.decode-d.ensures c.if-refused-ne0.false c.at_most-head.result c.at_most-head.ensures.0;
-    }
+returns c = (
+  sym (ap check_number c.in_ok-check_by.ensures ∙ table-check c.args.t.now c.in_ok-d.d c.in_ok-d.ensures c.list-s.result c.list-s.ensures c.args.im.now),
+  head-is c.args.t.now c.in_ok-d.d c.in_ok-d.ensures c.min.result (search rules),
+)
