@@ -15,7 +15,7 @@ ghost use Rattle.tree_bytes.specs.Laid.{answer, finished};
 use base_bytes::Built;
 use base_numbers::FORM_NO_ROOM;
 
-// The first n bytes of the buffer are a form: zeros after them if it fits, else 22.
+// The first n bytes of the buffer are a form: zeros after them if it fits, else 22. The answer is the one that C gets.
 pub fn finish(buf: &mut [u8], n: usize, fits: bool) -> Built
     ensures value { result ≡ answer (finished buf.old n fits) }
     ensures buf_after { buf.new ≡ (finished buf.old n fits).buffer }

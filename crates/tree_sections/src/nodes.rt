@@ -35,7 +35,7 @@ fn read_node(t: &[u8], at: usize) -> Result<Found, Refusal>
     })
 }
 
-// n nodes, from a position on.
+// n nodes, from a position on. The arrays are lent one by one: of a lent `Sections` each contract would have to say what stays.
 fn read_nodes(
     t: &[u8],
     from: usize,
