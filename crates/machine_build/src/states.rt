@@ -37,7 +37,7 @@ fn slot_of(st: Packed) -> usize
     (low * LOW_FACTOR + high * HIGH_FACTOR + usize::from(st.signal) * SIGNAL_FACTOR) / 65536 % SLOTS
 }
 
-// The states that are kept: so many, each as it was first met, and the hash table. A count beside an array, since memory is fixed.
+// The states that are kept: so many, each as it was first met, and the hash table. A count beside an array: memory is fixed.
 #[derive(Clone, Copy)]
 struct States {
     count: usize,

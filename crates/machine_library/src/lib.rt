@@ -1,7 +1,7 @@
 // Signal tables and their machines: the builder and the checker, and what a URI is to a table.
 //
-// In: a table, an image, a URI, each any bytes, and a buffer. Out: a refusal number; the image's length, and the whole buffer; or the
-// URI's category and node.
+// In: a table, an image, a URI, each any bytes, and a buffer. Out: a refusal number; the image's length, and the whole buffer; or
+// the URI's category and node.
 //
 //   matching.rt  what a URI is to a table
 //   c.rt         all of it as the crate machine_library_c exports it for C

@@ -1,4 +1,5 @@
-// A table's symbols as they are stored, listed from its nodes' categories and from which of them have nodes under them; and the number of a URN's symbol.
+// A table's symbols as they are stored, listed from its nodes' categories and from which of them have nodes under them; and the
+// number of a URN's symbol.
 //
 // In: a decoded table. Out: its symbols with their index, the number of a URN's symbol, and the state after one.
 //
