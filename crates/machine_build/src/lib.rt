@@ -7,7 +7,7 @@
 
 mod states;
 
-ghost use Rattle.std.specs.Prelude.{◌≡◌, ◌+◌, ◌*◌, ◌≤◌, min, length, OnOk};
+ghost use Rattle.std.specs.Prelude.{◌≡◌, ◌+◌, ◌*◌, ◌≤◌, min, length, OnOk, OnErr, replicate};
 ghost use Rattle.base_numbers.specs.Numbers.{most_categories, most_states, most_symbols};
 ghost use Rattle.machine_symbols.specs.Steps.{next_state};
 ghost use Rattle.machine_build.specs.States.{head_bytes, built_by, buffer_by};
@@ -29,7 +29,7 @@ fn put_head(symbols: &Symbols, count: usize, n: usize, head: &mut [u8])
 }
 
 // The machine of a table with these symbols: the image and zeros after it, or, if it is refused, any bytes.
-pub fn build_by(d: &Decoded, symbols: &Symbols, buf: &mut [u8]) -> Result<usize, Refusal>
+fn write_image(d: &Decoded, symbols: &Symbols, buf: &mut [u8]) -> Result<usize, Refusal>
     ensures value { result ≡ built_by (next_state d.now.rows d.now.parent d.now.inner d.now.signals symbols.now.bytes)
         (min d.now.categories most_categories) (min symbols.now.count most_symbols) (length buf.old) }
     ensures buf_after { OnOk result (buf.new ≡ buffer_by (next_state d.now.rows d.now.parent d.now.inner d.now.signals symbols.now.bytes)
@@ -48,4 +48,19 @@ pub fn build_by(d: &Decoded, symbols: &Symbols, buf: &mut [u8]) -> Result<usize,
     put_head(symbols, count, n, &mut buf[..head]);
     buf[size..].fill(0);
     Ok(size)
+}
+
+// The same, with the whole buffer zero if it is refused.
+pub fn build_by(d: &Decoded, symbols: &Symbols, buf: &mut [u8]) -> Result<usize, Refusal>
+    ensures value { result ≡ built_by (next_state d.now.rows d.now.parent d.now.inner d.now.signals symbols.now.bytes)
+        (min d.now.categories most_categories) (min symbols.now.count most_symbols) (length buf.old) }
+    ensures buf_after { OnOk result (buf.new ≡ buffer_by (next_state d.now.rows d.now.parent d.now.inner d.now.signals symbols.now.bytes)
+        (min d.now.categories most_categories) (min symbols.now.count most_symbols) symbols.now.bytes (length buf.old)) }
+    ensures refused { OnErr result (buf.new ≡ replicate (length buf.old) 0) }
+{
+    let written = write_image(d, symbols, buf);
+    if written.is_err() {
+        buf.fill(0);
+    }
+    written
 }

@@ -7,7 +7,7 @@ use Rattle.base_lists.proofs.Numbers.{min-le}
 use Rattle.machine_symbols.specs.Steps.{next_state}
 use Rattle.machine_build.specs.States.{built_by, buffer_by}
 use Rattle.machine_build.proofs.WriteLaws.{build-many, build-short, build-done, buffer-done}
-use Rattle.machine_build.proofs.build_by.Goals as goal
+use Rattle.machine_build.proofs.write_image.Goals as goal
 
 pub returns-in_err-n-clause-value : goal.returns-in_err-n-clause-value
 returns-in_err-n-clause-value c = let next = next_state c.args.d.now.rows c.args.d.now.parent c.args.d.now.inner c.args.d.now.signals c.args.symbols.now.bytes in
