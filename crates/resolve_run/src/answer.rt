@@ -3,20 +3,22 @@ ghost use Rattle.std.specs.Prelude.{◌≡◌, cond, ◌+◌, ◌≤◌, suc, eq
 ghost use Rattle.base_numbers.specs.Numbers.{most_value_bytes};
 ghost use Rattle.value_reader.specs.Value.{refusal_of};
 ghost use Rattle.resolve_run.specs.Answers.{refused as refused_with};
-ghost use Rattle.resolve_run.specs.Run.{signal_now, unwalked, answer_of, ended_from};
+ghost use Rattle.resolve_run.specs.declared.run.Current.TheVariants.{Direct};
+ghost use Rattle.resolve_run.specs.Run.{signal_now, answer_of, ended_from};
 
 use crate::Resolution;
-use crate::run::{Current, Outcome, begin_at, run};
+use crate::run::{Current, Point, begin_at, run};
 use base_numbers::{
     MOST_ENTRIES, MOST_VALUE_BYTES, TOO_MANY_ENTRIES, VALUE_MISFIT, VALUE_TOO_LONG,
 };
+use node_step::State;
 use table_decode::Decoded;
 
 // Where a resolver ends: its answer, and where it is.
 #[derive(Clone, Copy)]
-pub struct Ended {
+pub struct Ended<'a> {
     pub answer: Resolution,
-    pub last: Current,
+    pub last: Current<'a>,
 }
 
 // Refused: all zero but the number.
@@ -36,10 +38,7 @@ pub fn first_number(v: &[u8], k: u8) -> u8
     ensures { result ≡ cond (eqb (refusal_of v.now) 0) k (refusal_of v.now) }
 {
     let n = value_reader::refusal(v);
-    if n == 0 {
-        return k;
-    }
-    n
+    if n == 0 { k } else { n }
 }
 
 // Refused with that number.
@@ -50,51 +49,37 @@ pub fn value_first(v: &[u8], k: u8) -> Resolution
 }
 
 // The signal where a resolver is.
-fn signal_in(categories: usize, image: &[u8], current: Current) -> u8
-    ensures { result ≡ signal_now categories image.now current }
+#[tactic(auto, unfolding(crate::specs::Run::signal_now))]
+fn signal_at(x: Current) -> u8
+    ensures { result ≡ signal_now x.entry }
 {
-    if current.walks {
-        return machine_check::image::signal(image, categories, current.number);
+    match x {
+        Current::Direct { state, tries: _ } => state.signal,
+        Current::Walking(walk, j) => walk.signal(j),
     }
-    let st = current.state;
-    st.signal
 }
 
 // The answer at the end of a value.
-fn answer(o: Outcome, signal: u8) -> Resolution
-    requires { o.point.used + o.point.skipped ≤ suc most_value_bytes }
-    ensures { result ≡ answer_of o signal }
+#[tactic(auto, unfolding(crate::specs::Run::answer_of))]
+fn answer(p: Point) -> Resolution
+    requires { p.used + p.skipped ≤ suc most_value_bytes }
+    ensures { result ≡ answer_of p.entry (signal_now p.entry.current) }
 {
-    if !o.fits {
-        return refused(VALUE_MISFIT);
-    }
-    let used = o.point.used;
-    let skipped = o.point.skipped;
-    if MOST_ENTRIES < used + skipped {
+    if MOST_ENTRIES < p.used + p.skipped {
         return refused(TOO_MANY_ENTRIES);
     }
     Resolution {
         refusal: 0,
-        signal,
-        used: used as u8,
-        skipped: skipped as u8,
+        signal: signal_at(p.current),
+        used: p.used as u8,
+        skipped: p.skipped as u8,
     }
 }
 
-// A whole value, from where a resolver begins; no candidate is tried yet. The states of the image have a byte for each of so many
-// categories: the table's, or none in a small image.
-pub fn resolved(
-    t: &[u8],
-    d: Decoded,
-    index: &[u8],
-    symbols: &[u8],
-    count: usize,
-    categories: usize,
-    image: &[u8],
-    from: Current,
-    v: &[u8],
-) -> Ended
-    ensures { result ≡ ended_from t.now d (record { index = index.entry.now; symbols = symbols.now; count = count; categories = categories; image = image.now }) from v.now }
+// A whole value, from where a resolver begins; no candidate is tried yet.
+#[tactic(auto, unfolding(crate::specs::Run::ended_from))]
+pub fn resolved<'a>(t: &[u8], d: &Decoded, from: Current<'a>, v: &[u8]) -> Ended<'a>
+    ensures { result ≡ ended_from t.now d.now from.entry v.now }
 {
     if MOST_VALUE_BYTES < v.len() {
         return Ended {
@@ -102,29 +87,22 @@ pub fn resolved(
             last: from,
         };
     }
-    let o = run(
-        t,
-        d,
-        index,
-        symbols,
-        count,
-        categories,
-        image,
-        begin_at(from),
-        v,
-    );
-    let p = o.point;
-    let last = p.current;
-    let signal = signal_in(categories, image, last);
-    let answer = answer(o, signal);
-    Ended { answer, last }
+    let first = begin_at(from);
+    match run(t, d, first, v) {
+        Some(p) => Ended {
+            answer: answer(p),
+            last: p.current,
+        },
+        None => Ended {
+            answer: refused(VALUE_MISFIT),
+            last: first.current,
+        },
+    }
 }
 
-// The same by direct resolution, which needs no image: all that a walk goes by is empty.
-pub fn direct(t: &[u8], d: Decoded, from: Current, v: &[u8]) -> Ended
-    ensures { result ≡ ended_from t.now d unwalked from v.now }
+// The same by direct resolution from this state.
+pub fn direct<'a>(t: &[u8], d: &Decoded, state: State, v: &[u8]) -> Ended<'a>
+    ensures { result ≡ ended_from t.now d.now (Direct state 0) v.now }
 {
-    let z = 0;
-    let empty = &t[z..z];
-    resolved(t, d, empty, empty, 0, 0, empty, from, v)
+    resolved(t, d, Current::Direct { state, tries: 0 }, v)
 }
