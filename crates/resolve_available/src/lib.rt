@@ -14,30 +14,27 @@ ghost use Rattle.table_decode.specs.Decoded.{Means};
 ghost use Rattle.resolve_available.specs.Available.{has_bit, known, available_of};
 ghost use Rattle.resolve_available.specs.Rows.{rows_among, among as among_of};
 
-use base_bytes::numbers::at_most;
 use base_numbers::{MOST_SIGNALS, UNKNOWN_AVAILABLE};
 use resolve_run::Resolution;
 use resolve_run::answer::{direct, value_first};
-use resolve_run::run::at_start;
+use resolve_run::run::start;
 use table_decode::Decoded;
 
 // Each bit of the set is one of so many signals, of which there are at most 32.
 pub fn is_known(set: u32, signals: usize) -> bool
     ensures { result ≡ known set (min signals most_signals) }
 {
-    let n = at_most(signals, MOST_SIGNALS);
-    let bits = set as u64;
-    bits >> n == 0
+    u64::from(set) >> signals.min(MOST_SIGNALS) == 0
 }
 
 // The decoded table with the rows of the available signals.
 pub fn among(d: Decoded, set: u32) -> Decoded
     ensures { result ≡ among_of (rows_among (has_bit set) d.rows) d }
 {
-    let rows = rows::only(&d.rows, set);
-    let mut kept = d;
-    kept.rows = rows;
-    kept
+    Decoded {
+        rows: rows::only(&d.rows, set),
+        ..d
+    }
 }
 
 // The value v with the table t, decoded as d, and the signals of the set, bit s for signal s.
@@ -50,8 +47,7 @@ fn by(t: &[u8], d: Decoded, set: u32, v: &[u8]) -> Resolution
     if !is_known(set, d.signals) {
         return value_first(v, UNKNOWN_AVAILABLE);
     }
-    let e = direct(t, among(d, set), at_start(), v);
-    e.answer
+    direct(t, &among(d, set), start(), v).answer
 }
 
 // The value v with the table t and the signals of the set, bit s for signal s.

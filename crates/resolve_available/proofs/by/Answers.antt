@@ -1,4 +1,6 @@
 use mathlib.Core.Path.{sym, ap, ◌∙◌}
+use Rattle.node_step.specs.declared.State.{State}
+use Rattle.resolve_run.specs.declared.run.Current.TheVariants.{Direct}
 use Rattle.resolve_available.specs.Available.{known}
 use Rattle.resolve_available.proofs.AnswerLaws.{signals-few, available-table, available-strange, available-right}
 use Rattle.resolve_available.proofs.by.Goals as goal
@@ -16,5 +18,5 @@ pub returns : goal.returns
 returns c = λ m.
     let z = sym m.refusal ∙ c.if-d-ne0.false in
     available-right _ _ _ z _ (m.holds z) (sym (c.is_known.ensures
-    ∙ ap (known _) (signals-few _ _ (m.holds z))) ∙ c.if-not-is_known.false) _
-    c.at_start.ensures c.among.ensures c.direct-e.ensures
+    ∙ ap (known _) (signals-few _ _ (m.holds z))) ∙ c.if-not-is_known.false)
+    (ap (λ (st : State). Direct st 0) c.start.ensures) c.among.ensures c.direct.ensures
