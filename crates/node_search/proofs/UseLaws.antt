@@ -20,12 +20,12 @@ use Rattle.urn_names.specs.Urn.{alert_urn}
 use Rattle.base_text.proofs.Cases.{lowered-length, lowered-ends, lowered-up_to, lowered-past}
 use Rattle.base_text.proofs.Turns.{differ-next}
 use Rattle.node_search.specs.declared.uses.Search.{Search}
-use Rattle.node_search.specs.declared.uses.Use.TheVariants.{Skipped}
+use Rattle.std.specs.Prelude.{Option, Some, None}
 use Rattle.node_search.specs.Search.{find_name, nothing, covers_by, met_with, counted_in, look_by, look_at, search_from, found_in, used_by, uses_of}
 
 module _ (t s na nl : List ℕ) (n i : ℕ) (v : find_name t na nl s 0 n ≡ find_name t na nl s i (n - i)) where
   module _ {b : Bool} (h : i < n) (e : b ≡ same_name s (stretch t na nl i)) where
-    pub name-found : b ≡ true → i ≡ find_name t na nl s 0 n
+    pub name-found : b ≡ true → Some i ≡ find_name t na nl s 0 n
     unfolding find_name
     name-found q = let m : n - i ≡ suc (n - (i + 1)) = omega arith in sym (v ∙ rw (m, sym e ∙ q))
 
@@ -33,7 +33,7 @@ module _ (t s na nl : List ℕ) (n i : ℕ) (v : find_name t na nl s 0 n ≡ fin
     unfolding find_name
     name-more q = let m : n - i ≡ suc (n - (i + 1)) = omega arith in v ∙ rw (m, sym e ∙ q)
 
-  pub name-none : n ≤ i → 8 ≡ find_name t na nl s 0 n
+  pub name-none : n ≤ i → None ≡ find_name t na nl s 0 n
   unfolding find_name
   name-none h = let m : n - i ≡ 0 = omega arith in sym (v ∙ rw m)
 
@@ -145,27 +145,27 @@ module _ (t ca pos len sh : List ℕ) (inner : List Bool) (c : ℕ) (w : List �
   search-done h = let m : n - i ≡ 0 = omega arith in sym (v ∙ ap (λ k. search_from t ca pos len sh inner c w i k s) m)
 
 module _ (t na nl : List ℕ) (k : ℕ) (ca pos len sh : List ℕ) (inner : List Bool) (n : ℕ) (uri : List ℕ) {a : Bool} (f : a ≡ alert_urn uri) where
-  pub uses-other : a ≡ false → Skipped ≡ uses_of t na nl k ca pos len sh inner n uri
+  pub uses-other : a ≡ false → None ≡ uses_of t na nl k ca pos len sh inner n uri
   unfolding uses_of
   uses-other e = simp (sym f ∙ e)
 
-  module _ (e : a ≡ true) (s : List ℕ) (i : s ≡ drop 10 uri) {x : List ℕ} {m c : ℕ}
+  module _ (e : a ≡ true) (s : List ℕ) (i : s ≡ drop 10 uri) {x : List ℕ} {m : ℕ} {c : Option ℕ}
       (y : x ≡ up_to 58 s) (z : m ≡ min k 8) (h : c ≡ find_name t na nl (lowered x) 0 m) where
     found : c ≡ find_name t na nl (up_to 58 (lowered (drop 10 uri))) 0 (min k 8)
     found = h ∙ ap₂ (λ a b. find_name t na nl a 0 b) (ap lowered (y ∙ ap (up_to 58) i) ∙ sym (lowered-up_to 58 (omega arith) (inl (omega arith)) (drop 10 uri))) z
 
-    pub uses-strange : 8 ≤ c → Skipped ≡ uses_of t na nl k ca pos len sh inner n uri
+    pub uses-strange : c ≡ None → None ≡ uses_of t na nl k ca pos len sh inner n uri
     unfolding uses_of used_by
-    uses-strange l = simp (sym f ∙ e, ← found, le-ltb c 8 l)
+    uses-strange l = simp (sym f ∙ e, ← found, l)
 
-    pub uses-found : {w : List ℕ} {l : ℕ} {r : Search} → c < 8 → w ≡ past 58 s → l ≡ min n most_nodes
-        → r ≡ search_from t ca pos len sh inner c (lowered w) 0 l nothing → found_in c r ≡ uses_of t na nl k ca pos len sh inner n uri
+    pub uses-found : {w : List ℕ} {l c' : ℕ} {r : Search} → c ≡ Some c' → w ≡ past 58 s → l ≡ min n most_nodes
+        → r ≡ search_from t ca pos len sh inner c' (lowered w) 0 l nothing → found_in c' r ≡ uses_of t na nl k ca pos len sh inner n uri
     unfolding uses_of used_by
-    uses-found {w} {l} {r} u j p d =
-        let r' : r ≡ search_from t ca pos len sh inner c (past 58 (lowered (drop 10 uri))) 0 (min n most_nodes) nothing =
-        d ∙ ap₂ (λ a b. search_from t ca pos len sh inner c a 0 b nothing) (ap lowered (j ∙ ap (past 58) i)
+    uses-found {w} {l} {c'} {r} u j p d =
+        let r' : r ≡ search_from t ca pos len sh inner c' (past 58 (lowered (drop 10 uri))) 0 (min n most_nodes) nothing =
+        d ∙ ap₂ (λ a b. search_from t ca pos len sh inner c' a 0 b nothing) (ap lowered (j ∙ ap (past 58) i)
         ∙ sym (lowered-past 58 (omega arith) (inl (omega arith)) (drop 10 uri))) p in
-        sym (simp (sym f ∙ e, ← found, lt-ltb c 8 u, ← r'))
+        sym (simp (sym f ∙ e, ← found, u, ← r'))
 
 pub part-rest : (uri : List ℕ) (i : ℕ) → take (length uri) (drop i uri) ≡ drop i uri
 part-rest uri i = take_all (length uri) (drop i uri) (simp length-drop (omega arith))

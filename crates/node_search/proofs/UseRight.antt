@@ -6,7 +6,7 @@ use mathlib.Core.Bool.{Bool, true, false, cond, not, ◌&&◌, ◌||◌, and-fal
 use mathlib.Core.Option.{none, some}
 use mathlib.Core.List.{List, [], ◌∷◌, ◌++◌, append-nil}
 use lib.Dec.{eqb, ltb, leb}
-use borrow.Author.Tests.{eqb-true, eq-eqb, ne_eqb, lt-ltb, ltb-true, lt-leb, leb-true, leb-false}
+use borrow.Author.Tests.{eqb-true, eq-eqb, ne_eqb, ltb-true, lt-leb, leb-true, leb-false}
 use lib.ListN.{length, get_or, drop, length-append, drop_of_length-le}
 use lib.Seq.{drop-cons}
 use native.Mathlib.Omega.{arith}
@@ -17,10 +17,10 @@ use Rattle.base_numbers.specs.Numbers.{most_nodes}
 use Rattle.base_lists.proofs.Numbers.{min-le}
 use Rattle.base_lists.proofs.Bools.{by_test}
 use Rattle.base_lists.specs.Cuts.{up_to, past, stretch}
-use Rattle.base_lists.proofs.Lists.{member_of, mem-at, index-member}
+use Rattle.base_lists.proofs.Lists.{member_of, mem-at}
 use Rattle.base_lists.specs.Lists.{member_by, index_by}
 use Rattle.theory_resolution.specs.Names.{Name, Parts, same_name, same_parts, below, Above, some_below}
-use Rattle.theory_resolution.proofs.Names.{some-above, above-some, name-exact}
+use Rattle.theory_resolution.proofs.Names.{some-above, above-some}
 use Rattle.theory_resolution.specs.Table.{Urn, urn, Table}
 use Rattle.theory_resolution.specs.Nodes.{same_urn, nodes, is_node, RootOrNode, has_under, is_root, leaf, deepest, number, node_at}
 use Rattle.theory_resolution.proofs.Nodes.{urn-exact}
@@ -35,7 +35,7 @@ use Rattle.base_text.proofs.LetterCase.{lowered-exactly}
 use Rattle.urn_names.proofs.Cases.{alert-case}
 use Rattle.base_text.proofs.Turns.{covers-level, covers-not, covers-ends, common-three, common-le, next-lesser}
 use Rattle.node_search.specs.declared.uses.Search.{Search}
-use Rattle.node_search.specs.declared.uses.Use.TheVariants.{Skipped, Used}
+use Rattle.std.specs.Prelude.{Some, None}
 use Rattle.node_search.specs.Uses.{used_urn, CaseIgnored, compared_over, use_of}
 use Rattle.node_search.specs.Search.{find_name, nothing, covers_by, met_with, counted_in, look_by, look_at, search_from, found_in, used_by, uses_of}
 use Rattle.node_search.specs.Arrays.{NamesIn, NodesIn, last_path, SharedIn, InnerIn}
@@ -43,7 +43,7 @@ use Rattle.node_search.specs.Arrays.{NamesIn, NodesIn, last_path, SharedIn, Inne
 -- the names
 names-right : (t s na nl : List ℕ) (ns : List Name) (i : ℕ)
     → ((k : ℕ) → k < length ns → stretch t na nl (i + k) ≡ get_or ns k [])
-    → find_name t na nl s i (length ns) ≡ cond (member_by same_name s ns) (i + index_by same_name s ns) 8
+    → find_name t na nl s i (length ns) ≡ cond (member_by same_name s ns) (Some (i + index_by same_name s ns)) None
 unfolding find_name
 names-right t s na nl [] i h = refl
 names-right t s na nl (x ∷ ns) i h =
@@ -52,14 +52,14 @@ names-right t s na nl (x ∷ ns) i h =
     first : stretch t na nl i ≡ x
     first = rw (add-zero i) at (h 0 (omega arith))
 
-    shift : (b : Bool) (k : ℕ) → cond b (suc i + k) 8 ≡ cond b (i + suc k) 8
-    shift true k = omega arith
+    shift : (b : Bool) (k : ℕ) → cond b (Some (suc i + k)) None ≡ cond b (Some (i + suc k)) None
+    shift true k = ap Some (omega arith)
     shift false k = refl
 
-    go : (b : Bool) → same_name s x ≡ b → find_name t na nl s (suc i) (length ns) ≡ cond (member_by same_name s ns) (suc i + index_by same_name s ns) 8
-        → cond (same_name s (stretch t na nl i)) i (find_name t na nl s (i + 1) (length ns))
-        ≡ cond (same_name s x || member_by same_name s ns) (i + cond (same_name s x) zero (suc (index_by same_name s ns))) 8
-    go true e ih = rw (first, e) (sym (add-zero i))
+    go : (b : Bool) → same_name s x ≡ b → find_name t na nl s (suc i) (length ns) ≡ cond (member_by same_name s ns) (Some (suc i + index_by same_name s ns)) None
+        → cond (same_name s (stretch t na nl i)) (Some i) (find_name t na nl s (i + 1) (length ns))
+        ≡ cond (same_name s x || member_by same_name s ns) (Some (i + cond (same_name s x) zero (suc (index_by same_name s ns)))) None
+    go true e ih = rw (first, e) (ap Some (sym (add-zero i)))
     go false e ih = rw (first, e, add-one i) (ih ∙ shift (member_by same_name s ns) (index_by same_name s ns))
 
 -- the last that passes
@@ -353,16 +353,15 @@ module _ (t : List ℕ) (tb : Table) (ca pos len : List ℕ) (n : ℕ) (ni : Nod
         let node : (from 0 n nothing).node ≡ number ns c d = r.0 ∙ node-right in
         let whole : (from 0 n nothing).whole ≡ same_parts d u = r.1 ∙ ap whole_at node-right ∙ whole-right in
         let count : (from 0 n nothing).compared ≡ compared_over ns c u ns = r.2 ∙ zero-add (compared_over ns c u ns) in
-        λ i. Used c (node i) (whole i) (count i)
+        ap Some (λ i. record { category = c; node = node i; whole = whole i; compared = count i })
 
 -- a URN of a category that the table has
 used-right : (t : List ℕ) (tb : Table) (ca pos len : List ℕ) (n : ℕ) → NodesIn t ca pos len n tb → (sh : List ℕ)
-    → SharedIn t ca pos len sh n → (inner : List Bool) → InnerIn inner tb → (c : ℕ) → c < 8 → (w : List ℕ)
-    → used_by t ca pos len sh inner n w c ≡ use_of tb (some (urn c (fields 58 w)))
+    → SharedIn t ca pos len sh n → (inner : List Bool) → InnerIn inner tb → (c : ℕ) (w : List ℕ)
+    → used_by t ca pos len sh inner n w (Some c) ≡ use_of tb (some (urn c (fields 58 w)))
 unfolding used_by
-used-right t tb ca pos len n ni sh si inner ii c l w =
-    ap (λ b. cond b (found_in c (search_from t ca pos len sh inner c w 0 (min n most_nodes) nothing)) Skipped) (lt-ltb c 8 l)
-    ∙ ap (λ z. found_in c (search_from t ca pos len sh inner c w 0 z nothing)) few
+used-right t tb ca pos len n ni sh si inner ii c w =
+    ap (λ z. found_in c (search_from t ca pos len sh inner c w 0 z nothing)) few
     ∙ found_right t tb ca pos len n ni c w sh si inner ii
   where
     few : min n most_nodes ≡ n
@@ -381,22 +380,20 @@ uses-right t tb na nl k cs ca pos len n nm ni sh si inner ii uri = go (alert_urn
     path : List ℕ
     path = past 58 (lowered (drop 10 uri))
 
-    found : find_name t na nl name 0 (min k 8) ≡ cond (member_by same_name name cs) (index_by same_name name cs) 8
+    found : find_name t na nl name 0 (min k 8) ≡ cond (member_by same_name name cs) (Some (index_by same_name name cs)) None
     found =
         let e : min k 8 ≡ length cs = sym (min-le k 8 nm.few-names) ∙ sym nm.all-names in
         ap (find_name t na nl name 0) e
         ∙ names-right t name na nl cs 0 (λ i l. ap (λ z. stretch t na nl z) (zero-add i) ∙ nm.name-at i (omega (arith, nm.all-names)))
-        ∙ ap (λ z. cond (member_by same_name name cs) z 8) (zero-add (index_by same_name name cs))
+        ∙ ap (λ z. cond (member_by same_name name cs) (Some z) None) (zero-add (index_by same_name name cs))
 
     known : (b : Bool) → member_by same_name name cs ≡ b
-        → used_by t ca pos len sh inner n path (cond b (index_by same_name name cs) 8)
+        → used_by t ca pos len sh inner n path (cond b (Some (index_by same_name name cs)) None)
         ≡ use_of tb (cond b (some (urn (index_by same_name name cs) (fields 58 path))) none)
     known false h = refl
-    known true h =
-        let i = index-member same_name name-exact [] name cs h in
-        used-right t tb ca pos len n ni sh si inner ii (index_by same_name name cs) (omega (arith, i.0, nm.all-names, nm.few-names)) path
+    known true h = used-right t tb ca pos len n ni sh si inner ii (index_by same_name name cs) path
 
-    go : (b : Bool) → cond b (used_by t ca pos len sh inner n path (find_name t na nl name 0 (min k 8))) Skipped
+    go : (b : Bool) → cond b (used_by t ca pos len sh inner n path (find_name t na nl name 0 (min k 8))) None
         ≡ use_of tb (cond (b && member_by same_name name cs) (some (urn (index_by same_name name cs) (fields 58 path))) none)
     go false = refl
     go true = ap (used_by t ca pos len sh inner n path) found ∙ known (member_by same_name name cs) refl

@@ -1,5 +1,5 @@
 -- What a URI is to the table that the arrays hold, by a search over its nodes in their order.
-use Rattle.std.specs.Prelude.{ℕ, zero, suc, ◌+◌, min, Bool, false, cond, not, ◌&&◌, List, length, get_or, drop, eqb, ltb, leb}
+use Rattle.std.specs.Prelude.{ℕ, zero, suc, ◌+◌, min, Bool, false, cond, not, ◌&&◌, List, length, get_or, drop, eqb, ltb, leb, Option, Some, None}
 use Rattle.base_numbers.specs.Numbers.{most_categories, most_nodes}
 use Rattle.base_lists.specs.Cuts.{stretch}
 use Rattle.theory_resolution.specs.Names.{same_name}
@@ -7,14 +7,13 @@ use Rattle.base_text.specs.Text.{lowered}
 use Rattle.base_text.specs.Words.{common_next, ends_at}
 use Rattle.urn_names.specs.Urn.{alert_urn, category_of, path_of}
 use Rattle.node_search.specs.declared.uses.Search.{Search}
-use Rattle.node_search.specs.declared.uses.Use.{Use}
-use Rattle.node_search.specs.declared.uses.Use.TheVariants.{Skipped, Used}
+use Rattle.node_search.specs.declared.uses.Used.{Used}
 
--- the first of the n names from i on that is s, or 8
-unfoldable pub find_name : List ℕ → List ℕ → List ℕ → List ℕ → ℕ → ℕ → ℕ
-find_name t name_at name_len s i zero = most_categories
+-- the first of the n names from i on that is s
+unfoldable pub find_name : List ℕ → List ℕ → List ℕ → List ℕ → ℕ → ℕ → Option ℕ
+find_name t name_at name_len s i zero = None
 find_name t name_at name_len s i (suc n) =
-    cond (same_name s (stretch t name_at name_len i)) i (find_name t name_at name_len s (i + 1) n)
+    cond (same_name s (stretch t name_at name_len i)) (Some i) (find_name t name_at name_len s (i + 1) n)
 
 -- a search that has found nothing yet
 abbrev pub nothing : Search
@@ -59,16 +58,17 @@ search_from t category at len shared inner c w i (suc n) s =
     (search_from t category at len shared inner c w (i + 1) n (look_at t category at len shared inner c w i s))
 
 -- what is found in category c
-abbrev pub found_in : ℕ → Search → Use
-found_in c s = Used c s.node s.whole s.compared
+abbrev pub found_in : ℕ → Search → Option Used
+found_in c s = Some (record { category = c; node = s.node; whole = s.whole; compared = s.compared })
 
--- the path w in category c, if that is one
-unfoldable pub used_by : List ℕ → List ℕ → List ℕ → List ℕ → List ℕ → List Bool → ℕ → List ℕ → ℕ → Use
-used_by t category at len shared inner n w c = cond (ltb c most_categories) (found_in c (search_from t category at len shared inner c w 0 (min n most_nodes) nothing)) Skipped
+-- the path w in category c, if there is one
+unfoldable pub used_by : List ℕ → List ℕ → List ℕ → List ℕ → List ℕ → List Bool → ℕ → List ℕ → Option ℕ → Option Used
+used_by t category at len shared inner n w None = None
+used_by t category at len shared inner n w (Some c) = found_in c (search_from t category at len shared inner c w 0 (min n most_nodes) nothing)
 
 -- what a URI is to the table in the arrays
-unfoldable pub uses_of : List ℕ → List ℕ → List ℕ → ℕ → List ℕ → List ℕ → List ℕ → List ℕ → List Bool → ℕ → List ℕ → Use
+unfoldable pub uses_of : List ℕ → List ℕ → List ℕ → ℕ → List ℕ → List ℕ → List ℕ → List ℕ → List Bool → ℕ → List ℕ → Option Used
 uses_of t name_at name_len k category at len shared inner n uri =
     cond (alert_urn uri)
     (used_by t category at len shared inner n (path_of (lowered (drop 10 uri))) (find_name t name_at name_len (category_of (lowered (drop 10 uri))) 0 (min k most_categories)))
-    Skipped
+    None

@@ -1,6 +1,7 @@
 -- Which URIs are used, and what a used one is to the table: its category, the deepest node above it, whether it is that node, and the
 -- bytes compared to find it.
 use Rattle.std.specs.Prelude.{ℕ, ◌+◌, ◌≡◌, cond, ◌&&◌, List, [], ◌∷◌, drop, eqb}
+use Rattle.std.specs.Prelude as code
 use Rattle.std.proofs.Math.Option.{Option, none, some}
 use Rattle.base_lists.specs.Lists.{member_by, index_by}
 use Rattle.theory_resolution.specs.Names.{Name, Parts, same_name, same_parts, below, some_below}
@@ -9,8 +10,7 @@ use Rattle.theory_resolution.specs.Nodes.{nodes, number, leaf, deepest}
 use Rattle.base_text.specs.Text.{fields, text_of, compared_bytes, lowered}
 use Rattle.base_text.specs.LetterCase.{SameButCase}
 use Rattle.urn_names.specs.Urn.{alert_urn, category_of, path_of}
-use Rattle.node_search.specs.declared.uses.Use.{Use}
-use Rattle.node_search.specs.declared.uses.Use.TheVariants.{Skipped, Used}
+use Rattle.node_search.specs.declared.uses.Used.{Used}
 
 -- a URI is used if it is an alert URN of one of the table's categories; this is that URN. Its letters are taken as small ones: names
 -- are compared without regard to letter case, and those of a table have no capital letter
@@ -40,8 +40,12 @@ abbrev pub compared : Table → Urn → ℕ
 compared t u = compared_over (nodes t) u.cat u.path (nodes t)
 
 -- what a used URN is to a table: its category, the deepest node above it, whether it is that node, and the bytes compared to find it
-abbrev pub use_of : Table → Option Urn → Use
-use_of t none = Skipped
+abbrev pub use_of : Table → Option Urn → code.Option Used
+use_of t none = code.None
 use_of t (some u) =
-    Used u.cat (number (nodes t) u.cat (deepest (nodes t) u.cat u.path))
-    (same_parts (deepest (nodes t) u.cat u.path) u.path) (compared t u)
+    code.Some (record {
+      category = u.cat;
+      node = number (nodes t) u.cat (deepest (nodes t) u.cat u.path);
+      whole = same_parts (deepest (nodes t) u.cat u.path) u.path;
+      compared = compared t u;
+    })

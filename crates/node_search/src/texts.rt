@@ -1,10 +1,21 @@
-// The text at an index, of those that the arrays hold as places and lengths in the table's bytes; no bytes past the arrays' end.
+// The text at an index, of those that two arrays hold as places and lengths in the table's bytes; no bytes past the arrays' end.
 ghost use Rattle.std.specs.Prelude.{◌≡◌, ◌≤◌, length};
 ghost use Rattle.base_numbers.specs.Numbers.{most_categories, most_nodes, most_table_urns};
 ghost use Rattle.node_search.specs.Arrays.{text_in};
 
 use base_numbers::{MOST_CATEGORIES, MOST_NODES, MOST_TABLE_URNS};
-use base_text::cut::text_in;
+
+// The i-th of the texts.
+pub fn text_at<'a, const N: usize>(t: &'a [u8], at: &[u16; N], len: &[u8; N], i: usize) -> &'a [u8]
+    ensures result_value { result.now ≡ text_in N t.now at.now len.now i }
+    ensures short { length result.now ≤ 255 }
+{
+    if i < N {
+        base_text::cut::text_in(t, at[i], len[i])
+    } else {
+        &[]
+    }
+}
 
 // The name of category i.
 pub fn name_text<'a>(
@@ -16,10 +27,7 @@ pub fn name_text<'a>(
     ensures result_value { result.now ≡ text_in most_categories t.now at.now len.now i }
     ensures short { length result.now ≤ 255 }
 {
-    if i < MOST_CATEGORIES {
-        return text_in(t, at[i], len[i]);
-    }
-    text_in(t, 0, 0)
+    text_at(t, at, len, i)
 }
 
 // The path of node i + 1, or its last name.
@@ -32,10 +40,7 @@ pub fn node_text<'a>(
     ensures result_value { result.now ≡ text_in most_nodes t.now at.now len.now i }
     ensures short { length result.now ≤ 255 }
 {
-    if i < MOST_NODES {
-        return text_in(t, at[i], len[i]);
-    }
-    text_in(t, 0, 0)
+    text_at(t, at, len, i)
 }
 
 // The i-th URN, or its path.
@@ -48,8 +53,5 @@ pub fn urn_text<'a>(
     ensures result_value { result.now ≡ text_in most_table_urns t.now at.now len.now i }
     ensures short { length result.now ≤ 255 }
 {
-    if i < MOST_TABLE_URNS {
-        return text_in(t, at[i], len[i]);
-    }
-    text_in(t, 0, 0)
+    text_at(t, at, len, i)
 }

@@ -5,20 +5,18 @@ ghost use Rattle.base_text.specs.Text.{lowered};
 ghost use Rattle.base_text.specs.Words.{differ_at, ends_at};
 ghost use Rattle.node_search.specs.Search.{find_name, nothing, met_with, counted_in, look_by, search_from, uses_of};
 
+use crate::decoded::Decoded;
 use crate::texts::{name_text, node_text};
 use base_numbers::{MOST_CATEGORIES, MOST_NODES};
 
-// What a URI is to the table: skipped, or used, with its deepest node, or the root, whether it is that node, and the
-// bytes compared to find it.
+// What a used URI is to the table: its category, its deepest node, or the root, whether it is that node, and the bytes compared
+// to find it.
 #[derive(Clone, Copy)]
-pub enum Use {
-    Skipped,
-    Used {
-        category: u8,
-        node: u8,
-        whole: bool,
-        compared: u32,
-    },
+pub struct Used {
+    pub category: u8,
+    pub node: u8,
+    pub whole: bool,
+    pub compared: u32,
 }
 
 // A search for a path: the deepest node met that is the path or above it, whether it is the path, and the bytes compared;
@@ -32,25 +30,18 @@ struct Search {
     compared: u32,
 }
 
-// The number of the first of the n categories that has the name s, whatever its letter case, or 8.
-fn find_name<'a>(
-    t: &[u8],
-    name_at: &'a [u16; MOST_CATEGORIES],
-    name_len: &'a [u8; MOST_CATEGORIES],
-    s: &[u8],
-    n: usize,
-) -> usize
+// The number of the first of the n categories that has the name s, whatever its letter case.
+fn find_name(t: &[u8], d: &Decoded, s: &[u8], n: usize) -> Option<u8>
     requires { n ≤ most_categories }
-    ensures { result ≡ find_name t.now name_at.now name_len.now (lowered s.now) 0 n }
+    ensures { result ≡ find_name t.now d.now.name_at d.now.name_len (lowered s.now) 0 n }
 {
-    let mut i = 0;
-    while i < n {
-        if base_text::letter_case::same_lowered(s, name_text(t, name_at, name_len, i)) {
-            return i;
+    for i in 0..n {
+        let name = name_text(t, &d.name_at, &d.name_len, i);
+        if base_text::letter_case::same_lowered(s, name) {
+            return Some(i as u8);
         }
-        i += 1;
     }
-    MOST_CATEGORIES
+    None
 }
 
 // A path of so many bytes, n of them in common with w, is w or above it.
@@ -137,49 +128,30 @@ fn differs_after(p: &[u8], w: &[u8], same: usize, l: usize) -> bool
     false
 }
 
-// The search for w, whatever its letter case or known to be in small letters, at the node at i, whose path shares l bytes with
-// the one before it.
-fn look<'a>(
-    t: &[u8],
-    at: &'a [u16; MOST_NODES],
-    len: &'a [u8; MOST_NODES],
-    inner: &'a [bool; MOST_NODES],
-    w: &[u8],
-    small: bool,
-    i: usize,
-    l: usize,
-    s: Search,
-) -> Search
-    requires { (i < most_nodes) × (l ≤ 255) × (s.compared ≤ 255 * i) × (small ≡ true → lowered w.now ≡ w.now) }
-    ensures value { result ≡ look_by t.now at.now len.now inner.now (lowered w.now) i l s }
+// The search for w, whatever its letter case or known to be in small letters, at the node at i, whose path shares so many bytes
+// with the one before it.
+fn look(t: &[u8], d: &Decoded, w: &[u8], small: bool, i: usize, shared: u8, s: Search) -> Search
+    requires { (i < most_nodes) × (s.compared ≤ 255 * i) × (small ≡ true → lowered w.now ≡ w.now) }
+    ensures value { result ≡ look_by t.now d.now.at d.now.len d.now.inner (lowered w.now) i shared s }
     ensures compared_bound { result.compared ≤ 255 * (i + 1) }
 {
+    let l = usize::from(shared);
     if s.same < l {
         return count_differing(s);
     }
-    let p = node_text(t, at, len, i);
+    let p = node_text(t, &d.at, &d.len, i);
     if differs_after(p, w, s.same, l) {
         return count_differing(s);
     }
     let n = base_text::letter_case::common_lowered_next(p, w, small, s.same, l);
     let k = i as u8 + 1;
-    meet(p, w, inner[i], k, n, s)
+    meet(p, w, d.inner[i], k, n, s)
 }
 
 // The search for w in category c, over the n nodes in their order.
-fn search_nodes<'a>(
-    t: &[u8],
-    category: &'a [u8; MOST_NODES],
-    at: &'a [u16; MOST_NODES],
-    len: &'a [u8; MOST_NODES],
-    shared: &'a [u8; MOST_NODES],
-    inner: &'a [bool; MOST_NODES],
-    c: u8,
-    w: &[u8],
-    n: usize,
-) -> Search
+fn search_nodes(t: &[u8], d: &Decoded, c: u8, w: &[u8], n: usize) -> Search
     requires { n ≤ most_nodes }
-    ensures { result ≡ search_from t.now category.now at.now len.now shared.now inner.now
+    ensures { result ≡ search_from t.now d.now.category d.now.at d.now.len d.now.shared d.now.inner
         c (lowered w.now) 0 n nothing }
 {
     let mut s = Search {
@@ -190,62 +162,36 @@ fn search_nodes<'a>(
         compared: 0,
     };
     let small = base_text::letter_case::is_lowered(w);
-    let mut i = 0;
-    while i < n {
-        if category[i] == c {
-            let l = base_bytes::numbers::wide(shared[i]);
-            s = look(t, at, len, inner, w, small, i, l, s);
+    for i in 0..n {
+        if d.category[i] == c {
+            s = look(t, d, w, small, i, d.shared[i], s);
             if s.ends {
                 return s;
             }
         }
-        i += 1;
     }
     s
 }
 
-// What a URI is to the table t, whose names and nodes the arrays hold.
-pub fn uses<'a>(
-    t: &[u8],
-    name_at: &'a [u16; MOST_CATEGORIES],
-    name_len: &'a [u8; MOST_CATEGORIES],
-    categories: usize,
-    category: &'a [u8; MOST_NODES],
-    at: &'a [u16; MOST_NODES],
-    len: &'a [u8; MOST_NODES],
-    shared: &'a [u8; MOST_NODES],
-    inner: &'a [bool; MOST_NODES],
-    nodes: usize,
-    uri: &[u8],
-) -> Use
-    ensures { result ≡ uses_of t.now name_at.now name_len.now categories
-        category.now at.now len.now shared.now inner.now nodes uri.now }
+// What a URI is to the table t that was decoded, or nothing if it is skipped.
+pub fn uses(t: &[u8], d: &Decoded, uri: &[u8]) -> Option<Used>
+    ensures { result ≡ uses_of t.now d.now.name_at d.now.name_len d.now.categories
+        d.now.category d.now.at d.now.len d.now.shared d.now.inner d.now.nodes uri.now }
 {
-    if urn_names::urn::is_alert_urn(uri) {
-        let n = uri.len();
-        let s = base_text::cut::part(uri, 10, n);
-        let colon = base_text::cut::find(s, b':');
-        let name = base_text::cut::part(s, 0, colon);
-        let c = find_name(
-            t,
-            name_at,
-            name_len,
-            name,
-            base_bytes::numbers::at_most(categories, MOST_CATEGORIES),
-        );
-        if c < MOST_CATEGORIES {
-            let found = c as u8;
-            let path = colon + 1;
-            let w = base_text::cut::part(s, path, n);
-            let most = base_bytes::numbers::at_most(nodes, MOST_NODES);
-            let e = search_nodes(t, category, at, len, shared, inner, found, w, most);
-            return Use::Used {
-                category: found,
-                node: e.node,
-                whole: e.whole,
-                compared: e.compared,
-            };
-        }
+    if !urn_names::urn::is_alert_urn(uri) {
+        return None;
     }
-    Use::Skipped
+    let n = uri.len();
+    let s = base_text::cut::part(uri, 10, n);
+    let colon = base_text::cut::find(s, b':');
+    let name = base_text::cut::part(s, 0, colon);
+    let c = find_name(t, d, name, d.categories.min(MOST_CATEGORIES))?;
+    let w = base_text::cut::part(s, colon + 1, n);
+    let e = search_nodes(t, d, c, w, d.nodes.min(MOST_NODES));
+    Some(Used {
+        category: c,
+        node: e.node,
+        whole: e.whole,
+        compared: e.compared,
+    })
 }

@@ -16,7 +16,7 @@ use Rattle.base_numbers.specs.Numbers.{most_nodes, most_signals, most_tries}
 use Rattle.base_lists.proofs.Lists.{Exact}
 use Rattle.node_step.specs.declared.Status.{Status}
 use Rattle.node_step.specs.declared.Status.TheVariants.{Open}
-use Rattle.node_step.specs.declared.Progress.{Progress}
+use Rattle.std.specs.Prelude.{Option, Some, None}
 use Rattle.node_step.specs.declared.Hit.{Hit}
 use Rattle.node_step.specs.declared.stored.Packed.{Packed}
 use Rattle.node_step.specs.Step.{digit, put, row_at, seek, extends, status_in, takes, status_from, moved, step_numbers}
@@ -44,7 +44,7 @@ packed-exact = record {
         λ i. record { signal = p i; statuses = q i }
 
 -- the digits of x from c on make up what is above them
-digits : (l : List Progress) (x : ℕ) → ((k : ℕ) → k < 8 → byte_of (status_in l k) ≡ digit x k) → (n c : ℕ) → c + n ≤ 8 → packed l c n ≡ x / 2 ^ (8 * c) % 256 ^ n
+digits : (l : List Status) (x : ℕ) → ((k : ℕ) → k < 8 → byte_of (status_in l k) ≡ digit x k) → (n c : ℕ) → c + n ≤ 8 → packed l c n ≡ x / 2 ^ (8 * c) % 256 ^ n
 unfolding packed
 digits l x h zero c k = omega arith
 digits l x h (suc n) c k =
@@ -59,11 +59,11 @@ digits l x h (suc n) c k =
 -- packing gives back what was unpacked
 pub unpack-again : (x : ℕ) → x < 2 ^ 64 → packed (unpacked x 8) 0 8 ≡ x
 unpack-again x h = digits (unpacked x 8) x
-    (λ k i. ap byte_of (ap (λ p. p.status) (unpacked-at x 8 k (record { status = Open }) i (omega arith)))
+    (λ k i. ap byte_of (unpacked-at x 8 k Open i (omega arith))
     ∙ byte-status (digit x k) (omega arith)) 8 0 (omega arith) ∙ omega arith
 
 -- a status set is its byte put
-pub packed-set : (l : List Progress) (c : ℕ) (s : Status) → length l ≡ 8 → c < 8 → packed (set l c (record { status = s })) 0 8
+pub packed-set : (l : List Status) (c : ℕ) (s : Status) → length l ≡ 8 → c < 8 → packed (set l c s) 0 8
     ≡ put (packed l 0 8) c (byte_of s)
 packed-set l c s e h =
     bytes-pack l' 0 8
@@ -72,8 +72,8 @@ packed-set l c s e h =
     ∙ sym (pack-set (bytes_from l 0 8) c (byte_of s) (bytes_small l 0 8) (omega (arith, bytes-long l 0 8)))
     ∙ ap (λ z. put z c (byte_of s)) (sym (bytes-pack l 0 8))
   where
-    l' : List Progress
-    l' = set l c (record { status = s })
+    l' : List Status
+    l' = set l c s
 
     at : (k : ℕ) → k < 8 → get_or (bytes_from l' 0 8) k 0 ≡ get_or (set (bytes_from l 0 8) c (byte_of s)) k 0
     at k i = bytes-at l' 0 8 k i ∙ ap (λ z. byte_of (status_in l' z)) (zero-add k) ∙ go (ℕ_discrete k c)
@@ -81,21 +81,21 @@ packed-set l c s e h =
         go : Dec (k ≡ c) → byte_of (status_in l' k) ≡ get_or (set (bytes_from l 0 8) c (byte_of s)) k 0
         go (yes z) =
             rw z
-            (ap (λ p. byte_of p.status) (get_or-set_same l c (record { status = s }) (record { status = Open }) (omega arith))
+            (ap byte_of (get_or-set_same l c s Open (omega arith))
             ∙ sym (get_or-set_same (bytes_from l 0 8) c (byte_of s) 0 (omega (arith, bytes-long l 0 8))))
         go (no z) =
-            ap (λ p. byte_of p.status) (get_or-set_other l c k (record { status = s }) (record { status = Open }) z)
+            ap byte_of (get_or-set_other l c k s Open z)
             ∙ ap (λ z. byte_of (status_in l z)) (sym (zero-add k)) ∙ sym (bytes-at l 0 8 k i)
             ∙ sym (get_or-set_other (bytes_from l 0 8) c k (byte_of s) 0 z)
 
 -- the state after a search
-module _ (inner : List Bool) (st : Packed) (c d : ℕ) (whole : Bool) (h : Hit) where
-  pub moved-found : h.found ≡ true → {x : ℕ} → x ≡ put st.statuses c (byte_of (status_from inner d whole h.node))
-      → record { signal = h.signal; statuses = x } ≡ moved_packed inner st c d whole h
+module _ (inner : List Bool) (st : Packed) (c d : ℕ) (whole : Bool) (i : Option Hit) where
+  pub moved-found : (h : Hit) → i ≡ Some h → {x : ℕ} → x ≡ put st.statuses c (byte_of (status_from inner d whole h.node))
+      → record { signal = h.signal; statuses = x } ≡ moved_packed inner st c d whole i
   unfolding moved_packed
-  moved-found f e = ap (λ z. record { signal = h.signal; statuses = z }) e ∙ sym (rw f)
+  moved-found h f e = ap (λ z. record { signal = h.signal; statuses = z }) e ∙ sym (rw f)
 
-  pub moved-lost : h.found ≡ false → st ≡ moved_packed inner st c d whole h
+  pub moved-lost : i ≡ None → st ≡ moved_packed inner st c d whole i
   unfolding moved_packed
   moved-lost f = sym (rw f)
 
@@ -108,20 +108,19 @@ module _ (rows ps : List ℕ) (inner : List Bool) (n : ℕ) (st : Packed) (c d :
   unfolding step_packed step_numbers
   packed-past h = sym (rw (le-leb 8 c h) again)
 
-  moved-is : c < 8 → (i : Hit) (f : Bool) → i.found ≡ f → packed_of (moved inner (of_packed st) c d whole i) ≡ moved_packed inner st c d whole i
+  moved-is : c < 8 → (i : Option Hit) → packed_of (moved inner (of_packed st) c d whole i) ≡ moved_packed inner st c d whole i
   unfolding moved moved_packed
-  moved-is h i true e =
-      rw e
-      (ap (λ z. record { signal = i.signal; statuses = z })
+  moved-is h (Some i) =
+      ap (λ z. record { signal = i.signal; statuses = z })
       (packed-set (unpacked st.statuses 8) c (status_from inner d whole i.node) (unpacked-length st.statuses 8) h
-      ∙ ap (λ z. put z c (byte_of (status_from inner d whole i.node))) (unpack-again st.statuses fits)))
-  moved-is h i false e = rw e again
+      ∙ ap (λ z. put z c (byte_of (status_from inner d whole i.node))) (unpack-again st.statuses fits))
+  moved-is h None = again
 
   module _ (h : c < 8) {row q x : ℕ} {o : Status} {b : Bool} (r : row ≡ row_at rows st.signal) (e : q ≡ digit row c)
       (f : x ≡ digit st.statuses c) (g : o ≡ status_of x)
       (t : b ≡ takes ps o q d whole) where
     status-is : o ≡ status_in (unpacked st.statuses 8) c
-    status-is = g ∙ ap status_of f ∙ sym (ap (λ p. p.status) (unpacked-at st.statuses 8 c (record { status = Open }) h (omega arith)))
+    status-is = g ∙ ap status_of f ∙ sym (unpacked-at st.statuses 8 c Open h (omega arith))
 
     q-is : q ≡ digit (row_at rows st.signal) c
     q-is = e ∙ ap (λ z. digit z c) r
@@ -133,18 +132,17 @@ module _ (rows ps : List ℕ) (inner : List Bool) (n : ℕ) (st : Packed) (c d :
     unfolding step_packed step_numbers
     packed-stay z = let a = test-is ∙ z in sym (rw (lt-leb 8 c h, a) again)
 
-    module _ {m : ℕ} {i : Hit} {res : Packed} (z : b ≡ true) (em : m ≡ min n most_signals) (ei : i ≡ seek rows ps m row c q most_tries d)
+    module _ {i : Option Hit} {res : Packed} (z : b ≡ true) (ei : i ≡ seek rows ps (min n most_signals) row c q most_tries d)
         (er : res ≡ moved_packed inner st c d whole i) where
-      abbrev hit : Hit
+      abbrev hit : Option Hit
       hit = seek rows ps (min n most_signals) (row_at rows st.signal) c (digit (row_at rows st.signal) c) most_tries d
 
       hit-is : i ≡ hit
-      hit-is = ei ∙ ap₂ (λ x y. seek rows ps m x c y 9 d) r q-is
-          ∙ ap (λ x. seek rows ps x (row_at rows st.signal) c (digit (row_at rows st.signal) c) most_tries d) em
+      hit-is = ei ∙ ap₂ (λ x y. seek rows ps (min n most_signals) x c y 9 d) r q-is
 
       pub packed-goes : res ≡ step_packed rows ps inner n st c d whole
       unfolding step_packed step_numbers
-      packed-goes = let a = test-is ∙ z in er ∙ ap (moved_packed inner st c d whole) hit-is ∙ sym (rw (lt-leb 8 c h, a) (moved-is h hit hit.found refl))
+      packed-goes = let a = test-is ∙ z in er ∙ ap (moved_packed inner st c d whole) hit-is ∙ sym (rw (lt-leb 8 c h, a) (moved-is h hit))
 
 -- a byte that a category can have, test by test
 module _ (rows ps : List ℕ) (inner : List Bool) (ca : List ℕ) (n s c b : ℕ) where

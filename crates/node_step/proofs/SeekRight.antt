@@ -20,6 +20,7 @@ use Rattle.theory_resolution.specs.Nodes.{nodes, is_node, RootOrNode, number, no
 use Rattle.theory_resolution.proofs.Numbers.{number-node, root-number, number_same, parent-node}
 use Rattle.theory_resolution.specs.Direct.{Env, env_by, found, first_hit}
 use Rattle.theory_resolution.proofs.Step.{EnvLaws}
+use Rattle.std.specs.Prelude as code
 use Rattle.node_step.specs.declared.Hit.{Hit}
 use Rattle.node_step.specs.Step.{digit, put, parent_of, reaches, find_row, no_hit, hit_at, seek}
 use Rattle.node_step.specs.Rows.{pack, numbers_from, Numbers}
@@ -111,7 +112,7 @@ module _ (t : Table) (few : length (nodes t) ≤ most_nodes) (c : ℕ) (known : 
       ∙ ap (λ z. number (nodes t) z (get_or (row_of t s) c [])) (zero-add c)
 
 -- a hit, by its node's number
-abbrev pub hit_of : Table → ℕ → Option direct.Hit → Hit
+abbrev pub hit_of : Table → ℕ → Option direct.Hit → code.Option Hit
 hit_of t c none = no_hit
 hit_of t c (some h) = hit_at (number (nodes t) c h.at) h.signal
 
@@ -156,7 +157,7 @@ module _ (table ps : List ℕ) (n : ℕ) (t : Table) (wf : WellFormed t) (nu : N
         by.finds (set row c p) set-anchored (length-set row c p ∙ row-length (get_or t.signals s []) 0 t.cats)
         ∙ ap (λ z. found_row (find_row rows z 0 n)) (sym key-is)
 
-  found_right : (d : Parts) (f : ℕ) (o : Option ℕ) → o ≡ found_row f → (rest : Hit) (more : Option direct.Hit) → rest ≡ hit_of t c more
+  found_right : (d : Parts) (f : ℕ) (o : Option ℕ) → o ≡ found_row f → (rest : code.Option Hit) (more : Option direct.Hit) → rest ≡ hit_of t c more
       → cond (ltb f most_signals) (hit_at (no d) f) rest ≡ hit_of t c (found d o more)
   found_right d f o e rest more r = go (ltb f most_signals) refl
     where

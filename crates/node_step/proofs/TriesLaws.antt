@@ -8,6 +8,7 @@ use lib.Dec.{eqb, leb}
 use native.Mathlib.Omega.{arith}
 use Rattle.base_numbers.specs.Numbers.{most_tries}
 use Rattle.node_step.specs.declared.State.{State}
+use Rattle.std.specs.Prelude.{Option, Some, None}
 use Rattle.node_step.specs.declared.Hit.{Hit}
 use Rattle.node_step.specs.Step.{parent_of, hit_numbers}
 use Rattle.node_step.specs.Tries.{depth, tries_to, tries_numbers}
@@ -43,15 +44,15 @@ module _ (ps : List ℕ) (d n p : ℕ) (v : depth ps most_tries d ≡ n + depth 
   depth-end h = let m : 9 - n ≡ 0 = omega arith in let w : depth ps (9 - n) p ≡ 0 = ap (λ x. depth ps x p) m in omega arith
 
 -- the tries to a hit at p, if there is one
-module _ (ps : List ℕ) (d p : ℕ) (f : Bool) where
-  pub tries-none : f ≡ false → 0 ≡ cond f (suc (depth ps most_tries d) - depth ps most_tries p) 0
+module _ (ps : List ℕ) (d : ℕ) (f : Option Hit) where
+  pub tries-none : f ≡ None → 0 ≡ tries_to ps d f
   tries-none e = rw e
 
-  module _ {a b : ℕ} (e : f ≡ true) (i : a ≡ depth ps most_tries d) (j : b ≡ depth ps most_tries p) where
-    pub tries-count : b ≤ a + 1 → a + 1 - b ≡ cond f (suc (depth ps most_tries d) - depth ps most_tries p) 0
+  module _ (h : Hit) {a b : ℕ} (e : f ≡ Some h) (i : a ≡ depth ps most_tries d) (j : b ≡ depth ps most_tries h.node) where
+    pub tries-count : b ≤ a + 1 → a + 1 - b ≡ tries_to ps d f
     tries-count l = rw (e, ← i, ← j) (omega arith)
 
-    pub tries-over : a + 1 < b → 0 ≡ cond f (suc (depth ps most_tries d) - depth ps most_tries p) 0
+    pub tries-over : a + 1 < b → 0 ≡ tries_to ps d f
     tries-over l = rw (e, ← i, ← j) (omega arith)
 
 module _ (rows ps : List ℕ) (n : ℕ) (st : State) (c d : ℕ) (whole : Bool) where
@@ -59,7 +60,7 @@ module _ (rows ps : List ℕ) (n : ℕ) (st : State) (c d : ℕ) (whole : Bool) 
   unfolding tries_numbers
   tries-out h = simp (le-leb 8 c h)
 
-  pub tries-by-hit : {x : Hit} {r : ℕ} → c < 8 → x ≡ hit_numbers rows ps n st c d whole → r ≡ tries_to ps d x → r ≡ tries_numbers rows ps n st c d whole
+  pub tries-by-hit : {x : Option Hit} {r : ℕ} → c < 8 → x ≡ hit_numbers rows ps n st c d whole → r ≡ tries_to ps d x → r ≡ tries_numbers rows ps n st c d whole
   unfolding tries_numbers
   tries-by-hit h i v = v ∙ ap (tries_to ps d) i ∙ simp (lt-leb 8 c h)
 
@@ -77,10 +78,7 @@ pub tries-bound : (rows ps : List ℕ) (n : ℕ) (st : State) (c d : ℕ) (whole
 unfolding tries_numbers
 tries-bound rows ps n st c d whole = go (leb 8 c) (hit_numbers rows ps n st c d whole)
   where
-    to : (h : Hit) (b : Bool) → cond b (suc (depth ps most_tries d) - depth ps most_tries h.node) 0 ≤ 10
-    to h true = omega (arith, depth-bound ps 9 d)
-    to h false = omega arith
-
-    go : (b : Bool) (h : Hit) → cond b 0 (tries_to ps d h) ≤ 10
+    go : (b : Bool) (h : Option Hit) → cond b 0 (tries_to ps d h) ≤ 10
     go true h = omega arith
-    go false h = to h h.found
+    go false None = omega arith
+    go false (Some h) = omega (arith, depth-bound ps 9 d)

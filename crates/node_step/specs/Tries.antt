@@ -1,5 +1,5 @@
 -- The candidates that a step tries, over the same arrays.
-use Rattle.std.specs.Prelude.{ℕ, zero, suc, ◌-◌, Bool, cond, List, eqb, leb}
+use Rattle.std.specs.Prelude.{ℕ, zero, suc, ◌-◌, Bool, cond, List, Option, Some, None, eqb, leb}
 use Rattle.base_numbers.specs.Numbers.{most_categories, most_tries}
 use Rattle.node_step.specs.declared.State.{State}
 use Rattle.node_step.specs.declared.Hit.{Hit}
@@ -11,8 +11,9 @@ depth ps zero d = 0
 depth ps (suc n) d = cond (eqb d 0) 0 (suc (depth ps n (parent_of ps d)))
 
 -- the candidates from d to where a signal was found, both counted
-abbrev pub tries_to : List ℕ → ℕ → Hit → ℕ
-tries_to ps d h = cond h.found (suc (depth ps most_tries d) - depth ps most_tries h.node) 0
+abbrev pub tries_to : List ℕ → ℕ → Option Hit → ℕ
+tries_to ps d None = 0
+tries_to ps d (Some h) = suc (depth ps most_tries d) - depth ps most_tries h.node
 
 -- the tries of one step in category c, at the node or root d, which is said whole or with more parts under it
 unfoldable pub tries_numbers : List ℕ → List ℕ → ℕ → State → ℕ → ℕ → Bool → ℕ

@@ -15,37 +15,30 @@ pub mod tries;
 
 ghost use Rattle.std.specs.Prelude.{◌≡◌, ◌&&◌, ◌≤◌, ◌<◌, min, eqb};
 ghost use Rattle.base_numbers.specs.Numbers.{most_categories, most_signals, most_tries};
-ghost use Rattle.node_step.specs.Step.{row_at, digit, put, parent_of, inner_at, reaches, find_row, seek, extends, progress_in, is_shut, last_taken};
+ghost use Rattle.node_step.specs.Step.{row_at, digit, put, parent_of, inner_at, reaches, find_row, found_at, seek, extends, is_shut, last_taken};
 ghost use Rattle.node_step.specs.Step.{takes_past, status_from, moved, hit_numbers, step_numbers};
 
-use base_bytes::numbers::at_most;
 use base_numbers::{LAST_NODE, MOST_CATEGORIES, MOST_NODES, MOST_SIGNALS, MOST_TRIES};
+use node_search::decoded::Decoded;
 
 // What is kept of the last URN that a category took: the category is open at its place, held at a node, or shut for good.
-#[derive(Clone, Copy)]
+#[derive(Clone, Copy, PartialEq, Eq)]
 pub enum Status {
     Open,
     Held(u8),
     Shut,
 }
 
-// One category's progress.
-#[derive(Clone, Copy)]
-pub struct Progress {
-    pub status: Status,
-}
-
-// The current signal, and each category's progress; those past the table's are open.
+// The current signal, and each category's status; those past the table's are open.
 #[derive(Clone, Copy)]
 pub struct State {
     pub signal: u8,
-    pub categories: [Progress; MOST_CATEGORIES],
+    pub categories: [Status; MOST_CATEGORIES],
 }
 
 // A signal that was found, with the node at which it was.
 #[derive(Clone, Copy)]
 pub struct Hit {
-    pub found: bool,
     pub node: u8,
     pub signal: u8,
 }
@@ -128,68 +121,45 @@ pub fn reaches_of(parents: &[u8; MOST_NODES], q: u8, d: u8) -> bool
     false
 }
 
-// The first of the n signals that has these places, or 32.
-fn find_row(rows: &[u64; MOST_SIGNALS], n: usize, key: u64) -> usize
+// The first of the n signals that has these places.
+fn find_row(rows: &[u64; MOST_SIGNALS], n: usize, key: u64) -> Option<u8>
     requires { n ≤ most_signals }
-    ensures { result ≡ find_row rows.now key 0 n }
+    ensures { result ≡ found_at (find_row rows.now key 0 n) }
 {
-    let mut i = 0;
-    while i < n {
+    for i in 0..n {
         if rows[i] == key {
-            return i;
+            return Some(i as u8);
         }
-        i += 1;
     }
-    MOST_SIGNALS
+    None
 }
 
-// The signal with this row among the first n, at most 32, or 32.
-pub fn find_signal(rows: &[u64; MOST_SIGNALS], n: usize, key: u64) -> usize
-    ensures { result ≡ find_row rows.now key 0 (min n most_signals) }
+// The signal with this row among the first n, at most 32.
+pub fn find_signal(rows: &[u64; MOST_SIGNALS], n: usize, key: u64) -> Option<u8>
+    ensures { result ≡ found_at (find_row rows.now key 0 (min n most_signals)) }
 {
-    find_row(rows, at_most(n, MOST_SIGNALS), key)
+    find_row(rows, n.min(MOST_SIGNALS), key)
 }
 
-// The first of d and its ancestors down to q at which there is a signal with that place in c and the row's places elsewhere.
-pub(crate) fn seek_from<'a>(
-    rows: &'a [u64; MOST_SIGNALS],
-    parents: &'a [u8; MOST_NODES],
-    n: usize,
-    row: u64,
-    c: usize,
-    q: u8,
-    d: u8,
-) -> Hit
-    requires { (n ≤ most_signals) × (c < most_categories) × (q ≡ digit row c) }
-    ensures { result ≡ seek rows.now parents.now n row c q most_tries d }
+// The first of k and its ancestors down to q at which there is a signal with that place in c and the row's places elsewhere.
+pub(crate) fn seek_from(d: &Decoded, row: u64, c: usize, q: u8, k: u8) -> Option<Hit>
+    requires { (c < most_categories) × (q ≡ digit row c) }
+    ensures { result ≡ seek d.now.rows d.now.parent (min d.now.signals most_signals) row c q most_tries k }
 {
-    let mut p = d;
+    let mut p = k;
     let mut left: usize = MOST_TRIES;
     while 0 < left {
         let key = put_at(row, c, q, p);
-        let i = find_row(rows, n, key);
-        if i < MOST_SIGNALS {
-            return Hit {
-                found: true,
-                node: p,
-                signal: i as u8,
-            };
+        if let Some(signal) = find_signal(&d.rows, d.signals, key) {
+            return Some(Hit { node: p, signal });
         }
         if p == q {
-            return Hit {
-                found: false,
-                node: 0,
-                signal: 0,
-            };
+            return None;
         }
-        p = parent(parents, p);
+        p = parent(&d.parent, p);
         left -= 1;
     }
-    Hit {
-        found: false,
-        node: 0,
-        signal: 0,
-    }
+    None
 }
 
 // Both: said whole, and at the node.
@@ -212,18 +182,10 @@ pub fn extends_of(parents: &[u8; MOST_NODES], q: u8, d: u8, whole: bool) -> bool
     reaches_of(parents, q, d)
 }
 
-// The progress of category c.
-pub(crate) fn progress_in(categories: [Progress; MOST_CATEGORIES], c: usize) -> Progress
-    requires { c < most_categories }
-    ensures { result ≡ progress_in categories c }
+// A category with this status is shut.
+fn is_shut(status: Status) -> bool
+    ensures { result ≡ is_shut status }
 {
-    categories[c]
-}
-
-fn is_shut(progress: Progress) -> bool
-    ensures { result ≡ is_shut progress.status }
-{
-    let status = progress.status;
     match status {
         Status::Open => false,
         Status::Held(_) => false,
@@ -232,10 +194,9 @@ fn is_shut(progress: Progress) -> bool
 }
 
 // The node of the URN last taken in a category with the place q, or the root.
-pub(crate) fn last_taken(progress: Progress, q: u8) -> u8
-    ensures { result ≡ last_taken progress.status q }
+pub(crate) fn last_taken(status: Status, q: u8) -> u8
+    ensures { result ≡ last_taken status q }
 {
-    let status = progress.status;
     match status {
         Status::Open => q,
         Status::Held(w) => w,
@@ -246,105 +207,75 @@ pub(crate) fn last_taken(progress: Progress, q: u8) -> u8
 // A category takes what is said: it is not shut, and what is said properly extends the URN last taken there.
 pub(crate) fn takes_at(
     parents: &[u8; MOST_NODES],
-    progress: Progress,
+    status: Status,
     last: u8,
     d: u8,
     whole: bool,
 ) -> bool
-    ensures { result ≡ takes_past parents.now progress.status last d whole }
+    ensures { result ≡ takes_past parents.now status last d whole }
 {
-    if is_shut(progress) {
+    if is_shut(status) {
         return false;
     }
     extends_of(parents, last, d, whole)
 }
 
-// A category's progress after a signal was found at node p: open if all of what is said was found, else held at d, or shut.
-pub(crate) fn progress_from(inner: &[bool; MOST_NODES], d: u8, whole: bool, p: u8) -> Progress
-    ensures { result.status ≡ status_from inner.now d whole p }
+// A category's status after a signal was found at node p: open if all of what is said was found, else held at d, or shut.
+pub(crate) fn status_from(inner: &[bool; MOST_NODES], d: u8, whole: bool, p: u8) -> Status
+    ensures { result ≡ status_from inner.now d whole p }
 {
     if !whole {
-        return Progress {
-            status: Status::Shut,
-        };
+        return Status::Shut;
     }
     if p == d {
-        return Progress {
-            status: Status::Open,
-        };
+        return Status::Open;
     }
     if inner_at(inner, d) {
-        return Progress {
-            status: Status::Held(d),
-        };
+        return Status::Held(d);
     }
-    Progress {
-        status: Status::Shut,
-    }
+    Status::Shut
 }
 
 // The state after a search.
-fn moved_by(inner: &[bool; MOST_NODES], st: State, c: usize, d: u8, whole: bool, h: Hit) -> State
+fn moved_by(d: &Decoded, st: State, c: usize, k: u8, whole: bool, found: Option<Hit>) -> State
     requires { c < most_categories }
-    ensures { result ≡ moved inner.now st c d whole h }
+    ensures { result ≡ moved d.now.inner st c k whole found }
 {
-    if h.found {
-        let progress = progress_from(inner, d, whole, h.node);
-        let mut categories = st.categories;
-        categories[c] = progress;
-        return State {
-            signal: h.signal,
-            categories,
-        };
+    match found {
+        Some(h) => {
+            let mut categories = st.categories;
+            categories[c] = status_from(&d.inner, k, whole, h.node);
+            State {
+                signal: h.signal,
+                categories,
+            }
+        }
+        None => st,
     }
-    st
 }
 
-// The signal found for what is said at the node or root with number d, in category c, if the category takes it.
-fn hit_for<'a>(
-    rows: &'a [u64; MOST_SIGNALS],
-    parents: &'a [u8; MOST_NODES],
-    signals: usize,
-    st: State,
-    c: usize,
-    d: u8,
-    whole: bool,
-) -> Hit
+// The signal found for what is said at the node or root with number k, in category c, if the category takes it.
+fn hit_for(d: &Decoded, st: State, c: usize, k: u8, whole: bool) -> Option<Hit>
     requires { c < most_categories }
-    ensures { result ≡ hit_numbers rows.now parents.now signals st c d whole }
+    ensures { result ≡ hit_numbers d.now.rows d.now.parent d.now.signals st c k whole }
 {
-    let row = row_at(rows, st.signal);
+    let row = row_at(&d.rows, st.signal);
     let q = digit_at(row, c);
-    let categories = st.categories;
-    let progress = progress_in(categories, c);
-    let last = last_taken(progress, q);
-    if takes_at(parents, progress, last, d, whole) {
-        let n = at_most(signals, MOST_SIGNALS);
-        return seek_from(rows, parents, n, row, c, q, d);
+    let status = st.categories[c];
+    let last = last_taken(status, q);
+    if takes_at(&d.parent, status, last, k, whole) {
+        return seek_from(d, row, c, q, k);
     }
-    Hit {
-        found: false,
-        node: 0,
-        signal: 0,
-    }
+    None
 }
 
-// One step at the node or root with number d, in category c.
-pub fn step<'a>(
-    rows: &'a [u64; MOST_SIGNALS],
-    parents: &'a [u8; MOST_NODES],
-    inner: &'a [bool; MOST_NODES],
-    signals: usize,
-    st: State,
-    c: usize,
-    d: u8,
-    whole: bool,
-) -> State
-    ensures { result ≡ step_numbers rows.now parents.now inner.now signals st c d whole }
+// One step at the node or root with number k, in category c.
+pub fn step(d: &Decoded, st: State, c: usize, k: u8, whole: bool) -> State
+    ensures { result ≡ step_numbers d.now.rows d.now.parent d.now.inner d.now.signals st c k whole }
 {
     if MOST_CATEGORIES <= c {
         return st;
     }
-    let h = hit_for(rows, parents, signals, st, c, d, whole);
-    moved_by(inner, st, c, d, whole, h)
+    let found = hit_for(d, st, c, k, whole);
+    moved_by(d, st, c, k, whole, found)
 }

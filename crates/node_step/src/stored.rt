@@ -5,14 +5,13 @@ ghost use Rattle.node_step.specs.Step.{row_at, digit, extends};
 ghost use Rattle.node_step.specs.StatusByte.{same_packed, byte_of, status_of, step_packed, moved_packed, fits_by};
 
 use crate::{
-    Hit, Progress, Status, digit_at, extends_of, last_taken, progress_from, put_at, row_at,
-    seek_from, takes_at,
+    Hit, Status, digit_at, extends_of, last_taken, put_at, row_at, seek_from, status_from, takes_at,
 };
-use base_bytes::numbers::at_most;
-use base_numbers::{MOST_CATEGORIES, MOST_NODES, MOST_SIGNALS};
+use base_numbers::{MOST_CATEGORIES, MOST_NODES};
+use node_search::decoded::Decoded;
 
 // A state with its categories' bytes in one number, category 0 lowest.
-#[derive(Clone, Copy)]
+#[derive(Clone, Copy, PartialEq, Eq)]
 pub struct Packed {
     pub signal: u8,
     pub statuses: u64,
@@ -22,17 +21,13 @@ pub struct Packed {
 pub fn same(a: Packed, b: Packed) -> bool
     ensures { result ≡ same_packed a b }
 {
-    if a.signal != b.signal {
-        return false;
-    }
-    a.statuses == b.statuses
+    a == b
 }
 
-// The byte of a category: 0 open, 1 shut, 1 + n held at node n.
-pub fn byte_of(progress: Progress) -> u8
-    ensures { result ≡ byte_of progress.status }
+// The byte of a status: 0 open, 1 shut, 1 + n held at node n.
+pub fn byte_of(status: Status) -> u8
+    ensures { result ≡ byte_of status }
 {
-    let status = progress.status;
     match status {
         Status::Open => 0,
         Status::Held(n) => {
@@ -45,108 +40,75 @@ pub fn byte_of(progress: Progress) -> u8
     }
 }
 
-// The progress that a byte says.
-pub fn progress_of(b: u8) -> Progress
-    ensures { result.status ≡ status_of b }
+// The status that a byte says.
+pub fn status_of(b: u8) -> Status
+    ensures { result ≡ status_of b }
 {
     if b == 0 {
-        return Progress {
-            status: Status::Open,
-        };
+        return Status::Open;
     }
     if b == 1 {
-        return Progress {
-            status: Status::Shut,
-        };
+        return Status::Shut;
     }
-    let n = b - 1;
-    Progress {
-        status: Status::Held(n),
-    }
+    Status::Held(b - 1)
 }
 
 // The state after a search; b is the byte of category c.
 fn moved_packed(
-    inner: &[bool; MOST_NODES],
+    d: &Decoded,
     st: Packed,
     c: usize,
     b: u8,
-    d: u8,
+    k: u8,
     whole: bool,
-    h: Hit,
+    found: Option<Hit>,
 ) -> Packed
     requires { (c < most_categories) × (b ≡ digit st.statuses c) }
-    ensures { result ≡ moved_packed inner.now st c d whole h }
+    ensures { result ≡ moved_packed d.now.inner st c k whole found }
 {
-    if h.found {
-        let progress = progress_from(inner, d, whole, h.node);
-        let after = byte_of(progress);
-        let statuses = put_at(st.statuses, c, b, after);
-        return Packed {
-            signal: h.signal,
-            statuses,
-        };
+    match found {
+        Some(h) => {
+            let after = byte_of(status_from(&d.inner, k, whole, h.node));
+            Packed {
+                signal: h.signal,
+                statuses: put_at(st.statuses, c, b, after),
+            }
+        }
+        None => st,
     }
-    st
 }
 
-// One step at the node or root with number d, in category c.
-pub fn step_packed<'a>(
-    rows: &'a [u64; MOST_SIGNALS],
-    parents: &'a [u8; MOST_NODES],
-    inner: &'a [bool; MOST_NODES],
-    signals: usize,
-    st: Packed,
-    c: usize,
-    d: u8,
-    whole: bool,
-) -> Packed
-    ensures { result ≡ step_packed rows.now parents.now inner.now signals st c d whole }
+// One step at the node or root with number k, in category c.
+pub fn step_packed(d: &Decoded, st: Packed, c: usize, k: u8, whole: bool) -> Packed
+    ensures { result ≡ step_packed d.now.rows d.now.parent d.now.inner d.now.signals st c k whole }
 {
     if MOST_CATEGORIES <= c {
         return st;
     }
-    let row = row_at(rows, st.signal);
+    let row = row_at(&d.rows, st.signal);
     let q = digit_at(row, c);
     let b = digit_at(st.statuses, c);
-    let progress = progress_of(b);
-    let last = last_taken(progress, q);
-    if takes_at(parents, progress, last, d, whole) {
-        let n = at_most(signals, MOST_SIGNALS);
-        let h = seek_from(rows, parents, n, row, c, q, d);
-        return moved_packed(inner, st, c, b, d, whole, h);
+    let status = status_of(b);
+    let last = last_taken(status, q);
+    if takes_at(&d.parent, status, last, k, whole) {
+        let found = seek_from(d, row, c, q, k);
+        return moved_packed(d, st, c, b, k, whole, found);
     }
     st
 }
 
-// The place of signal s in category c is a proper ancestor of node d.
-fn beyond<'a>(
-    rows: &'a [u64; MOST_SIGNALS],
-    parents: &'a [u8; MOST_NODES],
-    s: u8,
-    c: usize,
-    d: u8,
-) -> bool
+// The place of signal s in category c is a proper ancestor of node k.
+fn beyond(d: &Decoded, s: u8, c: usize, k: u8) -> bool
     requires { c < most_categories }
-    ensures { result ≡ extends parents.now (digit (row_at rows.now s) c) d true }
+    ensures { result ≡ extends d.now.parent (digit (row_at d.now.rows s) c) k true }
 {
-    let row = row_at(rows, s);
-    let q = digit_at(row, c);
-    extends_of(parents, q, d, true)
+    let q = digit_at(row_at(&d.rows, s), c);
+    extends_of(&d.parent, q, k, true)
 }
 
 // Category c can have the byte b at signal s: 0, 1, or 1 + n for a node n of c that has nodes under it and lies beyond its place.
-pub fn fits<'a>(
-    rows: &'a [u64; MOST_SIGNALS],
-    parents: &'a [u8; MOST_NODES],
-    inner: &'a [bool; MOST_NODES],
-    category: &'a [u8; MOST_NODES],
-    nodes: usize,
-    s: u8,
-    c: usize,
-    b: u8,
-) -> bool
-    ensures { result ≡ fits_by rows.now parents.now inner.now category.now nodes s c b }
+pub fn fits(d: &Decoded, s: u8, c: usize, b: u8) -> bool
+    ensures { result ≡ fits_by d.now.rows d.now.parent d.now.inner d.now.category d.now.nodes s c b }
 {
     if b <= 1 {
         return true;
@@ -154,16 +116,16 @@ pub fn fits<'a>(
     if MOST_CATEGORIES <= c {
         return false;
     }
-    let n = at_most(nodes, MOST_NODES);
-    let k = b as usize - 2;
-    if n <= k {
+    let n = d.nodes.min(MOST_NODES);
+    let i = b as usize - 2;
+    if n <= i {
         return false;
     }
-    if base_bytes::numbers::wide(category[k]) != c {
+    if usize::from(d.category[i]) != c {
         return false;
     }
-    if !inner[k] {
+    if !d.inner[i] {
         return false;
     }
-    beyond(rows, parents, s, c, b - 1)
+    beyond(d, s, c, b - 1)
 }

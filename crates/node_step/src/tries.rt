@@ -5,7 +5,8 @@ ghost use Rattle.node_step.specs.Step.{step_numbers};
 ghost use Rattle.node_step.specs.Tries.{depth, tries_to, tries_numbers};
 
 use crate::{Hit, State};
-use base_numbers::{MOST_CATEGORIES, MOST_DEPTH, MOST_NODES, MOST_SIGNALS};
+use base_numbers::{MOST_CATEGORIES, MOST_DEPTH, MOST_NODES};
+use node_search::decoded::Decoded;
 
 // The state after a step, and the candidates tried.
 #[derive(Clone, Copy)]
@@ -30,33 +31,24 @@ fn depth_of(parents: &[u8; MOST_NODES], d: u8) -> u8
     n
 }
 
-// The candidates from d to where the signal was found, both counted.
-fn tries_to(parents: &[u8; MOST_NODES], d: u8, h: Hit) -> u8
-    ensures { (result ≡ tries_to parents.now d h) × (result ≤ 10) }
+// The candidates from k to where the signal was found, both counted.
+fn tries_to(d: &Decoded, k: u8, found: Option<Hit>) -> u8
+    ensures { (result ≡ tries_to d.now.parent k found) × (result ≤ 10) }
 {
-    if h.found {
-        let from = depth_of(parents, d) + 1;
-        let to = depth_of(parents, h.node);
-        if to <= from {
-            return from - to;
+    match found {
+        Some(h) => {
+            let from = depth_of(&d.parent, k) + 1;
+            let to = depth_of(&d.parent, h.node);
+            if to <= from { from - to } else { 0 }
         }
+        None => 0,
     }
-    0
 }
 
-// One step at the node or root with number d, in category c, with its tries.
-pub fn step<'a>(
-    rows: &'a [u64; MOST_SIGNALS],
-    parents: &'a [u8; MOST_NODES],
-    inner: &'a [bool; MOST_NODES],
-    signals: usize,
-    st: State,
-    c: usize,
-    d: u8,
-    whole: bool,
-) -> Counted
-    ensures state_value { result.state ≡ step_numbers rows.now parents.now inner.now signals st c d whole }
-    ensures tries_value { (result.tries ≡ tries_numbers rows.now parents.now signals st c d whole) × (result.tries ≤ 10) }
+// One step at the node or root with number k, in category c, with its tries.
+pub fn step(d: &Decoded, st: State, c: usize, k: u8, whole: bool) -> Counted
+    ensures state_value { result.state ≡ step_numbers d.now.rows d.now.parent d.now.inner d.now.signals st c k whole }
+    ensures tries_value { (result.tries ≡ tries_numbers d.now.rows d.now.parent d.now.signals st c k whole) × (result.tries ≤ 10) }
 {
     if MOST_CATEGORIES <= c {
         return Counted {
@@ -64,8 +56,9 @@ pub fn step<'a>(
             tries: 0,
         };
     }
-    let h = crate::hit_for(rows, parents, signals, st, c, d, whole);
-    let state = crate::moved_by(inner, st, c, d, whole, h);
-    let tries = tries_to(parents, d, h);
-    Counted { state, tries }
+    let found = crate::hit_for(d, st, c, k, whole);
+    Counted {
+        state: crate::moved_by(d, st, c, k, whole, found),
+        tries: tries_to(d, k, found),
+    }
 }

@@ -1,8 +1,8 @@
 use Rattle.node_step.proofs.StepLaws.{moved-found, moved_none}
 use Rattle.node_step.proofs.moved_by.Goals as goal
 
-pub returns-then-h : goal.returns-then-h
-returns-then-h c = moved-found _ _ _ _ _ _ c.if-h.true c.progress_from-progress.ensures
+pub returns-in-Some : goal.returns-in-Some
+returns-in-Some c = moved-found _ _ _ _ _ _ _ c.in-Some.is c.status_from.ensures
 
-pub returns : goal.returns
-returns c = moved_none _ _ _ _ _ _ c.if-h.false
+pub returns-in-None : goal.returns-in-None
+returns-in-None c = moved_none _ _ _ _ _ _ c.in-None.is

@@ -5,4 +5,4 @@ pub returns-then-c-ge-MOST_CATEGORIES : goal.returns-then-c-ge-MOST_CATEGORIES
 returns-then-c-ge-MOST_CATEGORIES c = step-out _ _ _ _ _ _ _ _ c.if-c-ge-MOST_CATEGORIES.true
 
 pub returns : goal.returns
-returns c = step-by-hit _ _ _ _ _ _ _ _ c.if-c-ge-MOST_CATEGORIES.false c.hit_for-h.ensures c.moved_by.ensures
+returns c = step-by-hit _ _ _ _ _ _ _ _ c.if-c-ge-MOST_CATEGORIES.false c.hit_for-found.ensures c.moved_by.ensures

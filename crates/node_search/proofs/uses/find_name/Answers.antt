@@ -9,24 +9,21 @@ use Rattle.node_search.proofs.TextLaws.{text_in_lem}
 use Rattle.node_search.proofs.uses.find_name.Goals as goal
 
 pub loop-i-init : goal.loop-i-init
-loop-i-init c = (omega arith, ap (find_name c.args.t.now c.args.name_at.now c.args.name_len.now (lowered c.args.s.now) 0) (sym (sub-zero c.args.n)))
+loop-i-init c = ap (find_name c.args.t.now c.args.d.now.name_at c.args.d.now.name_len (lowered c.args.s.now) 0) (sym (sub-zero c.args.n))
 
 pub returns-then-same_lowered : goal.returns-then-same_lowered
-returns-then-same_lowered c = let s = c.args.s.now in
-    let loop-test = c.loop-i-test.true in let i = c.loop-i.i in
-    let inv = c.loop-i.invariant in
-    name-found c.args.t.now (lowered s) c.args.name_at.now c.args.name_len.now c.args.n i inv.1 loop-test (c.same_lowered.ensures
-    ∙ ap (same_name (lowered s)) (text_in_lem _ _ _ _ _ c.name_text.ensures.result_value (omega (arith, c.requires)))) c.if-same_lowered.true
+returns-then-same_lowered c =
+    name-found c.args.t.now (lowered c.args.s.now) c.args.d.now.name_at c.args.d.now.name_len c.args.n c.loop-i.i c.loop-i.invariant c.loop-i-test.true
+    (c.same_lowered.ensures
+    ∙ ap (same_name (lowered c.args.s.now)) (text_in_lem _ _ _ _ _ c.name_text-name.ensures.result_value (omega (arith, c.requires))))
+    c.if-same_lowered.true
 
 pub loop-i-preserved : goal.loop-i-preserved
-loop-i-preserved c = let s = c.args.s.now in
-    let loop-test = c.loop-i-test.true in let i = c.loop-i.i in
-    let inv = c.loop-i.invariant in (
-      omega arith,
-      name-more c.args.t.now (lowered s) c.args.name_at.now c.args.name_len.now c.args.n i inv.1 loop-test
-          (c.same_lowered.ensures
-          ∙ ap (same_name (lowered s)) (text_in_lem _ _ _ _ _ c.name_text.ensures.result_value (omega (arith, c.requires)))) c.if-same_lowered.false,
-    )
+loop-i-preserved c =
+    name-more c.args.t.now (lowered c.args.s.now) c.args.d.now.name_at c.args.d.now.name_len c.args.n c.loop-i.i c.loop-i.invariant c.loop-i-test.true
+    (c.same_lowered.ensures
+    ∙ ap (same_name (lowered c.args.s.now)) (text_in_lem _ _ _ _ _ c.name_text-name.ensures.result_value (omega (arith, c.requires))))
+    c.if-same_lowered.false
 
 pub returns : goal.returns
-returns c = name-none c.args.t.now (lowered c.args.s.now) c.args.name_at.now c.args.name_len.now c.args.n c.loop-i.i c.loop-i.invariant.1 c.loop-i-test.false
+returns c = name-none c.args.t.now (lowered c.args.s.now) c.args.d.now.name_at c.args.d.now.name_len c.args.n c.loop-i.i c.loop-i.invariant c.loop-i-test.false

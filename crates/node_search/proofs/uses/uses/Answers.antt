@@ -3,33 +3,26 @@ use mathlib.Core.Path.{◌∙◌}
 use Rattle.node_search.proofs.UseLaws.{uses-other, uses-strange, uses-found, part-rest, name-part, path-part, colon-short}
 use Rattle.node_search.proofs.uses.uses.Goals as goal
 
-pub overflow_add-path : goal.overflow_add-path
-overflow_add-path c = let find = c.find-colon.ensures in
-    let part = c.part-s.ensures in
-    let uri = c.args.uri.now in
-    let short = colon-short uri _ (part ∙ part-rest uri 10) find in
+pub overflow_add-colon : goal.overflow_add-colon
+overflow_add-colon c =
+    let short = colon-short c.args.uri.now _ (c.part-s.ensures ∙ part-rest c.args.uri.now 10) c.find-colon.ensures in
     omega (arith, short)
 
-pub returns-then-c-lt-MOST_CATEGORIES : goal.returns-then-c-lt-MOST_CATEGORIES
-returns-then-c-lt-MOST_CATEGORIES c = let uri = c.args.uri.now in let if2 = c.if-c-lt-MOST_CATEGORIES.true in
-    let find-name = c.find_name-c.ensures in
-    let at_most = c.at_most.ensures in
-    let part2 = c.part-name.ensures in
-    let find = c.find-colon.ensures in
-    let part = c.part-s.ensures in
-    let if1 = c.if-is_alert_urn.true in
-    let is-alert-urn = c.is_alert_urn.ensures in
-    let rest = part ∙ part-rest uri 10 in
-    uses-found c.args.t.now c.args.name_at.now c.args.name_len.now c.args.categories c.args.category.now c.args.at.now c.args.len.now
-    c.args.shared.now c.args.inner.now c.args.nodes uri is-alert-urn if1 _ rest (name-part _ find part2) at_most.0 find-name if2
-    (path-part uri _ rest find c.part-w.ensures) c.at_most-most.ensures.0 c.search_nodes-e.ensures
+pub returns-then-not-is_alert_urn : goal.returns-then-not-is_alert_urn
+returns-then-not-is_alert_urn c = uses-other c.args.t.now c.args.d.now.name_at c.args.d.now.name_len c.args.d.now.categories c.args.d.now.category
+    c.args.d.now.at c.args.d.now.len c.args.d.now.shared c.args.d.now.inner c.args.d.now.nodes c.args.uri.now c.is_alert_urn.ensures
+    c.if-not-is_alert_urn.true
 
-pub returns-else-c-lt-MOST_CATEGORIES : goal.returns-else-c-lt-MOST_CATEGORIES
-returns-else-c-lt-MOST_CATEGORIES c = let uri = c.args.uri.now in
-    uses-strange c.args.t.now c.args.name_at.now c.args.name_len.now c.args.categories c.args.category.now c.args.at.now c.args.len.now
-    c.args.shared.now c.args.inner.now c.args.nodes uri c.is_alert_urn.ensures c.if-is_alert_urn.true _ (c.part-s.ensures ∙ part-rest uri 10)
-    (name-part _ c.find-colon.ensures c.part-name.ensures) c.at_most.ensures.0 c.find_name-c.ensures c.if-c-lt-MOST_CATEGORIES.false
+pub returns-in_err-c : goal.returns-in_err-c
+returns-in_err-c c = c.from_residual.ensures ∙ uses-strange c.args.t.now c.args.d.now.name_at c.args.d.now.name_len c.args.d.now.categories c.args.d.now.category
+    c.args.d.now.at c.args.d.now.len c.args.d.now.shared c.args.d.now.inner c.args.d.now.nodes c.args.uri.now c.is_alert_urn.ensures
+    c.if-not-is_alert_urn.false _ (c.part-s.ensures ∙ part-rest c.args.uri.now 10)
+    (name-part _ c.find-colon.ensures c.part-name.ensures) c.min.ensures c.find_name.ensures c.in_err-c.was
 
-pub returns-else-is_alert_urn : goal.returns-else-is_alert_urn
-returns-else-is_alert_urn c = uses-other c.args.t.now c.args.name_at.now c.args.name_len.now c.args.categories c.args.category.now c.args.at.now c.args.len.now
-    c.args.shared.now c.args.inner.now c.args.nodes c.args.uri.now c.is_alert_urn.ensures c.if-is_alert_urn.false
+pub returns : goal.returns
+returns c =
+    let rest = c.part-s.ensures ∙ part-rest c.args.uri.now 10 in
+    uses-found c.args.t.now c.args.d.now.name_at c.args.d.now.name_len c.args.d.now.categories c.args.d.now.category
+    c.args.d.now.at c.args.d.now.len c.args.d.now.shared c.args.d.now.inner c.args.d.now.nodes c.args.uri.now c.is_alert_urn.ensures
+    c.if-not-is_alert_urn.false _ rest (name-part _ c.find-colon.ensures c.part-name.ensures) c.min.ensures c.find_name.ensures c.in_ok-c.was
+    (path-part c.args.uri.now _ rest c.find-colon.ensures c.part-w.ensures) c.min-2.ensures c.search_nodes-e.ensures

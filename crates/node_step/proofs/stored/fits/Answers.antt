@@ -3,34 +3,34 @@ use mathlib.Core.Path.{refl}
 use Rattle.node_step.proofs.stored.fits.Goals as goal
 
 pub returns-then-b-le1 : goal.returns-then-b-le1
-returns-then-b-le1 c = fits_low c.args.rows.now c.args.parents.now c.args.inner.now c.args.category.now c.args.nodes c.args.s
+returns-then-b-le1 c = fits_low c.args.d.now.rows c.args.d.now.parent c.args.d.now.inner c.args.d.now.category c.args.d.now.nodes c.args.s
     c.args.c c.args.b c.if-b-le1.true
 
 pub returns-then-c-ge-MOST_CATEGORIES : goal.returns-then-c-ge-MOST_CATEGORIES
-returns-then-c-ge-MOST_CATEGORIES c = fits-past c.args.rows.now c.args.parents.now c.args.inner.now c.args.category.now c.args.nodes
+returns-then-c-ge-MOST_CATEGORIES c = fits-past c.args.d.now.rows c.args.d.now.parent c.args.d.now.inner c.args.d.now.category c.args.d.now.nodes
     c.args.s c.args.c c.args.b c.if-b-le1.false c.if-c-ge-MOST_CATEGORIES.true
 
-pub returns-then-n-k : goal.returns-then-n-k
-returns-then-n-k c = fits_out c.args.rows.now c.args.parents.now c.args.inner.now
-    c.args.category.now c.args.nodes c.args.s c.args.c c.args.b c.if-b-le1.false c.if-c-ge-MOST_CATEGORIES.false
-    c.at_most-n.ensures.0 c.if-n-k.true
+pub returns-then-n-i : goal.returns-then-n-i
+returns-then-n-i c = fits_out c.args.d.now.rows c.args.d.now.parent c.args.d.now.inner
+    c.args.d.now.category c.args.d.now.nodes c.args.s c.args.c c.args.b c.if-b-le1.false c.if-c-ge-MOST_CATEGORIES.false
+    c.min-n.ensures c.if-n-i.true
 
-pub returns-then-wide-c : goal.returns-then-wide-c
-returns-then-wide-c c = fits-other c.args.rows.now c.args.parents.now c.args.inner.now c.args.category.now c.args.nodes c.args.s c.args.c c.args.b
+pub returns-then-from-c : goal.returns-then-from-c
+returns-then-from-c c = fits-other c.args.d.now.rows c.args.d.now.parent c.args.d.now.inner c.args.d.now.category c.args.d.now.nodes c.args.s c.args.c c.args.b
     c.if-b-le1.false c.if-c-ge-MOST_CATEGORIES.false
-    c.at_most-n.ensures.0 c.if-n-k.false c.wide.ensures.0 c.if-wide-c.true
+    c.min-n.ensures c.if-n-i.false c.from.ensures c.if-from-c.true
 
-pub returns-then-not-inner-k : goal.returns-then-not-inner-k
-returns-then-not-inner-k c = fits-leaf c.args.rows.now c.args.parents.now c.args.inner.now c.args.category.now c.args.nodes c.args.s c.args.c c.args.b
+pub returns-then-not-d-i : goal.returns-then-not-d-i
+returns-then-not-d-i c = fits-leaf c.args.d.now.rows c.args.d.now.parent c.args.d.now.inner c.args.d.now.category c.args.d.now.nodes c.args.s c.args.c c.args.b
     c.if-b-le1.false
     c.if-c-ge-MOST_CATEGORIES.false
-    c.at_most-n.ensures.0 c.if-n-k.false
-    c.wide.ensures.0 c.if-wide-c.false refl c.if-not-inner-k.true
+    c.min-n.ensures c.if-n-i.false
+    c.from.ensures c.if-from-c.false refl c.if-not-d-i.true
 
 pub returns : goal.returns
-returns c = fits-rest c.args.rows.now c.args.parents.now c.args.inner.now c.args.category.now c.args.nodes c.args.s c.args.c c.args.b
+returns c = fits-rest c.args.d.now.rows c.args.d.now.parent c.args.d.now.inner c.args.d.now.category c.args.d.now.nodes c.args.s c.args.c c.args.b
     c.if-b-le1.false
     c.if-c-ge-MOST_CATEGORIES.false
-    c.at_most-n.ensures.0
-    c.if-n-k.false c.wide.ensures.0
-    c.if-wide-c.false refl c.if-not-inner-k.false c.beyond.ensures
+    c.min-n.ensures
+    c.if-n-i.false c.from.ensures
+    c.if-from-c.false refl c.if-not-d-i.false c.beyond.ensures

@@ -4,9 +4,9 @@ use mathlib.Core.Path.{ap, ◌∙◌}
 use Rattle.node_step.proofs.PackedStep.{moved-found, moved-lost}
 use Rattle.node_step.proofs.stored.moved_packed.Goals as goal
 
-pub returns-then-h : goal.returns-then-h
-returns-then-h c = moved-found _ c.args.st c.args.c _ _ c.args.h c.if-h.true (c.put_at-statuses.ensures
-    ∙ ap (put c.args.st.statuses c.args.c) (c.byte_of-after.ensures ∙ ap byte_of c.progress_from-progress.ensures))
+pub returns-in-Some : goal.returns-in-Some
+returns-in-Some c = moved-found _ c.args.st c.args.c _ _ _ _ c.in-Some.is (c.put_at.ensures
+    ∙ ap (put c.args.st.statuses c.args.c) (c.byte_of-after.ensures ∙ ap byte_of c.status_from.ensures))
 
-pub returns : goal.returns
-returns c = moved-lost _ _ _ _ _ _ c.if-h.false
+pub returns-in-None : goal.returns-in-None
+returns-in-None c = moved-lost _ _ _ _ _ _ c.in-None.is

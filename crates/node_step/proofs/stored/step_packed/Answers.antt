@@ -4,25 +4,22 @@ use native.Mathlib.Omega.{arith}
 use Rattle.node_step.proofs.stored.step_packed.Goals as goal
 
 pub returns-then-c-ge-MOST_CATEGORIES : goal.returns-then-c-ge-MOST_CATEGORIES
-returns-then-c-ge-MOST_CATEGORIES c = packed-past c.args.rows.now c.args.parents.now c.args.inner.now c.args.signals c.args.st c.args.c c.args.d
+returns-then-c-ge-MOST_CATEGORIES c = packed-past c.args.d.now.rows c.args.d.now.parent c.args.d.now.inner c.args.d.now.signals c.args.st c.args.c c.args.k
     c.args.whole (omega arith) c.if-c-ge-MOST_CATEGORIES.true
 
 pub returns-then-takes_at : goal.returns-then-takes_at
-returns-then-takes_at c = packed-goes c.args.rows.now c.args.parents.now c.args.inner.now c.args.signals c.args.st c.args.c c.args.d c.args.whole (omega (
-  arith,
-  c.well_formed.1.1.1.1.0,
-)) c.if-c-ge-MOST_CATEGORIES.false
+returns-then-takes_at c = packed-goes c.args.d.now.rows c.args.d.now.parent c.args.d.now.inner c.args.d.now.signals c.args.st c.args.c c.args.k c.args.whole (omega arith) c.if-c-ge-MOST_CATEGORIES.false
     c.row_at-row.ensures
     c.digit_at-q.ensures
     c.digit_at-b.ensures
-    c.progress_of-progress.ensures
+    c.status_of-status.ensures
     (takes-last _ _ _ _ _ c.last_taken-last.ensures
     c.takes_at.ensures) c.if-takes_at.true
-    c.at_most-n.ensures.0 c.seek_from-h.ensures c.moved_packed.ensures
+    c.seek_from-found.ensures c.moved_packed.ensures
 
 pub returns : goal.returns
-returns c = packed-stay c.args.rows.now c.args.parents.now c.args.inner.now c.args.signals c.args.st c.args.c c.args.d c.args.whole (omega arith)
+returns c = packed-stay c.args.d.now.rows c.args.d.now.parent c.args.d.now.inner c.args.d.now.signals c.args.st c.args.c c.args.k c.args.whole (omega arith)
     c.if-c-ge-MOST_CATEGORIES.false
     c.row_at-row.ensures c.digit_at-q.ensures
-    c.digit_at-b.ensures c.progress_of-progress.ensures
+    c.digit_at-b.ensures c.status_of-status.ensures
     (takes-last _ _ _ _ _ c.last_taken-last.ensures c.takes_at.ensures) c.if-takes_at.false

@@ -8,7 +8,7 @@ returns-then-c-ge-MOST_CATEGORIES c = record { state_value = step-out _ _ _ _ _ 
 
 pub returns : goal.returns
 returns c = record {
-  state_value = step-by-hit _ _ _ _ _ _ _ _ c.if-c-ge-MOST_CATEGORIES.false c.hit_for-h.ensures
-      c.moved_by-state.ensures;
-  tries_value = (tries-by-hit _ _ _ _ _ _ _ c.if-c-ge-MOST_CATEGORIES.false c.hit_for-h.ensures c.tries_to-tries.ensures.0, omega arith);
+  state_value = step-by-hit _ _ _ _ _ _ _ _ c.if-c-ge-MOST_CATEGORIES.false c.hit_for-found.ensures
+      c.moved_by.ensures;
+  tries_value = (tries-by-hit _ _ _ _ _ _ _ c.if-c-ge-MOST_CATEGORIES.false c.hit_for-found.ensures c.tries_to.ensures.0, omega arith);
 }

@@ -1,5 +1,5 @@
 use Rattle.node_step.proofs.ByteLaws.{of_zero, of_one, of-more}
-use Rattle.node_step.proofs.stored.progress_of.Goals as goal
+use Rattle.node_step.proofs.stored.status_of.Goals as goal
 
 pub returns-then-b-eq0 : goal.returns-then-b-eq0
 returns-then-b-eq0 c = of_zero _ c.if-b-eq0.true

@@ -1,5 +1,5 @@
 use Rattle.node_step.proofs.StepLaws.{from_found, from-held, from-shut, from-part}
-use Rattle.node_step.proofs.progress_from.Goals as goal
+use Rattle.node_step.proofs.status_from.Goals as goal
 
 pub returns-then-not-whole : goal.returns-then-not-whole
 returns-then-not-whole c = from-part _ _ _ _ c.if-not-whole.true
