@@ -12,7 +12,7 @@ ghost use Rattle.resolve_record.specs.Coded.{status_by, status_at, fits_by, stat
 use base_numbers::{MOST_CATEGORIES, MOST_VALUES};
 use node_search::decoded::Decoded;
 use node_step::State;
-use node_step::stored::{byte_of, progress_of};
+use node_step::stored::{byte_of, status_of};
 
 // The signal, a status for each of 8 categories (0 open, 1 shut, 1 + n held at node n), and how many values there were. All
 // zero before the first.
@@ -40,7 +40,7 @@ fn status_fits(d: &Decoded, s: u8, c: usize, b: u8) -> bool
     ensures { result ≡ status_by d.now.rows d.now.parent d.now.inner d.now.category d.now.nodes d.now.categories s c b }
 {
     if c < d.categories {
-        node_step::stored::fits(&d.rows, &d.parent, &d.inner, &d.category, d.nodes, s, c, b)
+        node_step::stored::fits(d, s, c, b)
     } else {
         b == 0
     }
@@ -71,7 +71,7 @@ pub fn state(carried: Carried) -> State
 {
     State {
         signal: carried.signal,
-        categories: carried.status.map(progress_of),
+        categories: carried.status.map(status_of),
     }
 }
 

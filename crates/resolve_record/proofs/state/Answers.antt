@@ -7,5 +7,5 @@ use Rattle.resolve_record.proofs.state.Goals as goal
 pub returns : goal.returns
 returns c =
     ap (λ l. record { signal = c.args.carried.signal; categories = l })
-    (sym (tabulate-entries (record { status = Open }) c.map.result (progress_at c.args.carried.status) 8 c.map.ensures.items.long
-    (λ k h. let e = c.map.ensures.items.at k 0 (record { status = Open }) h in grind (arith, e.2))))
+    (sym (tabulate-entries Open c.map.result (progress_at c.args.carried.status) 8 c.map.ensures.items.long
+    (λ k h. let e = c.map.ensures.items.at k 0 Open h in grind (arith, e.2))))
