@@ -1,11 +1,10 @@
 // A decoded table, as small arrays of numbers.
 use base_numbers::{MOST_CATEGORIES, MOST_NODES, MOST_SIGNALS};
 
-// A decoded table: its refusal number, its categories' names, its nodes and the places of its signals. Node k stands at k - 1; its path
+// A decoded table: its categories' names, its nodes and the places of its signals. Node k stands at k - 1; its path
 // shares some bytes with the one before it in its category, and an inner node has nodes under it.
 #[derive(Clone, Copy)]
 pub struct Decoded {
-    pub refusal: u8,
     pub categories: usize,
     pub signals: usize,
     pub nodes: usize,

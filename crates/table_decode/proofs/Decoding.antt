@@ -1,11 +1,11 @@
 -- From the nodes and the places to the answer: 9 to 12, and what the arrays of an accepted table hold.
 use Prim.Native.Nat.{ℕ, zero, suc, ◌+◌, ◌≤◌, ◌<◌, min}
 use mathlib.Core.Path.{◌≡◌, refl, ap, sym, ◌∙◌, subst}
-use mathlib.Core.Logic.{inl, inr, ◌≢◌}
-use mathlib.Core.Bool.{Bool, true, false, cond, not}
+use mathlib.Core.Logic.{inl, inr}
+use mathlib.Core.Bool.{Bool, true, false, not}
 use mathlib.Core.List.{List, [], map, foldl}
 use native.Mathlib.Omega.{arith}
-use borrow.Author.Tests.{lt-leb, ne_eqb}
+use borrow.Author.Tests.{ne_eqb}
 use lib.ListN.{length, get_or}
 use Rattle.base_numbers.specs.Numbers.{most_nodes}
 use Rattle.base_lists.specs.Cuts.{stretch}
@@ -24,27 +24,15 @@ use Rattle.node_step.specs.Rows.{Numbers}
 use Rattle.node_step.proofs.Leaves.{inner-is}
 use Rattle.node_search.proofs.MarkLaws.{shared_of_lem}
 use Rattle.table_sections.specs.declared.Counts.{Counts}
-use Rattle.table_nodes.specs.Nodes.{node_urn, Numbered, Nodes, AllAdded}
+use Rattle.table_nodes.specs.Nodes.{node_urn, Numbered, Nodes, AddedAll}
 use Rattle.table_places.specs.Slots.{urn_of, Numbering, Placed}
 use Rattle.table_places.proofs.Flat.{what_of, tagged-what, nodes-joined}
-use Rattle.table_decode.specs.Tables.{single, zero_silent, distinct, few_nodes, verdict, table_of, table_refusal, category_names}
+use Rattle.table_decode.specs.Tables.{table_of, table_refusal, category_names}
 use Rattle.table_decode.specs.Stages.{ListedAs}
-use Rattle.table_decode.specs.Decoded.{Means}
+use Rattle.table_decode.specs.Decoded.{DecodedAs}
 use Rattle.table_decode.proofs.Accepting.{accepted, node-parts}
 
--- a table with too many nodes is refused
-pub many-nodes : (T : Table) → most_nodes < length (nodes T) → verdict T ≢ 0
-unfolding verdict few_nodes
-many-nodes T h e = go (single T) (zero_silent T) (distinct T) (rw (lt-leb (length (nodes T)) most_nodes h) at e)
-  where
-    go : (a b c : Bool) → ◌≡◌ {A = ℕ} (cond a (cond b (cond c 12 11) 10) 9) 0 → ⊥
-    go true true true z = omega arith
-    go true true false z = omega arith
-    go true false c z = omega arith
-    go false b c z = omega arith
-
-module _ (t name_at name_len signal category path_at path_len : List ℕ) (l : Counts) (S : ListedAs t name_at name_len signal category path_at path_len l)
-    {node cats parents at len : List ℕ} {n : ℕ} (A : AllAdded t (node_urn t category path_at path_len) l.urns node cats parents at len n) where
+module _ (t name_at name_len signal category path_at path_len : List ℕ) (l : Counts) (S : ListedAs t name_at name_len signal category path_at path_len l) where
   abbrev T : Table
   T = table_of t
 
@@ -55,12 +43,12 @@ module _ (t name_at name_len signal category path_at path_len : List ℕ) (l : C
   nodes-are = nodes-joined T ∙ ap (foldl add_urn []) (sym (tagged-what 0 T.signals) ∙ ap (map what_of) (sym S.listing.urns)
       ∙ map-tab what_of (urn_of signal category path) l.urns)
 
-  pub over : most_nodes < n → most_nodes < length (nodes T)
-  over h = omega (arith, A.over h, ap length nodes-are)
+  pub over : most_nodes < length (foldl add_urn [] (tabulate (node_urn t category path_at path_len) l.urns)) → most_nodes < length (nodes T)
+  over h = omega (arith, h, ap length nodes-are)
 
-  module _ (h : n ≤ most_nodes) where
+  module _ {node cats parents at len : List ℕ} {n : ℕ} (A : AddedAll t (node_urn t category path_at path_len) l.urns node cats parents at len n) where
     N : Nodes t cats parents at len n (nodes T)
-    N = subst (λ (z : List Urn). Nodes t cats parents at len n z) (sym nodes-are) (A.kept h)
+    N = subst (λ (z : List Urn). Nodes t cats parents at len n z) (sym nodes-are) A.kept
 
     count : length (nodes T) ≡ n
     count = ap length (sym N.held) ∙ tabulate-length (node_urn t cats at len) n
@@ -79,10 +67,10 @@ module _ (t name_at name_len signal category path_at path_len : List ℕ) (l : C
     numbering =
         record {
           no-root = λ i k. above (foldl add_urn [] (tabulate (node_urn t category path_at path_len) l.urns)) (get_or category i 0) i
-              (get_or node i 0) (A.numbered h i k);
+              (get_or node i 0) (A.numbered i k);
           numbers = λ i k. number-as (get_or category i 0) (path i) (get_or node i 0)
-              (subst (λ (y : List Urn). Numbered y (get_or category i 0) (path i) (get_or node i 0)) (sym nodes-are) (A.numbered h i k));
-          few-nodes = omega (arith, count);
+              (subst (λ (y : List Urn). Numbered y (get_or category i 0) (path i) (get_or node i 0)) (sym nodes-are) (A.numbered i k));
+          few-nodes = omega (arith, A.few, count);
         }
 
     -- no parent's number is over n, so nothing past the nodes has nodes under it
@@ -113,35 +101,31 @@ module _ (t name_at name_len signal category path_at path_len : List ℕ) (l : C
     nodes-in =
         record {
           all-nodes = count;
-          few-nodes = h;
+          few-nodes = A.few;
           cat-at = λ i k. ap (λ (u : Urn). u.cat) (sym (node-is i k));
           path-at = λ i k. ap (λ (u : Urn). u.path) (sym (node-is i k));
         }
 
-    module _ {rows : List ℕ} {r : ℕ} (P : Placed T rows l.signals r) where
-      pub numbers-hold : r ≡ 0 → ((k : ℕ) → k < length (nodes T) → length (node_at (nodes T) k).path ≤ 8) → Numbers rows parents l.signals T
-      numbers-hold z parts =
+    module _ {rows : List ℕ} (P : Placed T rows l.signals 0) where
+      pub numbers-hold : ((k : ℕ) → k < length (nodes T) → length (node_at (nodes T) k).path ≤ 8) → Numbers rows parents l.signals T
+      numbers-hold parts =
           record {
             few-cats = S.listing.few-categories;
             all-signals = S.listing.signals;
             few-signals = S.listing.few-signals;
             few-nodes = numbering.few-nodes;
             few-parts = parts;
-            packed = P.packed z;
+            packed = P.packed refl;
             parent-at = λ k i p x e.
                 let w = N.parent k (omega (arith, i, count)) in
                 let s : w.0 ≡ p = snoc-injective w.0 p w.1 x (sym w.2 ∙ e) in
                 number-as (node_at (nodes T) k).cat w.0 (get_or parents k 0) w.3 ∙ ap (number (nodes T) (node_at (nodes T) k).cat) s;
           }
 
-      pub placed-refused : table_refusal t ≡ r
-      placed-refused = S.refusal ∙ sym P.refusal
-
       -- the answer to an accepted table
-      pub means-accepted : r ≡ 0 → (shared : List ℕ) → SharedIn t cats at len shared (min n most_nodes)
+      pub means-accepted : (shared : List ℕ) → SharedIn t cats at len shared (min n most_nodes)
           → (inner : List Bool) → ((k : ℕ) → k < most_nodes → get_or inner k false ≡ not (childless parents (k + 1) (min n most_nodes)))
-          → Means t (record {
-            refusal = 0;
+          → DecodedAs t (record {
             categories = l.categories;
             signals = l.signals;
             nodes = n;
@@ -155,22 +139,21 @@ module _ (t name_at name_len signal category path_at path_len : List ℕ) (l : C
             inner = inner;
             rows = rows;
           })
-      means-accepted z shared si inner marked =
-          let few : n ≡ min n most_nodes = min-le n most_nodes h in
-          let zero_is : table_refusal t ≡ 0 = placed-refused ∙ z in
+      means-accepted shared si inner marked =
+          let few : n ≡ min n most_nodes = min-le n most_nodes A.few in
+          let zero_is : table_refusal t ≡ 0 = S.refusal ∙ sym P.refusal in
           let acc = accepted t zero_is in
           record {
-            refusal = sym zero_is;
-            refused = λ x. absurd (x zero_is);
-            holds = λ _. record {
+            refusal = zero_is;
+            holds = record {
               categories = sym S.cats;
               names = names_in;
               nodes = nodes-in;
               shared = shared_of_lem t cats at len shared (sym few) si;
               inner = λ i k.
-                  marked i (omega (arith, count, h)) ∙ ap (λ m. not (childless parents (i + 1) m)) (sym few)
-                  ∙ sym (inner-is t cats at len n T nodes-in rows parents l.signals (numbers-hold z (node-parts T acc)) i (omega (arith, count)));
-              numbers = numbers-hold z (node-parts T acc);
+                  marked i (omega (arith, count, A.few)) ∙ ap (λ m. not (childless parents (i + 1) m)) (sym few)
+                  ∙ sym (inner-is t cats at len n T nodes-in rows parents l.signals (numbers-hold (node-parts T acc)) i (omega (arith, count)));
+              numbers = numbers-hold (node-parts T acc);
               well-formed = acc.well;
             };
             past = record {
@@ -182,6 +165,6 @@ module _ (t name_at name_len signal category path_at path_len : List ℕ) (l : C
               len = N.past-len;
               inner = λ k a b.
                   marked k b ∙ ap (λ m. not (childless parents (k + 1) m)) (sym few) ∙ ap not (childless-past (k + 1) n (omega arith) (omega (arith, a)));
-              rows = P.past z;
+              rows = P.past refl;
             };
           }

@@ -1,16 +1,15 @@
 -- From what the functions answer to the refusal of the table: 4 to 8.
 use Prim.Native.Nat.{ℕ, ◌<◌}
-use mathlib.Core.Path.{◌≡◌, refl, ap, ap₂, sym, ◌∙◌, subst}
+use mathlib.Core.Path.{◌≡◌, refl, ap, ap₂, sym, ◌∙◌}
 use mathlib.Core.Bool.{Bool, true, false, not, ◌&&◌, and-false, and-eq-true_iff, false≢true}
 use mathlib.Core.List.{List, [], ◌∷◌, map}
 use native.Mathlib.Omega.{arith}
 use lib.ListN.{length, get_or, length-map}
 use lib.Dec.{eqb}
 use borrow.Author.Tests.{eq-eqb, eqb-true}
-use Rattle.base_numbers.specs.Numbers.{most_nodes, most_signals}
 use Rattle.base_lists.specs.Cuts.{stretch}
 use Rattle.base_lists.proofs.Tests.{all-joined, any-joined, all_alike, any-alike}
-use Rattle.base_lists.proofs.Lists.{index-member, index_at, get_d-all}
+use Rattle.base_lists.proofs.Lists.{index-member, index_at}
 use Rattle.base_lists.proofs.Tabulated.{tabulate-same, tabulate-length, tabulate-at, map-tab}
 use Rattle.base_lists.specs.Lists.{tabulate, member_by, index_by, Distinct, joined}
 use Rattle.base_lists.proofs.Bools.{by_test, same_test}
@@ -23,7 +22,6 @@ use Rattle.theory_resolution.proofs.Names.{name-exact}
 use Rattle.table_sections.specs.Stored.{fault, got, Stored, sections, Read, stored}
 use Rattle.table_sections.specs.Held.{tag, tagged_from, urn_at, ReadAs}
 use Rattle.table_sections.specs.declared.Counts.{Counts}
-use Rattle.table_sections.proofs.Padding.{clear}
 use Rattle.table_sections.proofs.SectionLaws.{sections-read}
 use Rattle.table_places.specs.Slots.{urn_of}
 use Rattle.table_places.proofs.Flat.{what_of, on_what, tagged-what, tagged-map}
@@ -31,32 +29,7 @@ use Rattle.table_decode.specs.Tables.{formed, uses, is_listed, listed, to_urn, t
 use Rattle.table_decode.specs.Tables.{category_names, table_read, table_of}
 use Rattle.table_names.specs.Categories.{Indexed}
 use Rattle.table_decode.specs.Stages.{FormedAs, ListedAs}
-use Rattle.table_decode.specs.Decoded.{refused_table, Past, Means}
-use Rattle.node_search.specs.declared.decoded.Decoded.{Decoded}
 use Rattle.table_names.proofs.Indexing.{index_below}
-
--- a refused table
-past-none : (k : ℕ) → Past (refused_table k)
-past-none k =
-    record {
-      name-at = clear 8;
-      name-len = clear 8;
-      category = clear most_nodes;
-      parent = clear most_nodes;
-      at = clear most_nodes;
-      len = clear most_nodes;
-      inner = λ i _ _. get_d-all most_nodes i false;
-      rows = clear most_signals;
-    }
-
-pub means-refused : (t : List ℕ) (k : ℕ) {r : Decoded} → r ≡ refused_table k → table_refusal t ≡ k → (k ≡ 0 → ⊥) → Means t r
-means-refused t k {r} e f n =
-    record {
-      refusal = ap (λ (x : Decoded). x.refusal) e ∙ sym f;
-      refused = λ _. e ∙ ap refused_table (sym f);
-      holds = λ z. absurd (n (sym f ∙ z));
-      past = subst Past (sym e) (past-none k);
-    }
 
 pub refusal-fault : (t : List ℕ) (k : ℕ) → sections t ≡ fault k → table_refusal t ≡ k
 unfolding table_refusal judged_read

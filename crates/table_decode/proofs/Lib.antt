@@ -1,6 +1,7 @@
 pub mod Judging
 pub mod Accepting
 pub mod Decoding
+pub mod Outcomes
 pub mod RefusalNumbers
 pub mod Capitals
 pub mod Examples

@@ -1,31 +1,14 @@
 -- What decoding answers: the arrays stand for the table that the bytes say.
-use Rattle.std.specs.Prelude.{ℕ, ◌≤◌, ◌<◌, ◌≡◌, false, List, get_or, replicate}
+use Rattle.std.specs.Prelude.{ℕ, ◌≤◌, ◌<◌, ◌≡◌, false, Result, Ok, Err, List, get_or}
 use Rattle.base_numbers.specs.Numbers.{most_categories, most_nodes, most_signals}
+use Rattle.base_numbers.specs.Refusals.{refusal_number}
+use Rattle.base_numbers.specs.declared.refusal.Refusal.{Refusal}
 use Rattle.theory_resolution.specs.Table.{Table, WellFormed}
 use Rattle.node_search.specs.Arrays.{NamesIn, NodesIn, SharedIn, InnerIn}
 use Rattle.node_step.specs.Rows.{Numbers}
 use Rattle.table_sections.specs.Held.{Padded}
 use Rattle.table_decode.specs.Tables.{category_names, table_of, table_refusal}
 use Rattle.node_search.specs.declared.decoded.Decoded.{Decoded}
-
--- the answer to a table that is refused with k: all zero but the number
-abbrev pub refused_table : ℕ → Decoded
-refused_table k =
-    record {
-      refusal = k;
-      categories = 0;
-      signals = 0;
-      nodes = 0;
-      name_at = replicate most_categories 0;
-      name_len = replicate most_categories 0;
-      category = replicate most_nodes 0;
-      parent = replicate most_nodes 0;
-      at = replicate most_nodes 0;
-      len = replicate most_nodes 0;
-      shared = replicate most_nodes 0;
-      inner = replicate most_nodes false;
-      rows = replicate most_signals 0;
-    }
 
 -- the arrays hold the table T of the bytes t
 pub record Holds (t : List ℕ) (T : Table) (r : Decoded) : Type 0 where
@@ -48,9 +31,13 @@ pub record Past (r : Decoded) : Type 0 where
   pub inner : (k : ℕ) → r.nodes ≤ k → k < most_nodes → get_or r.inner k false ≡ false
   pub rows : Padded most_signals r.signals r.rows
 
--- what `decode` answers
-pub record Means (t : List ℕ) (r : Decoded) : Type 0 where
-  pub refusal : r.refusal ≡ table_refusal t
-  pub refused : (table_refusal t ≡ 0 → ⊥) → r ≡ refused_table (table_refusal t)
-  pub holds : table_refusal t ≡ 0 → Holds t (table_of t) r
-  pub past : Past r
+-- the bytes are a table, and the arrays stand for it
+pub record DecodedAs (t : List ℕ) (d : Decoded) : Type 0 where
+  pub refusal : table_refusal t ≡ 0
+  pub holds : Holds t (table_of t) d
+  pub past : Past d
+
+-- what `decode` answers: the table, or with what it is refused
+abbrev pub Means : List ℕ → Result Decoded Refusal → Type 0
+Means t (Ok d) = DecodedAs t d
+Means t (Err k) = refusal_number k ≡ table_refusal t

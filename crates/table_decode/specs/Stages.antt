@@ -1,9 +1,8 @@
 -- What is known of a table and its arrays after refusals 7 and 8.
-use Rattle.std.specs.Prelude.{ℕ, ◌≤◌, ◌<◌, ◌≡◌, true, List, length}
-use Rattle.base_numbers.specs.Numbers.{most_categories, most_nodes, most_table_bytes}
+use Rattle.std.specs.Prelude.{ℕ, ◌≤◌, ◌≡◌, true, List, length}
+use Rattle.base_numbers.specs.Numbers.{most_categories, most_table_bytes}
 use Rattle.base_lists.specs.Cuts.{stretch}
 use Rattle.base_lists.specs.Lists.{tabulate}
-use Rattle.theory_resolution.specs.Nodes.{nodes}
 use Rattle.base_text.specs.Text.{fields}
 use Rattle.table_sections.specs.Held.{Padded, ReadAs}
 use Rattle.table_sections.specs.declared.Counts.{Counts}
@@ -24,10 +23,3 @@ pub record ListedAs (t name_at name_len signal category path_at path_len : List 
   pub refusal : table_refusal t ≡ verdict (table_of t)
   pub past-at : Padded most_categories l.categories name_at
   pub past-len : Padded most_categories l.categories name_len
-
--- after 8, where there are too many nodes
-pub record CrowdedAs (t signal category path_at path_len : List ℕ) (l : Counts) : Type 0 where
-  pub cats : (table_of t).cats ≡ l.categories
-  pub listing : Listing (table_of t) signal category (λ i. fields 58 (stretch t path_at path_len i)) l.signals l.urns
-  pub refusal : table_refusal t ≡ verdict (table_of t)
-  pub many : most_nodes < length (nodes (table_of t))

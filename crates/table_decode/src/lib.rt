@@ -1,6 +1,6 @@
 // Stored tables: which bytes are a table, with which number the others are refused, and the table as arrays of numbers.
 //
-// In: any bytes. Out: a refusal number, 4 to 12, or the table as small arrays.
+// In: any bytes. Out: a refusal, 4 to 12, or the table as small arrays.
 //
 //   forms.rt  the form of the URNs: 7
 #![tactic(auto)]
@@ -10,59 +10,13 @@ mod forms;
 ghost use Rattle.std.specs.Prelude.{◌≡◌};
 ghost use Rattle.table_sections.specs.Held.{ReadAs};
 ghost use Rattle.table_decode.specs.Tables.{table_refusal};
-ghost use Rattle.table_decode.specs.Stages.{FormedAs, ListedAs, CrowdedAs};
-ghost use Rattle.table_decode.specs.Decoded.{refused_table, Means};
+ghost use Rattle.table_decode.specs.Stages.{FormedAs, ListedAs};
+ghost use Rattle.table_decode.specs.Decoded.{Means};
 
-use base_numbers::{
-    MOST_CATEGORIES, MOST_NODES, MOST_SIGNALS, MOST_TABLE_URNS, TABLE_BAD_CATEGORY, TABLE_BAD_FORM,
-};
+use base_numbers::{MOST_CATEGORIES, MOST_NODES, MOST_SIGNALS, MOST_TABLE_URNS, Refusal};
 pub use node_search::decoded::Decoded;
+use node_search::marks::Marks;
 use table_sections::Counts;
-
-// The answer to a refused table.
-fn refused(k: u8) -> Decoded
-    ensures { result ≡ refused_table k }
-{
-    Decoded {
-        refusal: k,
-        categories: 0,
-        signals: 0,
-        nodes: 0,
-        name_at: [0u16; MOST_CATEGORIES],
-        name_len: [0u8; MOST_CATEGORIES],
-        category: [0u8; MOST_NODES],
-        parent: [0u8; MOST_NODES],
-        at: [0u16; MOST_NODES],
-        len: [0u8; MOST_NODES],
-        shared: [0u8; MOST_NODES],
-        inner: [false; MOST_NODES],
-        rows: [0u64; MOST_SIGNALS],
-    }
-}
-
-// The refusal of a table with too many nodes: 9 to 12, by its texts.
-fn refuse_crowded(
-    t: &[u8],
-    l: Counts,
-    signal: &[u8; MOST_TABLE_URNS],
-    category: &[u8; MOST_TABLE_URNS],
-    path_at: &[u16; MOST_TABLE_URNS],
-    path_len: &[u8; MOST_TABLE_URNS],
-) -> Decoded
-    requires { CrowdedAs t.now signal.now category.now path_at.now path_len.now l }
-    ensures { Means t.now result }
-{
-    refused(table_places::by_texts(
-        t,
-        l.signals,
-        l.categories,
-        l.urns,
-        signal,
-        category,
-        path_at,
-        path_len,
-    ))
-}
 
 // The nodes are numbered and the signals placed, with refusals 9 to 12.
 fn place_signals(
@@ -74,7 +28,7 @@ fn place_signals(
     category: &[u8; MOST_TABLE_URNS],
     path_at: &[u16; MOST_TABLE_URNS],
     path_len: &[u8; MOST_TABLE_URNS],
-) -> Decoded
+) -> Result<Decoded, Refusal>
     requires { ListedAs t.now name_at.now name_len.now signal.now category.now path_at.now path_len.now l }
     ensures { Means t.now result }
 {
@@ -83,7 +37,7 @@ fn place_signals(
     let mut parent = [0u8; MOST_NODES];
     let mut at = [0u16; MOST_NODES];
     let mut len = [0u8; MOST_NODES];
-    let n = table_nodes::add_all(
+    let added = table_nodes::add_all(
         t,
         l.urns,
         category,
@@ -95,32 +49,35 @@ fn place_signals(
         &mut at,
         &mut len,
     );
-    if MOST_NODES < n {
-        return refuse_crowded(t, l, signal, category, path_at, path_len);
-    }
+    let Some(nodes) = added else {
+        return Err(table_places::by_texts(
+            t,
+            l.signals,
+            l.categories,
+            l.urns,
+            signal,
+            category,
+            path_at,
+            path_len,
+        ));
+    };
     let mut rows = [0u64; MOST_SIGNALS];
-    let k = table_places::by_nodes(l.signals, l.urns, signal, category, &node, &mut rows);
-    if k == 0 {
-        let m = node_search::marks::of_nodes(t, &cats, &parent, &at, &len, n);
-        let shared = m.shared;
-        let inner = m.inner;
-        return Decoded {
-            refusal: 0,
-            categories: l.categories,
-            signals: l.signals,
-            nodes: n,
-            name_at: *name_at,
-            name_len: *name_len,
-            category: cats,
-            parent,
-            at,
-            len,
-            shared,
-            inner,
-            rows,
-        };
-    }
-    refused(k)
+    table_places::by_nodes(l.signals, l.urns, signal, category, &node, &mut rows)?;
+    let Marks { shared, inner } = node_search::marks::of_nodes(t, &cats, &parent, &at, &len, nodes);
+    Ok(Decoded {
+        categories: l.categories,
+        signals: l.signals,
+        nodes,
+        name_at: *name_at,
+        name_len: *name_len,
+        category: cats,
+        parent,
+        at,
+        len,
+        shared,
+        inner,
+        rows,
+    })
 }
 
 // The names of the categories and of the URNs are compared: refusal 8, then the rest.
@@ -132,13 +89,13 @@ fn judge_names(
     at: &mut [u16; MOST_TABLE_URNS],
     len: &mut [u8; MOST_TABLE_URNS],
     signal: &[u8; MOST_TABLE_URNS],
-) -> Decoded
+) -> Result<Decoded, Refusal>
     requires { FormedAs t.now name_at.now name_len.now at.old len.old signal.now l }
     ensures { Means t.now result }
 {
     let mut category = [0u8; MOST_TABLE_URNS];
-    if table_names::names_distinct(t, l.categories, name_at, name_len) {
-        if table_names::index_urns(
+    if table_names::names_distinct(t, l.categories, name_at, name_len)
+        && table_names::index_urns(
             t,
             l.categories,
             name_at,
@@ -147,15 +104,12 @@ fn judge_names(
             at,
             len,
             &mut category,
-        ) {
-            if table_names::all_used(&category, l.urns, l.categories) {
-                return place_signals(t, l, name_at, name_len, signal, &category, at, len);
-            }
-            return refused(TABLE_BAD_CATEGORY);
-        }
-        return refused(TABLE_BAD_CATEGORY);
+        )
+        && table_names::all_used(&category, l.urns, l.categories)
+    {
+        return place_signals(t, l, name_at, name_len, signal, &category, at, len);
     }
-    refused(TABLE_BAD_CATEGORY)
+    Err(Refusal::TableBadCategory)
 }
 
 // The names and URNs are looked through for their form: refusal 7, then the rest.
@@ -167,22 +121,21 @@ fn judge_forms(
     at: &mut [u16; MOST_TABLE_URNS],
     len: &mut [u8; MOST_TABLE_URNS],
     signal: &[u8; MOST_TABLE_URNS],
-) -> Decoded
+) -> Result<Decoded, Refusal>
     requires { ReadAs t.now name_at.now name_len.now at.old len.old signal.now l }
     ensures { Means t.now result }
 {
-    if table_names::names_formed(t, l.categories, name_at, name_len) {
-        if forms::urns_formed(t, l.urns, at, len) {
-            return judge_names(t, l, name_at, name_len, at, len, signal);
-        }
-        return refused(TABLE_BAD_FORM);
+    if table_names::names_formed(t, l.categories, name_at, name_len)
+        && forms::urns_formed(t, l.urns, at, len)
+    {
+        return judge_names(t, l, name_at, name_len, at, len, signal);
     }
-    refused(TABLE_BAD_FORM)
+    Err(Refusal::TableBadForm)
 }
 
 // A stored table, decoded. Open are: which of several equal texts of the table `name_at` and `at` name, and what `shared` has past
 // the nodes.
-pub fn decode(t: &[u8]) -> Decoded
+pub fn decode(t: &[u8]) -> Result<Decoded, Refusal>
     ensures { Means t.now result }
 {
     let mut name_at = [0u16; MOST_CATEGORIES];
@@ -197,17 +150,16 @@ pub fn decode(t: &[u8]) -> Decoded
         &mut at,
         &mut len,
         &mut signal,
-    );
-    if l.ok {
-        return judge_forms(t, l, &name_at, &name_len, &mut at, &mut len, &signal);
-    }
-    refused(l.fault)
+    )?;
+    judge_forms(t, l, &name_at, &name_len, &mut at, &mut len, &signal)
 }
 
 // The number with which a stored table is refused, or 0.
 pub fn refusal(t: &[u8]) -> u8
     ensures { result ≡ table_refusal t.now }
 {
-    let r = decode(t);
-    r.refusal
+    match decode(t) {
+        Ok(_) => 0,
+        Err(k) => u8::from(k),
+    }
 }

@@ -26,7 +26,7 @@ use Rattle.theory_resolution.proofs.Nodes.{urn-exact}
 use Rattle.theory_resolution.proofs.Numbers.{number-node}
 use Rattle.table_sections.specs.Held.{Padded}
 use Rattle.table_sections.proofs.Padding.{pad-set}
-use Rattle.table_nodes.specs.Nodes.{node_urn, Nodes, Numbered, AddedTo, AddsNode, AllAdded}
+use Rattle.table_nodes.specs.Nodes.{node_urn, Nodes, Numbered, AddedTo, AddsNode, AddedAll}
 use Rattle.table_nodes.specs.declared.Added.{Added}
 use Rattle.table_sections.proofs.Readings.{stretch-set, stretch-keep}
 use Rattle.table_nodes.proofs.Ancestors.{adder, longer-other, other-absent, closed, bare, added-last}
@@ -408,11 +408,9 @@ unfolding tabulate
 nodes-none t cats parents at len f a b c d =
     record { held = refl; parent = λ k h. absurd (omega arith); past-cats = a; past-parents = b; past-at = c; past-len = d }
 
-pub all_end : {t : List ℕ} {f : ℕ → Urn} (i m : ℕ) {node cats parents at len : List ℕ} {n : ℕ} → i ≤ m → m ≤ i → n ≤ most_nodes
+pub all_end : {t : List ℕ} {f : ℕ → Urn} (i m : ℕ) {node cats parents at len : List ℕ} {n : ℕ} → i ≡ m → n ≤ most_nodes
     → Nodes t cats parents at len n (foldl add_urn [] (tabulate f i))
     → ((j : ℕ) → j < i → Numbered (foldl add_urn [] (tabulate f i)) (f j).cat (f j).path (get_or node j 0))
-    → AllAdded t f m node cats parents at len n
-all_end {t} {f} i m {node} {cats} {parents} {at} {len} {n} h k l N v =
-    let e : i ≡ m = omega arith in
-    subst (λ (z : ℕ). AllAdded t f z node cats parents at len n) e
-    (record { over = λ z. absurd (omega arith); kept = λ _. N; numbered = λ _. v })
+    → AddedAll t f m node cats parents at len n
+all_end {t} {f} i m {node} {cats} {parents} {at} {len} {n} e l N v =
+    subst (λ (z : ℕ). AddedAll t f z node cats parents at len n) e (record { few = l; kept = N; numbered = v })

@@ -1,5 +1,5 @@
 -- How the arrays of nodes hold the nodes of the URNs that were added.
-use Rattle.std.specs.Prelude.{ℕ, suc, ◌≤◌, ◌<◌, ◌≡◌, ◌⊎◌, Bool, true, false, length, get_or, take, drop}
+use Rattle.std.specs.Prelude.{ℕ, suc, ◌≤◌, ◌<◌, ◌≡◌, ◌⊎◌, Bool, true, false, Option, None, Some, length, get_or, take, drop}
 use mathlib.Core.List.{List, [], ◌∷◌, ◌++◌, foldl}
 use Rattle.base_numbers.specs.Numbers.{most_nodes, most_table_urns}
 use Rattle.base_lists.specs.Cuts.{stretch}
@@ -54,11 +54,16 @@ AddsUrn t c from k n cats parents at len cats₁ parents₁ at₁ len₁ r =
     (us : List Urn) → Nodes t cats parents at len n (foldl add_urn [] us)
     → AddedTo t cats₁ parents₁ at₁ len₁ (add_urn (foldl add_urn [] us) (urn c (fields 58 (take k (drop from t))))) c (fields 58 (take k (drop from t))) r
 
--- the nodes of m URNs, and the number of each URN's node; or there are too many
-pub record AllAdded (t : List ℕ) (f : ℕ → Urn) (m : ℕ) (node cats parents at len : List ℕ) (r : ℕ) : Type 0 where
-  pub over : most_nodes < r → most_nodes < length (foldl add_urn [] (tabulate f m))
-  pub kept : r ≤ most_nodes → Nodes t cats parents at len r (foldl add_urn [] (tabulate f m))
-  pub numbered : r ≤ most_nodes → (i : ℕ) → i < m → Numbered (foldl add_urn [] (tabulate f m)) (f i).cat (f i).path (get_or node i 0)
+-- the n nodes of m URNs, and the number of each URN's node
+pub record AddedAll (t : List ℕ) (f : ℕ → Urn) (m : ℕ) (node cats parents at len : List ℕ) (n : ℕ) : Type 0 where
+  pub few : n ≤ most_nodes
+  pub kept : Nodes t cats parents at len n (foldl add_urn [] (tabulate f m))
+  pub numbered : (i : ℕ) → i < m → Numbered (foldl add_urn [] (tabulate f m)) (f i).cat (f i).path (get_or node i 0)
+
+-- what adding the nodes of m URNs answers: how many there are, or none if there are too many
+abbrev pub AllAdded : (t : List ℕ) (f : ℕ → Urn) (m : ℕ) (node cats parents at len : List ℕ) → Option ℕ → Type 0
+AllAdded t f m node cats parents at len None = most_nodes < length (foldl add_urn [] (tabulate f m))
+AllAdded t f m node cats parents at len (Some n) = AddedAll t f m node cats parents at len n
 
 -- arrays with room for all, and nothing in them
 abbrev pub Clear : (node cats parents at len : List ℕ) → Type 0

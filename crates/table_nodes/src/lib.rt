@@ -1,6 +1,6 @@
 // The nodes of a table, from the categories and paths of its URNs: each one's category, parent and path, and the node of every URN.
 //
-// In: the URNs' categories and paths as places in the bytes. Out: the nodes in their order, in arrays, or that there are over 64.
+// In: the URNs' categories and paths as places in the bytes. Out: the nodes in their order, in arrays, or none if there are over 64.
 #![tactic(auto)]
 
 ghost use Rattle.std.specs.Prelude.{◌≡◌, true, false, ◌||◌, ◌≤◌, ◌<◌, eqb};
@@ -11,8 +11,8 @@ ghost use Rattle.theory_resolution.specs.Nodes.{same_urn, is_node, number};
 ghost use Rattle.base_text.specs.Text.{fields};
 ghost use Rattle.table_nodes.specs.Nodes.{node_urn, Clear, AddsNode, AddsPath, AddsUrn, AllAdded};
 
-use base_bytes::numbers::{short, small, wide, wider};
-use base_numbers::{MOST_NODES, MOST_TABLE_URNS, OVER_NODES};
+use base_bytes::numbers::{short, small};
+use base_numbers::{MOST_NODES, MOST_TABLE_URNS};
 use node_search::texts::node_text;
 
 // Node i + 1 has the category c and the path s.
@@ -218,9 +218,9 @@ fn add_urn(
     add_path(t, c, from, k, n, cats, parents, at, len)
 }
 
-// The nodes of all URNs, and each URN's node; 65 if there are more than 64.
+// The nodes of all URNs, and each URN's node: how many nodes there are, or none if there are more than 64.
 // Promised for at most 256 URNs and arrays that are lent clear, so that nothing stands past the nodes. For more URNs and for other
-// arrays all is left open, and so is what the arrays hold where 65 is answered.
+// arrays all is left open, and so is what the arrays hold where none is answered.
 pub fn add_all(
     t: &[u8],
     m: usize,
@@ -232,26 +232,24 @@ pub fn add_all(
     parents: &mut [u8; MOST_NODES],
     at: &mut [u16; MOST_NODES],
     len: &mut [u8; MOST_NODES],
-) -> usize
+) -> Option<usize>
     ensures { m ≤ most_table_urns → Clear node.old cats.old parents.old at.old len.old
         → AllAdded t.now (node_urn t.now category.now path_at.now path_len.now) m
         node.new cats.new parents.new at.new len.new result }
 {
     if MOST_TABLE_URNS < m {
-        return OVER_NODES;
+        return None;
     }
-    let mut n: usize = 0;
-    let mut i = 0;
-    while i < m {
-        let from = wider(path_at[i]);
-        let k = wide(path_len[i]);
+    let mut n = 0;
+    for i in 0..m {
+        let from = usize::from(path_at[i]);
+        let k = usize::from(path_len[i]);
         let r = add_urn(t, category[i], from, k, n, cats, parents, at, len);
         if r.node == 0 {
-            return OVER_NODES;
+            return None;
         }
         node[i] = small(r.node);
         n = r.count;
-        i += 1;
     }
-    n
+    Some(n)
 }

@@ -1,15 +1,14 @@
 // The places of the signals as rows of nodes, and whether two signals have the same: refusals 9, 11 and 12.
 ghost use Rattle.std.specs.Prelude.{◌≡◌, true, cond, ℕ, ◌≤◌, ◌<◌, ◌+◌, ◌*◌, ◌-◌, length, get_or, eqb};
 ghost use Rattle.base_numbers.specs.Numbers.{most_categories, most_signals, most_table_urns};
+ghost use Rattle.base_numbers.specs.Refusals.{refusal_number};
 ghost use Rattle.base_lists.specs.Tests.{all, any, no_two};
 ghost use Rattle.base_lists.specs.Lists.{tabulate};
 ghost use Rattle.table_places.specs.Slots.{key_at, same_key, row_in, Fillable, same_slots, same_places_at};
 ghost use Rattle.table_places.specs.Filled.{rows_from};
 
 use base_bytes::numbers::{wide, wider};
-use base_numbers::{
-    LAST_SIGNAL, MOST_SIGNALS, MOST_TABLE_URNS, TABLE_SAME_PLACES, TABLE_TOO_MANY_NODES,
-};
+use base_numbers::{LAST_SIGNAL, MOST_SIGNALS, MOST_TABLE_URNS, Refusal};
 use node_search::texts::urn_text;
 use node_step::rows::{place_in, with_place};
 
@@ -169,7 +168,7 @@ fn texts_distinct(
     true
 }
 
-// The number of a table with too many nodes: 11 if two signals have the same places, by their texts, else 12.
+// The refusal of a table with too many nodes: 11 if two signals have the same places, by their texts, else 12.
 pub(crate) fn crowded(
     t: &[u8],
     count: usize,
@@ -177,12 +176,13 @@ pub(crate) fn crowded(
     slots: &[u16; MOST_TABLE_URNS],
     at: &[u16; MOST_TABLE_URNS],
     len: &[u8; MOST_TABLE_URNS],
-) -> u8
+) -> Refusal
     requires { (count ≤ most_signals) × (n ≤ most_categories) × ((j : ℕ) → get_or slots.now j 0 ≤ most_table_urns) }
-    ensures { result ≡ cond (no_two (same_places_at t.now slots.now at.now len.now n) (tabulate (λ a. a) count)) 12 11 }
+    ensures { refusal_number result ≡ cond (no_two (same_places_at t.now slots.now at.now len.now n) (tabulate (λ a. a) count)) 12 11 }
 {
     if texts_distinct(t, count, n, slots, at, len) {
-        return TABLE_TOO_MANY_NODES;
+        Refusal::TableTooManyNodes
+    } else {
+        Refusal::TableSamePlaces
     }
-    TABLE_SAME_PLACES
 }

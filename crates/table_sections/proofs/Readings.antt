@@ -1,13 +1,16 @@
 -- Laws of the readings, one step further.
 use Prim.Native.Nat.{ℕ, suc, zero, ◌+◌, ◌-◌, ◌≤◌, ◌<◌}
-use mathlib.Core.Path.{◌≡◌, refl, ap, ap₂, sym, ◌∙◌, subst}
-use mathlib.Core.Bool.{and-false, and-eq-true_iff}
+use mathlib.Core.Path.{◌≡◌, refl, ap, ap₂, sym, ◌∙◌}
+use mathlib.Core.Bool.{true, false, and-false, and-eq-true_iff}
 use mathlib.Core.List.{List, [], ◌∷◌, ◌++◌, map, append_assoc, append-nil}
 use native.Mathlib.Nat.{sub-zero}
 use native.Mathlib.Numerals.{add-one}
 use native.Mathlib.Omega.{arith}
 use lib.ListN.{length, get_or, take, drop, set}
 use lib.Seq.{get_or-set_same, get_or-set_other}
+use Rattle.std.specs.Prelude.{Result, Err}
+use Rattle.std.specs.Result.{IsErr, IsErrAnd}
+use Rattle.std.proofs.lemmas.Result.{err_from_is_err_and}
 use Rattle.base_lists.specs.Cuts.{stretch}
 use Rattle.base_lists.proofs.Tabulated.{tabulate-same}
 use Rattle.base_lists.specs.Lists.{tabulate}
@@ -16,23 +19,30 @@ use Rattle.base_lists.specs.Numbers.{within}
 use lib.Dec.{leb, ltb}
 use borrow.Author.Tests.{lt-leb, le-leb, lt-ltb, le-ltb, leb-true, ltb-true}
 use Rattle.table_sections.specs.Stored.{Read, fault, got, and_then, byte_in, text, times, signal}
-use Rattle.table_sections.specs.Held.{tag, urn_at, map_read, number_read, text_read, text_inside}
-use Rattle.table_sections.specs.declared.bytes.Reading.{Reading}
-use Rattle.table_sections.specs.declared.bytes.Reading.TheVariants.{Fault, Got}
+use Rattle.table_sections.specs.Held.{tag, urn_at, map_read}
+
+-- an error that `?` hands on
+pub passed-on : {T E : Type 0} {k : E} (r : Result T E) → IsErr r × IsErrAnd r (λ e. e ≡ k) → r ≡ Err k
+passed-on r e = let p = err_from_is_err_and r e.1 in p.1 ∙ ap Err p.2
 
 -- a byte
 module _ (lo hi : ℕ) (t : List ℕ) (at b : ℕ) (h : at < length t) (e : b ≡ get_or t at 0) where
-  pub byte_low : b < lo → fault 6 ≡ byte_in lo hi t at
+  pub byte-outside : within lo hi b ≡ false → fault 6 ≡ byte_in lo hi t at
   unfolding byte_in
-  byte_low l = simp (lt-ltb _ _ h, ← e, lt-leb _ _ l)
+  byte-outside l = simp (lt-ltb _ _ h, ← e, l)
+
+  pub byte-inside : within lo hi b ≡ true → got b (at + 1) ≡ byte_in lo hi t at
+  unfolding byte_in
+  byte-inside l = simp (lt-ltb _ _ h, ← e, l)
+
+  pub byte_low : b < lo → fault 6 ≡ byte_in lo hi t at
+  byte_low l = byte-outside (rw (lt-leb _ _ l))
 
   pub byte_high : hi < b → fault 6 ≡ byte_in lo hi t at
-  unfolding byte_in
-  byte_high l = simp (lt-ltb _ _ h, ← e, lt-leb _ _ l, and-false)
+  byte_high l = byte-outside (rw (lt-leb b hi l) (and-false _))
 
   pub byte-good : lo ≤ b → b ≤ hi → got b (at + 1) ≡ byte_in lo hi t at
-  unfolding byte_in
-  byte-good l k = simp (lt-ltb _ _ h, ← e, le-leb _ _ l, le-leb _ _ k)
+  byte-good l k = byte-inside (rw (le-leb _ _ l, le-leb _ _ k))
 
 pub byte-none : (lo hi : ℕ) (t : List ℕ) (at : ℕ) → length t ≤ at → fault 5 ≡ byte_in lo hi t at
 unfolding byte_in
@@ -63,22 +73,6 @@ byte-read lo hi t at n p e =
     })
     (λ w. let q : fault 6 ≡ got n p = simp (h, w) at e in let z : ◌≡◌ {A = ℕ} 0 1 = cc in absurd (omega arith)))
     (λ h. let q : fault 5 ≡ got n p = simp h at e in let z : ◌≡◌ {A = ℕ} 0 1 = cc in absurd (omega arith))
-
--- an answer's case is the reading's
-pub number-fault : {r : Reading} {x : Read ℕ} (k : ℕ) → number_read r ≡ x → r ≡ Fault k → x ≡ fault k
-number-fault {r} {x} k e f = sym e ∙ ap number_read f
-
-pub number-got : {r : Reading} {x : Read ℕ} (n p : ℕ) → number_read r ≡ x → r ≡ Got n p → x ≡ got n p
-number-got {r} {x} n p e f = sym e ∙ ap number_read f
-
-pub text-was : {r : Reading} {x : Read (List ℕ)} (t : List ℕ) (n p : ℕ) → text_read t r ≡ x → r ≡ Got n p → x ≡ got (take n (drop (p - n) t)) p
-text-was t n p e f = sym e ∙ ap (text_read t) f
-
-pub text-was-fault : {r : Reading} {x : Read (List ℕ)} (t : List ℕ) (k : ℕ) → text_read t r ≡ x → r ≡ Fault k → x ≡ fault k
-text-was-fault t k e f = sym e ∙ ap (text_read t) f
-
-pub byte-of : {r : Reading} (lo hi : ℕ) (t : List ℕ) (at n p : ℕ) → number_read r ≡ byte_in lo hi t at → r ≡ Got n p → ByteRead lo hi t at n p
-byte-of lo hi t at n p e f = byte-read lo hi t at n p (number-got n p e f)
 
 -- a text
 module _ (hi : ℕ) (t : List ℕ) (at : ℕ) where
@@ -123,6 +117,9 @@ module _ {A B : Type 0} (rd : ℕ → Read A) (g : A → B) (f : ℕ → B) (n i
   unfolding times and_then map_read
   run-done h = let m : n - i ≡ 0 = omega arith in sym (v ∙ rw (m, append-nil))
 
+  pub run-ends : i ≡ n → got (tabulate f n) at ≡ w
+  run-ends e = rw (← e) (run-done (omega (arith, e)))
+
 map_same : {A : Type 0} (l : List A) → map (λ x. x) l ≡ l
 map_same [] = refl
 map_same (x ∷ l) = ap (λ z. x ∷ z) (map_same l)
@@ -142,9 +139,6 @@ stretch-set t at len i a n h k = rw (get_or-set_same at i a 0 h, get_or-set_same
 
 pub stretch-keep : (t at len : List ℕ) (i a n j : ℕ) → j < i → stretch t (set at i a) (set len i n) j ≡ stretch t at len j
 stretch-keep t at len i a n j h = let q : j ≡ i → ⊥ = λ e. omega arith in rw (get_or-set_other at i j a 0 q, get_or-set_other len i j n 0 q)
-
-pub text-inside : {r : Reading} (t : List ℕ) (hi : ℕ) {n p : ℕ} → text_inside t hi r → r ≡ Got n p → (n ≤ hi) × (n ≤ p) × (p ≤ length t)
-text-inside t hi b e = subst (λ (z : Reading). text_inside t hi z) e b
 
 -- a text of n bytes before p, put into arrays
 pub stored-text : (t at len : List ℕ) (i n p : ℕ) {a m : ℕ} → a ≡ p - n → m ≡ n → i < length at → i < length len

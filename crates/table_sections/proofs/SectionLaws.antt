@@ -1,12 +1,13 @@
 -- Laws of the two sections, one signal further.
 use Prim.Native.Nat.{ℕ, suc, ◌+◌, ◌-◌, ◌≤◌, ◌<◌}
 use mathlib.Core.Path.{◌≡◌, refl, ap, sym, ◌∙◌, subst}
-use mathlib.Core.Bool.{true, false, false≢true}
 use mathlib.Core.List.{List, ◌∷◌, ◌++◌, map, append_assoc, append-nil}
 use native.Mathlib.Nat.{sub-zero}
 use native.Mathlib.Numerals.{add-one}
 use native.Mathlib.Omega.{arith}
 use lib.ListN.{length}
+use Rattle.std.specs.Prelude.{Result, Ok, Err}
+use Rattle.base_numbers.specs.declared.refusal.Refusal.{Refusal}
 use Rattle.base_numbers.specs.Numbers.{most_name_bytes, most_signals, most_table_bytes, most_urn_bytes}
 use Rattle.base_lists.specs.Cuts.{stretch}
 use Rattle.base_lists.specs.Lists.{tabulate}
@@ -15,9 +16,7 @@ use lib.Dec.{ltb}
 use borrow.Author.Tests.{lt-ltb, le-ltb, ltb-false}
 use Rattle.table_sections.specs.Stored.{Read, fault, got, and_then, byte_in, text, times, counted, categories, signal, stored_from, Stored, stored}
 use Rattle.table_sections.specs.Stored.{sections}
-use Rattle.table_sections.specs.Held.{Padded, padded_read, Tagged, tag, tagged_from, map_read, held_read, read_up_to, read_at_most, ReadFrom, Reads}
-use Rattle.table_sections.specs.declared.bytes.Reading.{Reading}
-use Rattle.table_sections.specs.declared.bytes.Reading.TheVariants.{Fault, Got}
+use Rattle.table_sections.specs.Held.{Reading, Padded, Tagged, tag, tagged_from, map_read, read_up_to, read_at_most, ReadFrom, CountsOf, Reads}
 use Rattle.table_sections.specs.declared.Counts.{Counts}
 use Rattle.table_sections.proofs.Readings.{times-length}
 
@@ -33,11 +32,8 @@ unfolding counted and_then
 signal-more g t at k p a e v = let q : a + k - a ≡ k = omega arith in (rw q at v) ∙ sym (simp e)
 
 pub at_most : (r : Reading) (a k m : ℕ) → read_up_to r (a + k) → k ≤ m → read_at_most r (a + m)
-at_most (Fault j) a k m e h = tt
-at_most (Got x p) a k m e h = omega arith
-
-pub at-most-got : {r : Reading} {m : ℕ} (n p : ℕ) → read_at_most r m → r ≡ Got n p → n ≤ m
-at-most-got {r} {m} n p h e = subst (λ (z : Reading). read_at_most z m) e h
+at_most (Err j) a k m e h = tt
+at_most (Ok x) a k m e h = omega arith
 
 -- a reading that was changed
 pub map-got : {A B : Type 0} (g : A → B) (r : Read A) (y : B) (q : ℕ) → map_read g r ≡ got y q → (x : A) × (r ≡ got x q) × (g x ≡ y)
@@ -66,11 +62,11 @@ module _ {A : Type 0} (rd : ℕ → Read (List A)) (f : ℕ → Tagged A) (n s i
       let m : n - s ≡ suc (n - (s + 1)) = omega arith in
       v ∙ rw (m, e, add-one) (tagged-cons (tabulate f i) s us (times rd (n - suc s) p))
 
-  pub signals-more : (f₁ : ℕ → Tagged A) {r : Reading} {s₁ : ℕ} (k p : ℕ) → s < n → s₁ ≡ s
-      → held_read f₁ r ≡ map_read (λ us. tabulate f i ++ map (tag s₁) us) (rd at) → r ≡ Got k p
+  pub signals-more : (f₁ : ℕ → Tagged A) {s₁ : ℕ} (k p : ℕ) → s < n → s₁ ≡ s
+      → got (tabulate f₁ k) p ≡ map_read (λ us. tabulate f i ++ map (tag s₁) us) (rd at)
       → w ≡ map_read (λ ss. tabulate f₁ k ++ tagged_from (s + 1) ss) (times rd (n - (s + 1)) p)
-  signals-more f₁ {r} {s₁} k p h j e g =
-      let x = map-got (λ us. tabulate f i ++ map (tag s₁) us) (rd at) (tabulate f₁ k) p (sym e ∙ ap (held_read f₁) g) in
+  signals-more f₁ {s₁} k p h j e =
+      let x = map-got (λ us. tabulate f i ++ map (tag s₁) us) (rd at) (tabulate f₁ k) p (sym e) in
       let y : tabulate f i ++ map (tag s) x.0 ≡ tabulate f₁ k = subst (λ (z : ℕ). tabulate f i ++ map (tag z) x.0 ≡ tabulate f₁ k) j x.2 in
       next-signal x.0 p h x.1
       ∙ ap (λ (z : List (Tagged A)). map_read (λ ss. z ++ tagged_from (s + 1) ss) (times rd (n - (s + 1)) p)) y
@@ -79,9 +75,8 @@ module _ {A : Type 0} (rd : ℕ → Read (List A)) (f : ℕ → Tagged A) (n s i
   unfolding times and_then map_read
   last-signal k h e = let m : n - s ≡ suc (n - (s + 1)) = omega arith in sym (v ∙ rw (m, e))
 
-  pub signals-stop : (f₁ : ℕ → Tagged A) {r : Reading} (s₁ k : ℕ) → s < n
-      → held_read f₁ r ≡ map_read (λ us. tabulate f i ++ map (tag s₁) us) (rd at) → r ≡ Fault k → fault k ≡ w
-  signals-stop f₁ {r} s₁ k h e x = last-signal k h (map-fault (λ us. tabulate f i ++ map (tag s₁) us) (rd at) k (sym e ∙ ap (held_read f₁) x))
+  pub signals-stop : (s₁ k : ℕ) → s < n → fault k ≡ map_read (λ us. tabulate f i ++ map (tag s₁) us) (rd at) → fault k ≡ w
+  signals-stop s₁ k h e = last-signal k h (map-fault (λ us. tabulate f i ++ map (tag s₁) us) (rd at) k (sym e))
 
   pub signals-done : n ≤ s → got (tabulate f i) at ≡ w
   unfolding times and_then map_read tagged_from
@@ -103,23 +98,13 @@ unfolding counted and_then
 categories-more t at n p e v = v ∙ sym (simp e)
 
 pub at-most-up : (r : Reading) (n m : ℕ) → read_up_to r n → n ≤ m → read_at_most r m
-at-most-up (Fault k) n m e h = tt
-at-most-up (Got x p) n m e h = omega arith
+at-most-up (Err k) n m e h = tt
+at-most-up (Ok x) n m e h = omega arith
 
 -- the section of the signals
 pub rest-fault : (t : List ℕ) (from k : ℕ) → byte_in 1 most_signals t from ≡ fault k → (names : List (List ℕ)) → stored_from t names from ≡ fault k
 unfolding stored_from counted and_then
 rest-fault t from k e names = simp e
-
-pub rest-at-fault : {R : Type 0} {t at len signal : List ℕ} {from k n : ℕ} {r : Counts} → r ≡ record {
-  ok = false;
-  fault = k;
-  categories = 0;
-  signals = 0;
-  urns = 0;
-}
-    → (R → (names : List (List ℕ)) → stored_from t names from ≡ fault k) → (R → ReadFrom t at len signal from r) × (r.ok ≡ true → r.categories ≡ n)
-rest-at-fault e f = rw e (λ a. record { faulty = λ _. f a; holds = λ z. absurd (false≢true z) }, λ z. absurd (false≢true z))
 
 module _ (t : List ℕ) (from n p : ℕ) (e : byte_in 1 most_signals t from ≡ got n p) where
   bad : (k : ℕ) → times (signal t) n p ≡ fault k → (names : List (List ℕ)) → stored_from t names from ≡ fault k
@@ -135,89 +120,55 @@ module _ (t : List ℕ) (from n p : ℕ) (e : byte_in 1 most_signals t from ≡ 
   unfolding stored_from counted and_then
   good ss q f h names = simp (e, f, le-ltb _ _ h)
 
-  module _ (f : ℕ → Tagged (List ℕ)) {r : Reading} (v : held_read f r ≡ map_read (tagged_from 0) (times (signal t) n p)) where
-    pub rest-bad : (k : ℕ) → r ≡ Fault k → (names : List (List ℕ)) → stored_from t names from ≡ fault k
-    rest-bad k g = bad k (map-fault (tagged_from 0) (times (signal t) n p) k (sym v ∙ ap (held_read f) g))
+  pub rest-bad : (k : ℕ) → fault k ≡ map_read (tagged_from 0) (times (signal t) n p) → (names : List (List ℕ)) → stored_from t names from ≡ fault k
+  rest-bad k v = bad k (map-fault (tagged_from 0) (times (signal t) n p) k (sym v))
 
-    module _ (m q : ℕ) (g : r ≡ Got m q) where
-      was : (ss : List (List (List ℕ))) × (times (signal t) n p ≡ got ss q) × (tagged_from 0 ss ≡ tabulate f m)
-      was = map-got (tagged_from 0) (times (signal t) n p) (tabulate f m) q (sym v ∙ ap (held_read f) g)
+  module _ (f : ℕ → Tagged (List ℕ)) (m q : ℕ) (v : got (tabulate f m) q ≡ map_read (tagged_from 0) (times (signal t) n p)) where
+    was : (ss : List (List (List ℕ))) × (times (signal t) n p ≡ got ss q) × (tagged_from 0 ss ≡ tabulate f m)
+    was = map-got (tagged_from 0) (times (signal t) n p) (tabulate f m) q (sym v)
 
-      pub rest_more : q < length t → (names : List (List ℕ)) → stored_from t names from ≡ fault 5
-      rest_more h = more was.0 q was.1 h
+    pub rest_more : q < length t → (names : List (List ℕ)) → stored_from t names from ≡ fault 5
+    rest_more h = more was.0 q was.1 h
 
-      pub rest-good : length t ≤ q → (ss : List (List (List ℕ)))
-          × ((names : List (List ℕ)) → stored_from t names from ≡ got (record { names = names; signals = ss }) q)
-          × (tabulate f m ≡ tagged_from 0 ss) × (length ss ≡ n)
-      rest-good h = (was.0, good was.0 q was.1 h, sym was.2, times-length (signal t) n p was.0 q was.1)
+    pub rest-good : length t ≤ q → (ss : List (List (List ℕ)))
+        × ((names : List (List ℕ)) → stored_from t names from ≡ got (record { names = names; signals = ss }) q)
+        × (tabulate f m ≡ tagged_from 0 ss) × (length ss ≡ n)
+    rest-good h = (was.0, good was.0 q was.1 h, sym was.2, times-length (signal t) n p was.0 q was.1)
 
 -- the whole table
 sections-short : (t : List ℕ) → length t ≤ most_table_bytes → sections t ≡ stored t
 sections-short t h = rw (le-ltb most_table_bytes (length t) h)
 
-sections-long : (t : List ℕ) → most_table_bytes < length t → sections t ≡ fault 4
+pub sections-long : (t : List ℕ) → most_table_bytes < length t → sections t ≡ fault 4
 sections-long t h = rw (lt-ltb most_table_bytes (length t) h)
 
-read-fault : {t name_at name_len at len signal : List ℕ} {k : ℕ} {s : Counts} → s ≡ record {
-  ok = false;
-  fault = k;
-  categories = 0;
-  signals = 0;
-  urns = 0;
-} → sections t ≡ fault k
-    → Reads t name_at name_len at len signal s
-read-fault e f = rw e (record { faulty = λ _. f; holds = λ z. absurd (false≢true z) })
+pub first-fault : (t : List ℕ) (k : ℕ) → length t ≤ most_table_bytes → fault k ≡ categories t 0 → sections t ≡ fault k
+unfolding stored and_then
+first-fault t k h v = sections-short t h ∙ rw (← v)
 
-pub read-long : {t name_at name_len at len signal : List ℕ} {s : Counts} → s ≡ record {
-  ok = false;
-  fault = 4;
-  categories = 0;
-  signals = 0;
-  urns = 0;
-} → most_table_bytes < length t
-    → Reads t name_at name_len at len signal s
-read-long {t} e h = read-fault e (sections-long t h)
-
-module _ (t : List ℕ) (h : length t ≤ most_table_bytes) (name_at name_len : List ℕ) {r : Reading}
-    (v : (held_read (stretch t name_at name_len) r ≡ categories t 0) × padded_read name_at r × padded_read name_len r) where
-  first-fault : (k : ℕ) → r ≡ Fault k → stored t ≡ fault k
+module _ (t : List ℕ) (h : length t ≤ most_table_bytes) (name_at name_len : List ℕ) (n p : ℕ)
+    (v : (got (tabulate (stretch t name_at name_len) n) p ≡ categories t 0) × Padded 8 n name_at × Padded 8 n name_len) (few : n ≤ 8) where
+  second : stored t ≡ stored_from t (tabulate (stretch t name_at name_len) n) p
   unfolding stored and_then
-  first-fault k g = let e : categories t 0 ≡ fault k = sym v.0 ∙ ap (held_read (stretch t name_at name_len)) g in simp e
+  second = rw (← v.0)
 
-  pub first-at-fault : {at len signal : List ℕ} {k : ℕ} {s : Counts} → s ≡ record { ok = false; fault = k; categories = 0; signals = 0; urns = 0 } → r ≡ Fault k
-      → Reads t name_at name_len at len signal s
-  first-at-fault e g = read-fault e (sections-short t h ∙ first-fault _ g)
-
-  module _ (n p : ℕ) (g : r ≡ Got n p) where
-    second : stored t ≡ stored_from t (tabulate (stretch t name_at name_len) n) p
-    unfolding stored and_then
-    second = let e : categories t 0 ≡ got (tabulate (stretch t name_at name_len) n) p = sym v.0 ∙ ap (held_read (stretch t name_at name_len)) g in simp e
-
-    padded : (a : List ℕ) → padded_read a r → Padded 8 n a
-    padded a q = subst (λ (z : Reading). padded_read a z) g q
-
-    pub both_read : {at len signal : List ℕ} {x : Counts} → ReadFrom t at len signal p x → (x.ok ≡ true → x.categories ≡ n) → n ≤ 8
-        → Reads t name_at name_len at len signal x
-    both_read {at} {len} {signal} {x} f c l =
-        record {
-          faulty = λ e. sections-short t h ∙ second ∙ f.faulty e _;
-          holds = λ e.
-              let s = f.holds e in
-              let k = c e in
-              record {
-                signals = s.signals;
-                next = s.next;
-                whole = sections-short t h ∙ second ∙ s.whole (tabulate (stretch t name_at name_len) n)
-                    ∙ ap (λ (z : ℕ). got (record { names = tabulate (stretch t name_at name_len) z; signals = s.signals }) s.next) (sym k);
-                urns = s.urns;
-                all-signals = s.all-signals;
-                few-categories = omega (arith, k);
-                few-signals = s.few-signals;
-                few-urns = s.few-urns;
-                past-at = subst (λ (z : ℕ). Padded 8 z name_at) (sym k) (padded name_at v.1);
-                past-len = subst (λ (z : ℕ). Padded 8 z name_len) (sym k) (padded name_len v.2);
-              };
-        }
+  pub both_read : (at len signal : List ℕ) (x : Result Counts Refusal) → ReadFrom t at len signal p x → CountsOf n x
+      → Reads t name_at name_len at len signal x
+  both_read at len signal (Err k) f c = sections-short t h ∙ second ∙ f _
+  both_read at len signal (Ok l) s c =
+      record {
+        signals = s.signals;
+        next = s.next;
+        whole = sections-short t h ∙ second ∙ s.whole (tabulate (stretch t name_at name_len) n)
+            ∙ ap (λ (z : ℕ). got (record { names = tabulate (stretch t name_at name_len) z; signals = s.signals }) s.next) (sym c);
+        urns = s.urns;
+        all-signals = s.all-signals;
+        few-categories = omega (arith, c);
+        few-signals = s.few-signals;
+        few-urns = s.few-urns;
+        past-at = subst (λ (z : ℕ). Padded 8 z name_at) (sym c) v.1;
+        past-len = subst (λ (z : ℕ). Padded 8 z name_len) (sym c) v.2;
+      }
 
 -- a table that could be read is not too long
 pub sections-read : (t : List ℕ) (s : Stored) (p : ℕ) → sections t ≡ got s p → (length t ≤ most_table_bytes) × (stored t ≡ got s p)

@@ -1,12 +1,16 @@
 -- How the arrays that are lent from function to function hold what was read.
-use Rattle.std.specs.Prelude.{ℕ, suc, ◌-◌, ◌≤◌, ◌≡◌, true, false, List, [], ◌∷◌, ◌++◌, map, length, get_or, take, drop}
+use Rattle.std.specs.Prelude.{ℕ, suc, ◌-◌, ◌≤◌, ◌≡◌, Result, Ok, Err, List, [], ◌∷◌, ◌++◌, map, length, get_or, take, drop}
 use Rattle.base_numbers.specs.Numbers.{most_categories, most_signals, most_table_bytes, most_table_urns}
 use Rattle.base_lists.specs.Cuts.{stretch}
 use Rattle.base_lists.specs.Lists.{tabulate}
 use Rattle.table_sections.specs.Stored.{Read, fault, got, stored_from, sections}
-use Rattle.table_sections.specs.declared.bytes.Reading.{Reading}
-use Rattle.table_sections.specs.declared.bytes.Reading.TheVariants.{Fault, Got}
+use Rattle.base_numbers.specs.Refusals.{refusal_number}
+use Rattle.base_numbers.specs.declared.refusal.Refusal.{Refusal}
 use Rattle.table_sections.specs.declared.Counts.{Counts}
+
+-- a value with the position after it, or why there is none
+abbrev pub Reading : Type 0
+Reading = Result (ℕ × ℕ) Refusal
 
 -- something of a signal, with the signal's number
 pub record Tagged (A : Type 0) : Type 0 where
@@ -40,38 +44,38 @@ map_read f (got x at) = got (f x) at
 
 -- a number that was read
 abbrev pub number_read : Reading → Read ℕ
-number_read (Fault k) = fault k
-number_read (Got n p) = got n p
+number_read (Err k) = fault (refusal_number k)
+number_read (Ok x) = got x.0 x.1
 
--- a text that was read: the n bytes before p
+-- a text that was read: the x.0 bytes before x.1
 abbrev pub text_read : List ℕ → Reading → Read (List ℕ)
-text_read t (Fault k) = fault k
-text_read t (Got n p) = got (take n (drop (p - n) t)) p
+text_read t (Err k) = fault (refusal_number k)
+text_read t (Ok x) = got (take x.0 (drop (x.1 - x.0) t)) x.1
 
--- its n bytes are at most hi, and inside the table
+-- its bytes are at most hi, and inside the table
 abbrev pub text_inside : List ℕ → ℕ → Reading → Type 0
-text_inside t hi (Fault k) = Unit {0}
-text_inside t hi (Got n p) = (n ≤ hi) × (n ≤ p) × (p ≤ length t)
+text_inside t hi (Err k) = Unit {0}
+text_inside t hi (Ok x) = (x.0 ≤ hi) × (x.0 ≤ x.1) × (x.1 ≤ length t)
 
 -- so many things that were read and put into arrays
 abbrev pub held_read : {A : Type 0} → (ℕ → A) → Reading → Read (List A)
-held_read f (Fault k) = fault k
-held_read f (Got n p) = got (tabulate f n) p
+held_read f (Err k) = fault (refusal_number k)
+held_read f (Ok x) = got (tabulate f x.0) x.1
 
 -- how many were read
 abbrev pub read_up_to : Reading → ℕ → Type 0
-read_up_to (Fault k) n = Unit {0}
-read_up_to (Got m p) n = m ≡ n
+read_up_to (Err k) n = Unit {0}
+read_up_to (Ok x) n = x.0 ≡ n
 
 -- how many were read, at most
 abbrev pub read_at_most : Reading → ℕ → Type 0
-read_at_most (Fault k) n = Unit {0}
-read_at_most (Got m p) n = m ≤ n
+read_at_most (Err k) n = Unit {0}
+read_at_most (Ok x) n = x.0 ≤ n
 
 -- past the names that were read there is nothing
 abbrev pub padded_read : List ℕ → Reading → Type 0
-padded_read a (Fault k) = Unit {0}
-padded_read a (Got n p) = Padded most_categories n a
+padded_read a (Err k) = Unit {0}
+padded_read a (Ok x) = Padded most_categories x.0 a
 
 -- what the reading w of names promises, if the table is not too long and the arrays are clear
 abbrev pub NamesRead : (t at len at₁ len₁ : List ℕ) → Read (List (List ℕ)) → Reading → Type 0
@@ -89,9 +93,14 @@ pub record SignalsRead (t at len signal : List ℕ) (from : ℕ) (r : Counts) : 
   pub few-urns : r.urns ≤ most_table_urns
 
 -- the answer of the reading of the signals
-pub record ReadFrom (t at len signal : List ℕ) (from : ℕ) (r : Counts) : Type 0 where
-  pub faulty : r.ok ≡ false → (names : List (List ℕ)) → stored_from t names from ≡ fault r.fault
-  pub holds : r.ok ≡ true → SignalsRead t at len signal from r
+abbrev pub ReadFrom : (t at len signal : List ℕ) (from : ℕ) → Result Counts Refusal → Type 0
+ReadFrom t at len signal from (Err k) = (names : List (List ℕ)) → stored_from t names from ≡ fault (refusal_number k)
+ReadFrom t at len signal from (Ok l) = SignalsRead t at len signal from l
+
+-- with how many categories it is put together
+abbrev pub CountsOf : ℕ → Result Counts Refusal → Type 0
+CountsOf n (Err k) = Unit {0}
+CountsOf n (Ok l) = l.categories ≡ n
 
 -- the arrays hold a table that could be read; past the names that were read there is nothing
 pub record ReadAs (t name_at name_len at len signal : List ℕ) (r : Counts) : Type 0 where
@@ -107,6 +116,6 @@ pub record ReadAs (t name_at name_len at len signal : List ℕ) (r : Counts) : T
   pub past-len : Padded most_categories r.categories name_len
 
 -- the answer of the reading
-pub record Reads (t name_at name_len at len signal : List ℕ) (r : Counts) : Type 0 where
-  pub faulty : r.ok ≡ false → sections t ≡ fault r.fault
-  pub holds : r.ok ≡ true → ReadAs t name_at name_len at len signal r
+abbrev pub Reads : (t name_at name_len at len signal : List ℕ) → Result Counts Refusal → Type 0
+Reads t name_at name_len at len signal (Err k) = sections t ≡ fault (refusal_number k)
+Reads t name_at name_len at len signal (Ok l) = ReadAs t name_at name_len at len signal l

@@ -20,23 +20,14 @@ fn read_names(
     ensures names_read { NamesRead t.now at.old len.old at.new len.new (times (text most_name_bytes t.now) n from) result }
     ensures few { read_up_to result n }
 {
-    let mut i = 0;
     let mut p = from;
-    while i < n {
-        let got = read_text(t, p, MOST_NAME_BYTES);
-        match got {
-            Reading::Fault(k) => {
-                return Reading::Fault(k);
-            }
-            Reading::Got(m, next) => {
-                at[i] = short(next - m);
-                len[i] = small(m);
-                p = next;
-                i += 1;
-            }
-        }
+    for i in 0..n {
+        let (m, next) = read_text(t, p, MOST_NAME_BYTES)?;
+        at[i] = short(next - m);
+        len[i] = small(m);
+        p = next;
     }
-    Reading::Got(i, p)
+    Ok((n, p))
 }
 
 // 1 to 8 categories, at the beginning of a table: how many, and the position after them.
@@ -49,9 +40,6 @@ pub fn read_categories(
     ensures names_read { NamesRead t.now at.old len.old at.new len.new (categories t.now 0) result }
     ensures few { read_at_most result most_categories }
 {
-    let got = byte_in(t, 0, 1, MOST_CATEGORIES);
-    match got {
-        Reading::Fault(k) => Reading::Fault(k),
-        Reading::Got(n, p) => read_names(t, p, n, at, len),
-    }
+    let (n, p) = byte_in(t, 0, 1, MOST_CATEGORIES)?;
+    read_names(t, p, n, at, len)
 }

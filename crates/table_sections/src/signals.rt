@@ -26,24 +26,15 @@ fn read_urns(
         (times (text most_urn_bytes t.now) (end - start) from) }
     ensures few { read_up_to result end × (Room at.old len.old signal.old → Room at.new len.new signal.new) }
 {
-    let mut i = start;
     let mut p = from;
-    while i < end {
-        let got = read_text(t, p, MOST_URN_BYTES);
-        match got {
-            Reading::Fault(k) => {
-                return Reading::Fault(k);
-            }
-            Reading::Got(m, next) => {
-                at[i] = short(next - m);
-                len[i] = small(m);
-                signal[i] = s;
-                p = next;
-                i += 1;
-            }
-        }
+    for i in start..end {
+        let (m, next) = read_text(t, p, MOST_URN_BYTES)?;
+        at[i] = short(next - m);
+        len[i] = small(m);
+        signal[i] = s;
+        p = next;
     }
-    Reading::Got(i, p)
+    Ok((end, p))
 }
 
 // Signal s: a count of URNs, and the URNs.
@@ -62,11 +53,8 @@ fn read_signal(
         (counted 0 most_urns (text most_urn_bytes t.now) t.now from) }
     ensures few { read_at_most result (start + most_urns) × (Room at.old len.old signal.old → Room at.new len.new signal.new) }
 {
-    let got = byte_in(t, from, 0, MOST_URNS);
-    match got {
-        Reading::Fault(k) => Reading::Fault(k),
-        Reading::Got(k, p) => read_urns(t, p, s, start, start + k, at, len, signal),
-    }
+    let (k, p) = byte_in(t, from, 0, MOST_URNS)?;
+    read_urns(t, p, s, start, start + k, at, len, signal)
 }
 
 // n signals: the number of their URNs, and the position after them.
@@ -82,21 +70,10 @@ pub(crate) fn read_signals(
     ensures result_after { Room at.old len.old signal.old → held_read (urn_at t.now signal.new at.new len.new) result ≡ map_read (tagged_from 0) (times (counted 0 most_urns (text most_urn_bytes t.now) t.now) n from) }
     ensures few { read_at_most result most_table_urns }
 {
-    let mut s: usize = 0;
-    let mut m: usize = 0;
+    let mut m = 0;
     let mut p = from;
-    while s < n {
-        let got = read_signal(t, p, small(s), m, at, len, signal);
-        match got {
-            Reading::Fault(k) => {
-                return Reading::Fault(k);
-            }
-            Reading::Got(e, next) => {
-                m = e;
-                p = next;
-                s += 1;
-            }
-        }
+    for s in 0..n {
+        (m, p) = read_signal(t, p, small(s), m, at, len, signal)?;
     }
-    Reading::Got(m, p)
+    Ok((m, p))
 }

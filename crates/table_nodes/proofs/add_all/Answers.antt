@@ -16,7 +16,6 @@ returns-then-m-gt-MOST_TABLE_URNS c = λ h. absurd (omega arith)
 pub loop-i-init : goal.loop-i-init
 loop-i-init c = let t = c.args.t.now in (
   omega arith,
-  omega arith,
   λ k. (
     k.0,
     nodes-none t c.args.cats.now c.args.parents.now c.args.at.now c.args.len.now
@@ -26,31 +25,21 @@ loop-i-init c = let t = c.args.t.now in (
 )
 
 pub add_urn-r-requires : goal.add_urn-r-requires
-add_urn-r-requires c = (c.loop-i.invariant.1, c.wider-from.ensures.1, c.wide-k.ensures.1)
+add_urn-r-requires c = (c.loop-i.invariant.0, omega arith, omega arith)
 
 pub returns-then-r-eq0 : goal.returns-then-r-eq0
 returns-then-r-eq0 c = let category = c.args.category.now in let t = c.args.t.now in
-    let wide = c.wide-k.ensures in
-    let wider = c.wider-from.ensures in
-    let loop-test = c.loop-i-test.true in
     let f = node_urn t category c.args.path_at.now c.args.path_len.now in
-    λ _ k. record {
-      over = λ _. all-over t f c.loop-i.i (ap₂ (λ x y. urn (get_or category c.loop-i.i 0) (fields 58 (take y (drop x t)))) wider.0
-          wide.0) (c.add_urn-r.ensures.adds_urn (tabulate f c.loop-i.i) (c.loop-i.invariant.2 k).1) c.args.m loop-test c.if-r-eq0.true;
-      kept = λ z. absurd (omega arith);
-      numbered = λ z. absurd (omega arith);
-    }
+    λ _ k. all-over t f c.loop-i.i (ap₂ (λ x y. urn (get_or category c.loop-i.i 0) (fields 58 (take y (drop x t)))) c.from-from.ensures
+    c.from-k.ensures) (c.add_urn-r.ensures.adds_urn (tabulate f c.loop-i.i) (c.loop-i.invariant.1 k).1) c.args.m c.loop-i-test.true c.if-r-eq0.true
 
 pub loop-i-preserved : goal.loop-i-preserved
 loop-i-preserved c = let category = c.args.category.now in let t = c.args.t.now in let if2 = c.if-r-eq0.false in
-    let wide = c.wide-k.ensures in
-    let wider = c.wider-from.ensures in
     let f = node_urn t category c.args.path_at.now c.args.path_len.now in
-    let e = ap₂ (λ x y. urn (get_or category c.loop-i.i 0) (fields 58 (take y (drop x t)))) wider.0 wide.0 in
+    let e = ap₂ (λ x y. urn (get_or category c.loop-i.i 0) (fields 58 (take y (drop x t)))) c.from-from.ensures c.from-k.ensures in
     let g = one_byte c.small.ensures (omega (arith, c.add_urn-r.ensures.few.0)) in (
-      omega arith,
       c.add_urn-r.ensures.few.1,
-      λ k. let v = c.loop-i.invariant.2 k in let A = c.add_urn-r.ensures.adds_urn (tabulate f c.loop-i.i) v.1 in
+      λ k. let v = c.loop-i.invariant.1 k in let A = c.add_urn-r.ensures.adds_urn (tabulate f c.loop-i.i) v.1 in
           let h : c.loop-i.i < length c.loop-i.node = omega (arith, v.0) in (
             length-set c.loop-i.node c.loop-i.i c.small.result ∙ v.0,
             all-nodes t f c.loop-i.i e A c.loop-i.node v.2 if2 h g,
@@ -59,6 +48,6 @@ loop-i-preserved c = let category = c.args.category.now in let t = c.args.t.now 
     )
 
 pub returns : goal.returns
-returns c = λ _ k. let v = c.loop-i.invariant.2 k in
+returns c = λ _ k. let v = c.loop-i.invariant.1 k in
     all_end {t = c.args.t.now} {f = node_urn c.args.t.now c.args.category.now c.args.path_at.now c.args.path_len.now} c.loop-i.i c.args.m
-    c.loop-i.invariant.0 c.loop-i-test.false c.loop-i.invariant.1 v.1 v.2
+    (omega arith) c.loop-i.invariant.0 v.1 v.2

@@ -1,4 +1,4 @@
-use Prim.Native.Nat.{ℕ, ◌≤◌, ◌<◌, ◌-◌}
+use Prim.Native.Nat.{ℕ, ◌≤◌, ◌<◌}
 use mathlib.Core.Path.{◌≡◌}
 use mathlib.Core.List.{foldl, []}
 use lib.ListN.{length, get_or}
@@ -11,10 +11,7 @@ use Rattle.table_nodes.specs.Nodes.{node_urn, Clear, Nodes, Numbered}
 use Rattle.table_nodes.proofs.add_all.Given as goal
 
 abbrev pub invariant-loop-i : goal.invariant-loop-i
-invariant-loop-i l = (l.i ≤ l.m) × (l.n ≤ most_nodes) × (Clear l.initial.node l.initial.cats l.initial.parents l.initial.at l.initial.len → (length l.node ≡ most_table_urns)
+invariant-loop-i l = (l.n ≤ most_nodes) × (Clear l.initial.node l.initial.cats l.initial.parents l.initial.at l.initial.len → (length l.node ≡ most_table_urns)
     × Nodes l.t l.cats l.parents l.at l.len l.n (foldl add_urn [] (tabulate (node_urn l.t l.category l.path_at l.path_len) l.i))
     × ((j : ℕ) → j < l.i → Numbered (foldl add_urn [] (tabulate (node_urn l.t l.category l.path_at l.path_len) l.i)) (get_or l.category j 0)
     (fields 58 (stretch l.t l.path_at l.path_len j)) (get_or l.node j 0)))
-
-abbrev pub decreases-loop-i : goal.decreases-loop-i
-decreases-loop-i l = l.m - l.i
