@@ -7,6 +7,9 @@ use lib.ListN.{length}
 use lib.Dec.{eqb}
 use borrow.Author.Tests.{eq-eqb}
 use Rattle.base_numbers.specs.Numbers.{most_signals}
+use Rattle.base_numbers.specs.declared.refusal.Refusal.{Refusal}
+use Rattle.base_numbers.specs.declared.refusal.Refusal.TheVariants.{UnknownAvailable}
+use Rattle.base_numbers.specs.Refusals.{refusal_number}
 use Rattle.base_lists.proofs.Numbers.{pos-of-ne, min-le}
 use Rattle.base_lists.proofs.Bools.{by_test}
 use Rattle.value_reader.specs.Value.{refusal_of, uris_of}
@@ -39,14 +42,16 @@ module _ (t : List ℕ) (set : ℕ) (v : List ℕ) where
   judged = cond (known set (length (table_of t).signals)) list (refused 23)
 
   -- a refused table
-  pub available-table : {k : ℕ} → k ≡ table_refusal t → (k ≡ 0 → ⊥) → refused (cond (eqb (refusal_of v) 0) k (refusal_of v)) ≡ available_of t set v
+  pub available-table : (k : Refusal) → refusal_number k ≡ table_refusal t
+      → refused (cond (eqb (refusal_of v) 0) (refusal_number k) (refusal_of v)) ≡ available_of t set v
   unfolding available_of
-  available-table e n = refused-first t v judged e n
+  available-table k e = refused-first t v judged k e
 
   module _ (formed : table_refusal t ≡ 0) where
     -- a bit that is no signal's
-    pub available-strange : known set (length (table_of t).signals) ≡ false → refused (cond (eqb (refusal_of v) 0) 23 (refusal_of v)) ≡ available_of t set v
-    unfolding available_of
+    pub available-strange : known set (length (table_of t).signals) ≡ false
+        → refused (cond (eqb (refusal_of v) 0) (refusal_number UnknownAvailable) (refusal_of v)) ≡ available_of t set v
+    unfolding available_of refusal_number
     available-strange b =
         by_test (eqb (refusal_of v) 0)
         (λ q. simp (q, eq-eqb (table_refusal t) 0 formed, b))

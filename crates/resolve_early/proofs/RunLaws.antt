@@ -9,6 +9,7 @@ use native.Mathlib.Omega.{arith}
 use native.Mathlib.Decide.{dec_lt}
 use borrow.Author.Tests.{le-leb, lt-leb}
 use Rattle.base_numbers.specs.Numbers.{most_entries}
+use Rattle.std.specs.Prelude as option
 use Rattle.value_cursor.specs.Parts.{entry_at}
 use Rattle.value_cursor.specs.declared.alert_param.Span.{Span}
 use Rattle.value_cursor.specs.declared.alert_param.Found.{Found}
@@ -48,13 +49,9 @@ leb-suc a b = go (dec_lt b a)
     go (yes h) = lt-leb (suc a) (suc b) (omega arith) ∙ sym (lt-leb a b h)
     go (no h) = le-leb (suc a) (suc b) (omega arith) ∙ sym (le-leb a b (omega arith))
 
--- the run begins at the start
-pub run-start : (t : List ℕ) (d : Decoded) (v : List ℕ) (n at : ℕ) {a b : Packed} → b ≡ a → run_from t d v a n at ≡ run_from t d v b n at
-run-start t d v n at e = ap (λ s. run_from t d v s n at) (sym e)
-
-module _ (t : List ℕ) (d : Decoded) (v : List ℕ) (st : Packed) (n at : ℕ) (all : Reached) (inv : all ≡ run_from t d v st n at) (ends : Bool)
+module _ (t : List ℕ) (d : Decoded) (v : List ℕ) (st : Packed) (n at : ℕ) (all : option.Option Reached) (inv : all ≡ run_from t d v st n at) (ends : Bool)
     (is : ends ≡ settled_in d st) where
-  abbrev over : Packed → ℕ → Front → Reached
+  abbrev over : Packed → ℕ → Front → option.Option Reached
   over s k f = run_over t d v s k f.parts f.ended
 
   at_once : ends ≡ true → (l : List Span) (b : Bool) → run_over t d v st n l b ≡ reached_at true st n

@@ -1,5 +1,5 @@
 -- How a value is gone through: from entry to entry, until the state is settled.
-use Rattle.std.specs.Prelude.{ℕ, ◌+◌, ◌-◌, Bool, true, cond, ◌||◌, List, [], ◌∷◌}
+use Rattle.std.specs.Prelude.{ℕ, ◌+◌, ◌-◌, Bool, true, cond, ◌||◌, List, [], ◌∷◌, Option, Some, None}
 use Rattle.base_numbers.specs.Numbers.{most_entries}
 use Rattle.value_cursor.specs.declared.alert_param.Span.{Span}
 use Rattle.value_reader.specs.Value.{part_of}
@@ -26,15 +26,15 @@ after_uri t d st uri = after_use d.rows d.parent d.inner d.signals st (use_in t 
 abbrev pub settled_in : Decoded → Packed → Bool
 settled_in d st = settled_by d.rows d.parent d.inner d.signals d.categories st
 
--- the signal after n entries, which are enough or not
-abbrev pub reached_at : Bool → Packed → ℕ → Reached
-reached_at enough st n = record { enough = enough; signal = st.signal; entries = n }
+-- the signal after n entries, if they are enough
+abbrev pub reached_at : Bool → Packed → ℕ → Option Reached
+reached_at enough st n = cond enough (Some (record { signal = st.signal; entries = n })) None
 
 -- from a state after n entries, over those that follow
-unfoldable pub run_over : List ℕ → Decoded → List ℕ → Packed → ℕ → List Span → Bool → Reached
+unfoldable pub run_over : List ℕ → Decoded → List ℕ → Packed → ℕ → List Span → Bool → Option Reached
 run_over t d v st n [] ended = reached_at (ended || settled_in d st) st n
 run_over t d v st n (p ∷ ps) ended = cond (settled_in d st) (reached_at true st n) (run_over t d v (after_uri t d st (part_of v p)) (n + 1) ps ended)
 
 -- from a place in the value, before a 65th entry
-unfoldable pub run_from : List ℕ → Decoded → List ℕ → Packed → ℕ → ℕ → Reached
+unfoldable pub run_from : List ℕ → Decoded → List ℕ → Packed → ℕ → ℕ → Option Reached
 run_from t d v st n at = run_over t d v st n (first_of (most_entries - n) (front_from v at)).parts (first_of (most_entries - n) (front_from v at)).ended

@@ -9,6 +9,9 @@ use lib.Dec.{eqb, ltb}
 use borrow.Author.Tests.{lt-ltb, le-ltb, eq-eqb, ne_eqb, ltb-true, ltb-false, eqb-true, eqb-false}
 use native.Mathlib.Omega.{arith}
 use Rattle.base_numbers.specs.Numbers.{most_entries, most_value_bytes}
+use Rattle.base_numbers.specs.declared.refusal.Refusal.{Refusal}
+use Rattle.base_numbers.specs.Refusals.{refusal_number}
+use Rattle.base_numbers.proofs.Refusals.{refusal-some}
 use Rattle.base_lists.proofs.Numbers.{pos-of-ne}
 use Rattle.base_lists.proofs.Bools.{by_test}
 use Rattle.value_cursor.specs.Reading.{Reading, unfit, spans, reading_from, reading_of}
@@ -52,13 +55,17 @@ table-refused t v r e h = simp (eq-eqb (refusal_of v) 0 e, ne_eqb (table_refusal
 pub unless-number : (t v : List ℕ) (r : Resolution) → unless_refused t v r ≡ cond (eqb (number_of t v) 0) r (refused (number_of t v))
 unless-number t v r = by_test (eqb (refusal_of v) 0) (λ q. simp q) (λ q. simp q)
 
--- a refused table's answer: the value's number comes first
-pub refused-first : (t v : List ℕ) (r : Resolution) {k : ℕ} → k ≡ table_refusal t → (k ≡ 0 → ⊥)
+first-number : (t v : List ℕ) (r : Resolution) {k : ℕ} → k ≡ table_refusal t → (k ≡ 0 → ⊥)
     → refused (cond (eqb (refusal_of v) 0) k (refusal_of v)) ≡ unless_refused t v r
-refused-first t v r {k} e n =
+first-number t v r {k} e n =
     by_test (eqb (refusal_of v) 0)
     (λ q. ap (λ b. refused (cond b k (refusal_of v))) q ∙ ap refused e ∙ table-refused t v r (eqb-true (refusal_of v) 0 q) (λ z. n (e ∙ z)))
     (λ q. ap (λ b. refused (cond b k (refusal_of v))) q ∙ value-refused t v r refl (pos-of-ne (eqb-false (refusal_of v) 0 q)))
+
+-- a refused table's answer: the value's number comes first
+pub refused-first : (t v : List ℕ) (r : Resolution) (k : Refusal) → refusal_number k ≡ table_refusal t
+    → refused (cond (eqb (refusal_of v) 0) (refusal_number k) (refusal_of v)) ≡ unless_refused t v r
+refused-first t v r k e = first-number t v r e (λ z. omega (arith, refusal-some k, z))
 
 -- how a resolver can end: the value is refused and so is the answer, or it is accepted, and the answer is the signal at x with the counts
 pub data End (t v : List ℕ) (x : Current) (e : Ended) : Type 0 where

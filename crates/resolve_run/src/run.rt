@@ -77,7 +77,7 @@ pub struct Point<'a> {
 }
 
 // Signal 0, and every category open.
-pub fn start() -> State
+pub(crate) fn start() -> State
     ensures { result ≡ start_now }
 {
     State {
