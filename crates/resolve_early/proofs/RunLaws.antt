@@ -17,8 +17,7 @@ use Rattle.value_cursor.specs.declared.alert_param.Found.TheVariants.{Last, More
 use Rattle.value_reader.specs.Value.{part_of}
 use Rattle.node_step.specs.StatusByte.{step_packed}
 use Rattle.node_step.specs.declared.stored.Packed.{Packed}
-use Rattle.node_search.specs.declared.uses.Use.{Use}
-use Rattle.node_search.specs.declared.uses.Use.TheVariants.{Skipped, Used}
+use Rattle.node_search.specs.declared.uses.Used.{Used}
 use Rattle.node_search.specs.declared.decoded.Decoded.{Decoded}
 use Rattle.resolve_early.specs.FirstEntries.{Front, nothing, only, before, front_from, first_of}
 use Rattle.resolve_early.specs.Run.{use_in, after_use, after_uri, settled_in, reached_at, run_over, run_from}
@@ -28,15 +27,8 @@ use Rattle.resolve_run.specs.Run.{entry_of}
 use Rattle.resolve_run.proofs.RunLaws.{whole_part}
 use Rattle.resolve_run.specs.declared.entry.Entry.{Entry}
 
-module _ (rows ps : List ℕ) (inner : List Bool) (n : ℕ) (st : Packed) (u : Use) where
-  pub after-skipped : u ≡ Skipped → st ≡ after_use rows ps inner n st u
-  after-skipped e = rw e
-
-  pub after-used : {c k m : ℕ} {w : Bool} {r : Packed} → u ≡ Used c k w m → r ≡ step_packed rows ps inner n st c k w → r ≡ after_use rows ps inner n st u
-  after-used e q = rw e q
-
 -- the state after the URI in a part of the value, by what it is to the table
-pub after-uri : (t : List ℕ) (d : Decoded) (v : List ℕ) (st : Packed) (p : Span) {u : Use} {r : Packed}
+pub after-uri : (t : List ℕ) (d : Decoded) (v : List ℕ) (st : Packed) (p : Span) {u : option.Option Used} {r : Packed}
     → u ≡ use_in t d (take (p.start + p.len - p.start) (drop p.start v)) → r ≡ after_use d.rows d.parent d.inner d.signals st u
     → r ≡ after_uri t d st (part_of v p)
 unfolding after_uri

@@ -5,8 +5,7 @@ use Rattle.value_cursor.specs.declared.alert_param.Span.{Span}
 use Rattle.value_reader.specs.Value.{part_of}
 use Rattle.node_step.specs.StatusByte.{step_packed}
 use Rattle.node_step.specs.declared.stored.Packed.{Packed}
-use Rattle.node_search.specs.declared.uses.Use.{Use}
-use Rattle.node_search.specs.declared.uses.Use.TheVariants.{Skipped, Used}
+use Rattle.node_search.specs.declared.uses.Used.{Used}
 use Rattle.node_search.specs.declared.decoded.Decoded.{Decoded}
 pub use Rattle.resolve_run.specs.Run.{use_in}
 use Rattle.resolve_early.specs.FirstEntries.{front_from, first_of}
@@ -14,9 +13,9 @@ use Rattle.resolve_early.specs.SettledBy.{settled_by}
 use Rattle.resolve_early.specs.declared.run.Reached.{Reached}
 
 -- one URI more: a skipped one changes nothing
-abbrev pub after_use : List ℕ → List ℕ → List Bool → ℕ → Packed → Use → Packed
-after_use rows ps inner n st Skipped = st
-after_use rows ps inner n st (Used c k w m) = step_packed rows ps inner n st c k w
+abbrev pub after_use : List ℕ → List ℕ → List Bool → ℕ → Packed → Option Used → Packed
+after_use rows ps inner n st None = st
+after_use rows ps inner n st (Some u) = step_packed rows ps inner n st u.category u.node u.whole
 
 -- the same by the URI
 unfoldable pub after_uri : List ℕ → Decoded → Packed → List ℕ → Packed

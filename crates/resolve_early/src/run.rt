@@ -5,8 +5,8 @@ ghost use Rattle.resolve_early.specs.Run.{after_use, run_from};
 
 use crate::settled::settled;
 use base_numbers::MOST_ENTRIES;
-use node_search::uses::{Use, uses};
-use node_step::stored::{Packed, same, step_packed};
+use node_search::uses::{Used, uses};
+use node_step::stored::{Packed, step_packed};
 use resolve_run::entry::entry_at;
 use table_decode::Decoded;
 
@@ -28,26 +28,12 @@ fn signal_at(st: Packed, n: usize) -> Reached
 }
 
 // One URI more, by what it is to the table.
-fn taken(d: &Decoded, st: Packed, u: Use) -> Packed
-    ensures { result ≡ after_use d.now.rows d.now.parent d.now.inner d.now.signals st u }
+fn taken(d: &Decoded, st: Packed, found: Option<Used>) -> Packed
+    ensures { result ≡ after_use d.now.rows d.now.parent d.now.inner d.now.signals st found }
 {
-    match u {
-        Use::Skipped => st,
-        Use::Used {
-            category: c,
-            node: k,
-            whole: w,
-            compared: _,
-        } => step_packed(
-            &d.rows,
-            &d.parent,
-            &d.inner,
-            d.signals,
-            st,
-            usize::from(c),
-            k,
-            w,
-        ),
+    match found {
+        Some(u) => step_packed(d, st, usize::from(u.category), u.node, u.whole),
+        None => st,
     }
 }
 
@@ -77,24 +63,12 @@ pub(crate) fn run(t: &[u8], d: &Decoded, v: &[u8]) -> Option<Reached>
         }
         let start = e.span.start;
         let end = start + e.span.len;
-        let u = uses(
-            t,
-            &d.name_at,
-            &d.name_len,
-            d.categories,
-            &d.category,
-            &d.at,
-            &d.len,
-            &d.shared,
-            &d.inner,
-            d.nodes,
-            &v[start..end],
-        );
+        let u = uses(t, d, &v[start..end]);
         let next = taken(d, st, u);
         if e.last {
             return Some(signal_at(next, n + 1));
         }
-        if !same(st, next) {
+        if st != next {
             ends = settled(d, next);
         }
         st = next;

@@ -16,7 +16,7 @@ use table_decode::Decoded;
 fn keeps(d: &Decoded, st: Packed, c: usize, k: u8, whole: bool) -> bool
     ensures { result ≡ keeps_at d.now.rows d.now.parent d.now.inner d.now.signals st c k whole }
 {
-    let next = step_packed(&d.rows, &d.parent, &d.inner, d.signals, st, c, k, whole);
+    let next = step_packed(d, st, c, k, whole);
     next.signal == st.signal
 }
 

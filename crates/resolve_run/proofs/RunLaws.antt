@@ -13,8 +13,7 @@ use Rattle.value_cursor.specs.declared.alert_param.Found.TheVariants as found
 use Rattle.value_cursor.proofs.ReadingLaws.{reading-last, reading-more, reading-none}
 use Rattle.value_reader.specs.Value.{part_of}
 use Rattle.node_step.proofs.TriesLaws.{tries-bound}
-use Rattle.node_search.specs.declared.uses.Use.{Use}
-use Rattle.node_search.specs.declared.uses.Use.TheVariants.{Skipped, Used}
+use Rattle.node_search.specs.declared.uses.Used.{Used}
 use Rattle.node_search.specs.declared.decoded.Decoded.{Decoded}
 use Rattle.resolve_run.specs.declared.run.Current.{Current}
 use Rattle.resolve_run.specs.declared.run.Point.{Point}
@@ -24,7 +23,7 @@ use Rattle.resolve_run.specs.Run.{tries_of, use_in, moved, after_use, after, ent
 use Rattle.resolve_run.specs.declared.entry.Entry.{Entry}
 
 -- one URI more, by what it is to the table
-pub after-uri : (t : List ℕ) (d : Decoded) (p : Point) (uri : List ℕ) {u : Use} {r : Point} → u ≡ use_in t d uri
+pub after-uri : (t : List ℕ) (d : Decoded) (p : Point) (uri : List ℕ) {u : Option Used} {r : Point} → u ≡ use_in t d uri
     → r ≡ after_use d.rows d.parent d.inner d.signals p u → r ≡ after t d p uri
 unfolding after
 after-uri t d p uri e q = q ∙ ap (after_use d.rows d.parent d.inner d.signals p) e
@@ -35,12 +34,12 @@ pub after-counted : (t : List ℕ) (d : Decoded) (p : Point) (uri : List ℕ) {r
 unfolding after
 after-counted t d p uri e = ap (λ (x : Point). x.used + x.skipped) e ∙ counted (use_in t d uri)
   where
-    by : Use → Point
+    by : Option Used → Point
     by = after_use d.rows d.parent d.inner d.signals p
 
-    counted : (u : Use) → (by u).used + (by u).skipped ≡ p.used + p.skipped + 1
-    counted Skipped = omega arith
-    counted (Used c k w n) = omega arith
+    counted : (u : Option Used) → (by u).used + (by u).skipped ≡ p.used + p.skipped + 1
+    counted None = omega arith
+    counted (Some u) = omega arith
 
 -- one URN more adds at most ten tries
 moved-few : (rows parent : List ℕ) (inner : List Bool) (signals : ℕ) (x : Current) (c k : ℕ) (w : Bool) {n : ℕ}
@@ -54,12 +53,12 @@ pub after-few : (t : List ℕ) (d : Decoded) (p : Point) (uri : List ℕ) {r : P
 unfolding after
 after-few t d p uri e h = subst (λ (x : Point). tries_of x.current ≤ 10 * x.used) (sym e) (few (use_in t d uri))
   where
-    by : Use → Point
+    by : Option Used → Point
     by = after_use d.rows d.parent d.inner d.signals p
 
-    few : (u : Use) → tries_of (by u).current ≤ 10 * (by u).used
-    few Skipped = h
-    few (Used c k w n) = omega (arith, moved-few d.rows d.parent d.inner d.signals p.current c k w h)
+    few : (u : Option Used) → tries_of (by u).current ≤ 10 * (by u).used
+    few None = h
+    few (Some u) = omega (arith, moved-few d.rows d.parent d.inner d.signals p.current u.category u.node u.whole h)
 
 -- what stands at a place of a value: no entry, the last entry, or one with the place of the next
 pub record Met (v : List ℕ) (at : ℕ) (e : Entry) : Type 0 where

@@ -11,8 +11,7 @@ use Rattle.node_step.specs.Tries.{tries_numbers}
 use Rattle.node_search.specs.Search.{uses_of}
 use Rattle.node_step.specs.declared.Status.TheVariants.{Open}
 use Rattle.node_step.specs.declared.State.{State}
-use Rattle.node_search.specs.declared.uses.Use.{Use}
-use Rattle.node_search.specs.declared.uses.Use.TheVariants.{Skipped, Used}
+use Rattle.node_search.specs.declared.uses.Used.{Used}
 use Rattle.node_search.specs.declared.decoded.Decoded.{Decoded}
 use Rattle.resolve_run.specs.declared.Resolution.{Resolution}
 use Rattle.resolve_run.specs.declared.run.Walk.{Walk}
@@ -26,12 +25,12 @@ use Rattle.resolve_run.specs.Answers.{refused}
 use Rattle.machine_symbols.specs.Listed.{symbol_number}
 
 -- what a URI is to the decoded table
-abbrev pub use_in : List ℕ → Decoded → List ℕ → Use
+abbrev pub use_in : List ℕ → Decoded → List ℕ → Option Used
 use_in t d uri = uses_of t d.name_at d.name_len d.categories d.category d.at d.len d.shared d.inner d.nodes uri
 
 -- signal 0, and every category open
 abbrev pub start_now : State
-start_now = record { signal = 0; categories = replicate most_categories (record { status = Open }) }
+start_now = record { signal = 0; categories = replicate most_categories Open }
 
 -- the target that the row of state j holds for a URN's symbol
 abbrev pub target_now : List Bool → Walk → ℕ → ℕ → ℕ → Bool → ℕ
@@ -54,10 +53,10 @@ moved rows parent inner signals (Direct st n) c k whole =
 moved rows parent inner signals (Walking w j) c k whole = Walking w (target_now inner w j c k whole)
 
 -- one URI more
-abbrev pub after_use : List ℕ → List ℕ → List Bool → ℕ → Point → Use → Point
-after_use rows parent inner signals p Skipped = record { current = p.current; used = p.used; skipped = p.skipped + 1 }
-after_use rows parent inner signals p (Used c k w n) =
-    record { current = moved rows parent inner signals p.current c k w; used = p.used + 1; skipped = p.skipped }
+abbrev pub after_use : List ℕ → List ℕ → List Bool → ℕ → Point → Option Used → Point
+after_use rows parent inner signals p None = record { current = p.current; used = p.used; skipped = p.skipped + 1 }
+after_use rows parent inner signals p (Some u) =
+    record { current = moved rows parent inner signals p.current u.category u.node u.whole; used = p.used + 1; skipped = p.skipped }
 
 unfoldable pub after : List ℕ → Decoded → Point → List ℕ → Point
 after t d p uri = after_use d.rows d.parent d.inner d.signals p (use_in t d uri)

@@ -7,8 +7,8 @@ ghost use Rattle.resolve_run.specs.Run.{start_now, target_now, state_of, tries_o
 use crate::entry::entry_at;
 use base_numbers::MOST_CATEGORIES;
 use machine_symbols::Symbols;
-use node_search::uses::{Use, uses};
-use node_step::{Progress, State, Status};
+use node_search::uses::{Used, uses};
+use node_step::{State, Status};
 use table_decode::Decoded;
 
 // What a walk goes by: a table's symbols, with their index, and an image whose states have a byte for each of so many categories:
@@ -82,9 +82,7 @@ pub(crate) fn start() -> State
 {
     State {
         signal: 0,
-        categories: [Progress {
-            status: Status::Open,
-        }; MOST_CATEGORIES],
+        categories: [Status::Open; MOST_CATEGORIES],
     }
 }
 
@@ -111,16 +109,7 @@ fn moved_by<'a>(d: &Decoded, current: Current<'a>, c: u8, k: u8, whole: bool) ->
 {
     match current {
         Current::Direct { state, tries } => {
-            let counted = node_step::tries::step(
-                &d.rows,
-                &d.parent,
-                &d.inner,
-                d.signals,
-                state,
-                usize::from(c),
-                k,
-                whole,
-            );
+            let counted = node_step::tries::step(d, state, usize::from(c), k, whole);
             Current::Direct {
                 state: counted.state,
                 tries: tries + u16::from(counted.tries),
@@ -131,25 +120,20 @@ fn moved_by<'a>(d: &Decoded, current: Current<'a>, c: u8, k: u8, whole: bool) ->
 }
 
 // One URI more, by what it is to the table.
-fn taken<'a>(d: &Decoded, p: Point<'a>, u: Use) -> Point<'a>
+fn taken<'a>(d: &Decoded, p: Point<'a>, found: Option<Used>) -> Point<'a>
     requires { (p.used + p.skipped ≤ most_value_bytes) × (tries_of p.current ≤ 10 * p.used) }
-    ensures { result ≡ after_use d.now.rows d.now.parent d.now.inner d.now.signals p.entry u }
+    ensures { result ≡ after_use d.now.rows d.now.parent d.now.inner d.now.signals p.entry found }
 {
-    match u {
-        Use::Skipped => Point {
+    match found {
+        Some(u) => Point {
+            current: moved_by(d, p.current, u.category, u.node, u.whole),
+            used: p.used + 1,
+            skipped: p.skipped,
+        },
+        None => Point {
             current: p.current,
             used: p.used,
             skipped: p.skipped + 1,
-        },
-        Use::Used {
-            category: c,
-            node: k,
-            whole: w,
-            compared: _,
-        } => Point {
-            current: moved_by(d, p.current, c, k, w),
-            used: p.used + 1,
-            skipped: p.skipped,
         },
     }
 }
@@ -169,19 +153,7 @@ pub(crate) fn run<'a>(t: &[u8], d: &Decoded, from: Point<'a>, v: &[u8]) -> Optio
         }
         let start = e.span.start;
         let end = start + e.span.len;
-        let u = uses(
-            t,
-            &d.name_at,
-            &d.name_len,
-            d.categories,
-            &d.category,
-            &d.at,
-            &d.len,
-            &d.shared,
-            &d.inner,
-            d.nodes,
-            &v[start..end],
-        );
+        let u = uses(t, d, &v[start..end]);
         p = taken(d, p, u);
         if e.last {
             return Some(p);
