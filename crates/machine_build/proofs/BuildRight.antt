@@ -4,17 +4,22 @@ use mathlib.Core.Path.{◌≡◌, refl, sym, ap, ap₂, ◌∙◌}
 use mathlib.Core.Bool.{Bool, true, false, cond}
 use mathlib.Core.List.{List, [], ◌∷◌, ◌++◌, map}
 use lib.Dec.{eqb, ltb}
-use borrow.Author.Tests.{ltb-false}
+use borrow.Author.Tests.{ltb-false, eq-eqb, ne_eqb}
 use lib.ListN.{length, get_or, take, replicate, length-map}
-use lib.Seq.{take_all, length-take-le, get_or-take}
+use lib.Seq.{take_all}
 use native.Mathlib.Omega.{arith}
 use native.Mathlib.Nat.{zero-add}
 use Rattle.base_numbers.specs.Numbers.{most_nodes, most_states}
-use Rattle.base_bytes.specs.Built.{refused, accepted}
+use Rattle.std.specs.Prelude.{Ok, Err}
+use Rattle.base_numbers.specs.Refusals.{refusal_number}
+use Rattle.base_numbers.proofs.Refusals.{refusal-some}
+use Rattle.base_bytes.specs.declared.Built.{Built}
+use Rattle.base_numbers.specs.declared.refusal.Refusal.{Refusal}
+use Rattle.base_numbers.specs.declared.refusal.Refusal.TheVariants.{TooManyStates, ImageNoRoom}
 use Rattle.base_lists.proofs.Each.{each_last}
 use Rattle.base_lists.proofs.Tabulated.{tabulate-entries}
 use Rattle.base_lists.proofs.Lists.{mem-at, map_at}
-use Rattle.base_lists.specs.Lists.{tabulate, each}
+use Rattle.base_lists.specs.Lists.{each}
 use Rattle.theory_resolution.specs.Table.{Table, WellFormed}
 use Rattle.theory_resolution.specs.Direct.{start, same_state, StateOf}
 use Rattle.theory_resolution.specs.Symbols.{symbols, step_at}
@@ -29,14 +34,14 @@ use Rattle.node_step.specs.StatusByte.{byte_of}
 use Rattle.node_step.specs.declared.stored.Packed.{Packed}
 use Rattle.node_step.proofs.ByteLaws.{packed-digit}
 use Rattle.node_step.proofs.Both.{coded-at}
-use Rattle.machine_image.specs.Image.{stored_symbols, status_byte, status_bytes, state_bytes, image_of, machine_image}
+use Rattle.machine_image.specs.Image.{status_byte, status_bytes, state_bytes, image_of, machine_image}
 use Rattle.machine_image.proofs.Statuses.{bytes-length, bytes-at, status-coded}
 use Rattle.machine_image.specs.Refusals.{build_refusal, build_length, buffer_of}
 use Rattle.machine_image.proofs.Build.{own-length}
 use Rattle.machine_build.specs.Built.{built_of}
 use Rattle.machine_symbols.specs.Listed.{SymbolsIn}
 use Rattle.machine_symbols.specs.Steps.{begin, next_state}
-use Rattle.machine_build.specs.States.{symbol_byte, head_bytes, found, pair_bytes, bytes_of, states_bytes, image_by, size_by, built_by, buffer_by}
+use Rattle.machine_build.specs.States.{head_bytes, found, pair_bytes, bytes_of, states_bytes, image_by, size_by, built_by, buffer_by, answer_of}
 use Rattle.machine_symbols.proofs.StepRight.{code}
 use Rattle.machine_build.proofs.StatesRight.{found-code, all_found, targets-found}
 use Rattle.theory_resolution.specs.Direct as direct
@@ -91,13 +96,6 @@ module _ (T : Table) (wf : WellFormed T) (rows ps : List ℕ) (signals : ℕ) (n
   found-length : length (found next count most_states) ≡ length states
   found-length = ap length (found-code T wf rows ps signals nu sy count si inner ii most_states) ∙ length-map states (code T)
 
-  -- the symbols' bytes
-  symbols-right : tabulate (symbol_byte sy) (3 * count) ≡ stored_symbols T
-  symbols-right =
-      tabulate-entries 0 (take (3 * count) sy) (symbol_byte sy) (3 * count) (length-take-le (3 * count) sy (omega (arith, si.wide, si.few-symbols)))
-      (λ k h. sym (get_or-take (3 * count) sy k 0 h))
-      ∙ si.held
-
   pub image-right : image_by next T.cats count sy ≡ machine_image T
   unfolding image_by image_of
   image-right =
@@ -105,44 +103,56 @@ module _ (T : Table) (wf : WellFormed T) (rows ps : List ℕ) (signals : ℕ) (n
       (ap₂ (states_bytes next T.cats count) (found-code T wf rows ps signals nu sy count si inner ii most_states) found-length
       ∙ rows_right (length states) (omega arith) ∙ ap (λ z. each (state_bytes (nodes T)) (map made z)) (take_all (length states) states (omega arith)))
       ∙ ap₂ (λ c s. c ∷ s ++ length (map made states) % 256 ∷ length (map made states) / 256 ∷ [] ++ each (state_bytes (nodes T))
-      (map made states)) (sym si.all-symbols) symbols-right
+      (map made states)) (sym si.all-symbols) si.held
 
   size-right : length states ≤ most_states → size_by next T.cats count ≡ length (machine_image T)
   size-right h = ap₂ (λ n c. 3 + 3 * c + n * (c + T.cats + 1)) found-length (sym si.all-symbols) ∙ sym (own-length T wf h)
 
-  pub built-right : (room : ℕ) → built_by next T.cats count room ≡ built_of T room
-  unfolding built_by build_refusal build_length
+  pub built-right : (room : ℕ) → answer_of (built_by next T.cats count room) ≡ built_of T room
+  unfolding built_by build_refusal build_length refusal_number
   built-right room =
-      ap (λ n. cond (ltb most_states n) (refused 13) (cond (ltb room (size_by next T.cats count)) (refused 14)
-      (accepted (size_by next T.cats count)))) found-length
+      ap (λ n. answer_of (cond (ltb most_states n) (Err TooManyStates) (cond (ltb room (size_by next T.cats count)) (Err ImageNoRoom)
+      (Ok (size_by next T.cats count))))) found-length
       ∙ go (ltb most_states (length states)) refl
     where
       by : (b : Bool) (n : ℕ)
-          → cond b (refused 14) (accepted n) ≡ record { refusal = cond b 14 0; len = cond (eqb (cond b 14 0) 0) n 0 }
+          → answer_of (cond b (Err ImageNoRoom) (Ok n)) ≡ record { refusal = cond b 14 0; len = cond (eqb (cond b 14 0) 0) n 0 }
       by true n = refl
       by false n = refl
 
       go : (b : Bool) → ltb most_states (length states) ≡ b
-          → cond b (refused 13) (cond (ltb room (size_by next T.cats count)) (refused 14) (accepted (size_by next T.cats count)))
+          → answer_of (cond b (Err TooManyStates) (cond (ltb room (size_by next T.cats count)) (Err ImageNoRoom) (Ok (size_by next T.cats count))))
           ≡ record {
             refusal = cond b 13 (cond (ltb room (length (machine_image T))) 14 0);
             len = cond (eqb (cond b 13 (cond (ltb room (length (machine_image T))) 14 0)) 0) (length (machine_image T)) 0;
           }
       go true e = refl
       go false e =
-          ap (λ n. cond (ltb room n) (refused 14) (accepted n)) (size-right (ltb-false most_states (length states) e))
+          ap (λ n. answer_of (cond (ltb room n) (Err ImageNoRoom) (Ok n))) (size-right (ltb-false most_states (length states) e))
           ∙ by (ltb room (length (machine_image T))) (length (machine_image T))
 
-  pub buffer-right : (room : ℕ) → buffer_by next T.cats count sy room ≡ buffer_of T room
-  unfolding buffer_by buffer_of build_refusal
-  buffer-right room =
-      ap (λ b. cond (eqb b.refusal 0) (image_by next T.cats count sy ++ replicate (room - size_by next T.cats count) 0)
-      (replicate room 0)) (built-right room)
-      ∙ go (ltb most_states (length states)) refl (ltb room (length (machine_image T)))
-    where
-      go : (b : Bool) → ltb most_states (length states) ≡ b → (c : Bool)
-          → cond (eqb (cond b 13 (cond c 14 0)) 0) (image_by next T.cats count sy ++ replicate (room - size_by next T.cats count) 0) (replicate room 0)
-          ≡ cond (eqb (cond b 13 (cond c 14 0)) 0) (machine_image T ++ replicate (room - length (machine_image T)) 0) (replicate room 0)
-      go true e c = refl
-      go false e true = refl
-      go false e false = ap₂ (λ x n. x ++ replicate (room - n) 0) image-right (size-right (ltb-false most_states (length states) e))
+  -- the buffer, where there is room, and where the build is refused
+  module _ (room : ℕ) where
+    abbrev refusal : ℕ
+    refusal = build_refusal T room
+
+    within : refusal ≡ 0 → length states ≤ most_states
+    unfolding build_refusal
+    within e = go (ltb most_states (length states)) refl
+      where
+        go : (b : Bool) → ltb most_states (length states) ≡ b → length states ≤ most_states
+        go false f = ltb-false most_states (length states) f
+        go true f = absurd (omega (arith, sym (ap (λ b. cond b 13 (cond (ltb room (length (machine_image T))) 14 0)) f) ∙ e))
+
+    pub buffer-right : {n : ℕ} → Ok n ≡ built_by next T.cats count room → buffer_by next T.cats count sy room ≡ buffer_of T room
+    unfolding buffer_by buffer_of
+    buffer-right {n} v =
+        let e : refusal ≡ 0 = ap (λ (b : Built). b.refusal) (sym (ap answer_of v ∙ built-right room)) in
+        let few : length states ≤ most_states = within e in
+        ap₂ (λ x n. x ++ replicate (room - n) 0) image-right (size-right few) ∙ sym (rw (eq-eqb refusal 0 e))
+
+    pub buffer-refused : {r : Refusal} → Err r ≡ built_by next T.cats count room → replicate room 0 ≡ buffer_of T room
+    unfolding buffer_of
+    buffer-refused {r} v =
+        let e : refusal ≡ refusal_number r = ap (λ (b : Built). b.refusal) (sym (ap answer_of v ∙ built-right room)) in
+        sym (rw (ne_eqb refusal 0 (λ z. omega (arith, e, refusal-some r))))

@@ -4,7 +4,7 @@ use mathlib.Core.Path.{◌≡◌, refl, sym, ap, subst, ◌∙◌}
 use mathlib.Core.Bool.{Bool, true, false, cond}
 use mathlib.Core.List.{List, [], ◌∷◌, ◌++◌}
 use lib.ListN.{length, set, take, drop, length-append}
-use lib.Seq.{take_at, length-take-le}
+use lib.Seq.{take_at}
 use native.Mathlib.Omega.{arith}
 use native.Mathlib.Decide.{ℕ_discrete}
 use native.Mathlib.Numerals.{add-one}
@@ -18,7 +18,10 @@ use Rattle.node_step.specs.Step.{digit}
 use Rattle.node_step.specs.StatusByte.{same_packed}
 use Rattle.node_step.specs.declared.stored.Packed.{Packed}
 use Rattle.node_step.proofs.PackedStep.{packed-exact}
-use Rattle.machine_build.specs.States.{Kept, longer, pair_bytes, Turned}
+use Rattle.base_numbers.specs.declared.refusal.Refusal.{Refusal}
+use Rattle.base_numbers.specs.declared.refusal.Refusal.TheVariants.{TooManyStates}
+use Rattle.machine_build.specs.declared.states.States.{States}
+use Rattle.machine_build.specs.States.{Kept, pair_bytes}
 use Rattle.machine_build.proofs.KeptLaws.{index-extends, index-add, add-longer}
 
 pub extends-length : {l k : List Packed} → Extends l k → length l ≤ length k
@@ -66,27 +69,25 @@ module _ (next : Packed → ℕ → Packed) (p : Packed) (l : List Packed) where
       ∙ ap (λ z. targets same_packed next k (after k) p ++ z ∷ []) (index-add (next p k) (after k))
 
   -- what the loop keeps
-  pub record Turning (k : ℕ) (numbers₀ numbers signal statuses slots : List ℕ) (m : ℕ) : Type 0 where
-    pub kept : Kept signal statuses slots m (after k)
+  pub record Turning (k : ℕ) (numbers₀ numbers : List ℕ) (s : States) : Type 0 where
+    pub kept : Kept s (after k)
     pub numbered : numbers ≡ over (begun k) numbers₀
 
   module _ (numbers₀ : List ℕ) where
-    pub turning-start : (signal statuses slots : List ℕ) (m : ℕ) → Kept signal statuses slots m l → Turning 0 numbers₀ numbers₀ signal statuses slots m
+    pub turning-start : (s : States) → Kept s l → Turning 0 numbers₀ numbers₀ s
     unfolding expand tabulate over
-    turning-start signal statuses slots m k = record { kept = k; numbered = refl }
+    turning-start s k = record { kept = k; numbered = refl }
 
-    module _ (k : ℕ) (numbers signal statuses slots : List ℕ) (m : ℕ) (t : Turning k numbers₀ numbers signal statuses slots m) where
-      pub turning-more : (signal' statuses' slots' : List ℕ) {q : Packed} {j m' : ℕ} → k < length numbers₀ → q ≡ next p k
-          → ((l' : List Packed) → Kept signal statuses slots m l' → (j ≡ index_by same_packed q l')
-          × (j < 256 → Kept signal' statuses' slots' (longer m j) (add_by same_packed l' q)))
-          → j < 256 → m' ≡ longer m j → Turning (k + 1) numbers₀ (set numbers k j) signal' statuses' slots' m'
+    module _ (k : ℕ) (numbers : List ℕ) (s : States) (t : Turning k numbers₀ numbers s) where
+      pub turning-more : (s' : States) {q : Packed} {j : ℕ} → k < length numbers₀ → q ≡ next p k
+          → ((l' : List Packed) → Kept s l' → (j ≡ index_by same_packed q l') × Kept s' (add_by same_packed l' q))
+          → Turning (k + 1) numbers₀ (set numbers k j) s'
       unfolding expand
-      turning-more signal' statuses' slots' {q} {j} {m'} h e f i g =
+      turning-more s' {q} {j} h e f =
           let w = f (after k) t.kept in
           rw add-one
           (record {
-            kept = subst (λ (z : ℕ). Kept signal' statuses' slots' z (add_by same_packed (after k) (next p k))) (sym g)
-                (subst (λ (z : Packed). Kept signal' statuses' slots' (longer m j) (add_by same_packed (after k) z)) e (w.1 i));
+            kept = subst (λ (z : Packed). Kept s' (add_by same_packed (after k) z)) e w.1;
             numbered =
                 ap (λ z. set z k j) t.numbered
                 ∙ over-set (begun k) numbers₀ k j (begun-length k) h
@@ -94,22 +95,17 @@ module _ (next : Packed → ℕ → Packed) (p : Packed) (l : List Packed) where
           })
 
       -- a 257th state
-      pub turning-over : (count : ℕ) (signal' statuses' slots' numbers' : List ℕ) {q : Packed} {j : ℕ} → k < count → q ≡ next p k
-          → ((l' : List Packed) → Kept signal statuses slots m l' → (j ≡ index_by same_packed q l')
-          × (j < 256 → Kept signal' statuses' slots' (longer m j) (add_by same_packed l' q)))
-          → most_states ≤ j → Turned next count l p numbers' signal' statuses' slots' (suc most_states)
+      pub turning-over : (count : ℕ) {q : Packed} {r : Refusal} → k < count → q ≡ next p k
+          → ((l' : List Packed) → Kept s l' → (r ≡ TooManyStates) × (most_states ≤ index_by same_packed q l'))
+          → (r ≡ TooManyStates) × (most_states < length (after count))
       unfolding expand
-      turning-over count signal' statuses' slots' numbers' {q} {j} h e f i =
+      turning-over count {q} {r} h e f =
           let w = f (after k) t.kept in
-          let a : j ≡ index_by same_packed (next p k) (after k) = w.0 ∙ ap (λ z. index_by same_packed z (after k)) e in
+          let a : index_by same_packed q (after k) ≡ index_by same_packed (next p k) (after k) = ap (λ z. index_by same_packed z (after k)) e in
           let b : length (after k) ≤ most_states = omega (arith, t.kept.all-kept, t.kept.few) in
-          let c = add-longer (next p k) (after k) (omega (arith, a)) in
+          let c = add-longer (next p k) (after k) (omega (arith, a, w.1)) in
           let d = index-le (next p k) (after k) in
-          record {
-            kept = λ z. absurd (omega arith);
-            over = λ z. omega (arith, a, d, c.1, after-longer (suc k) count (omega arith));
-            numbered = λ z. absurd (omega arith);
-          }
+          (w.0, omega (arith, a, w.1, d, c.1, after-longer (suc k) count (omega arith)))
         where
           index-le : (x : Packed) (y : List Packed) → index_by same_packed x y ≤ length y
           index-le x [] = omega arith
@@ -119,27 +115,13 @@ module _ (next : Packed → ℕ → Packed) (p : Packed) (l : List Packed) where
               by true ih = omega arith
               by false ih = omega arith
 
-      pub turning-end : (count : ℕ) → k ≤ count → count ≤ k → m ≤ most_states → Turned next count l p numbers signal statuses slots m
+      pub turning-end : (count : ℕ) → k ≤ count → count ≤ k
+          → Kept s (after count) × (take count numbers ≡ targets same_packed next count (after count) p)
       unfolding over
-      turning-end count a b c =
+      turning-end count a b =
           let e : k ≡ count = omega arith in
-          let u : Turning count numbers₀ numbers signal statuses slots m = subst (λ (z : ℕ). Turning z numbers₀ numbers signal statuses slots m) e t in
-          record {
-            kept = λ z. u.kept;
-            over = λ z. absurd (omega arith);
-            numbered = λ z. ap (take count) u.numbered ∙ take_at (begun count) (drop (length (begun count)) numbers₀) count (begun-length count);
-          }
-
--- the row writer, at the start and at the end
-pub row-start : (numbers row : List ℕ) → row ≡ over ([] ++ take 0 numbers) row
-unfolding over
-row-start numbers row = refl
-
-pub row_done : (numbers row : List ℕ) (k : ℕ) {r : List ℕ} → k ≤ length row → length row ≤ k → length row ≤ length numbers
-    → r ≡ over ([] ++ take k numbers) row → r ≡ take (length row) numbers
-row_done numbers row k h i l e =
-    let z : k ≡ length row = omega arith in
-    e ∙ ap (λ y. over ([] ++ take y numbers) row) z ∙ over-all (take (length row) numbers) row (length-take-le (length row) numbers l)
+          let u : Turning count numbers₀ numbers s = subst (λ (z : ℕ). Turning z numbers₀ numbers s) e t in
+          (u.kept, ap (take count) u.numbered ∙ take_at (begun count) (drop (length (begun count)) numbers₀) count (begun-length count))
 
 -- the bytes before the row are all written
 pub pair-done : (cats : ℕ) (st : Packed) (c : ℕ) (b : List ℕ) {r : List ℕ} → c ≤ cats → cats ≤ c → length b ≡ cats + 1

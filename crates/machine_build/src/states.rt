@@ -3,64 +3,22 @@
 // The number of a state is found by a hash table: `slots` has at a state's hash the number of the last kept state that has this hash, or 0. A
 // number that is read there counts only if that state is the one looked for; else all kept states are gone through, unless it is 0: then no state
 // but the first has this hash.
-ghost use Rattle.std.specs.Prelude.{◌≡◌, ◌&&◌, List, ℕ, ◌+◌, ◌≤◌, ◌<◌, suc, ltb, length, take};
+ghost use Rattle.std.specs.Prelude.{◌≡◌, ◌&&◌, ◌+◌, ◌*◌, List, ℕ, ◌≤◌, ◌<◌, ltb, get_or, length};
 ghost use Rattle.base_numbers.specs.Numbers.{most_categories, most_states, most_symbols};
 ghost use Rattle.base_lists.specs.Lists.{add_by, index_by};
 ghost use Rattle.node_step.specs.Step.{digit};
 ghost use Rattle.node_step.specs.StatusByte.{same_packed};
-ghost use Rattle.machine_symbols.specs.Steps.{next_state, state_at};
-ghost use Rattle.machine_build.specs.States.{Kept, longer, pair_bytes, Placed, Turned, Discovered, slot_of};
+ghost use Rattle.machine_symbols.specs.Steps.{begin, next_state};
+ghost use Rattle.machine_build.specs.States.{Kept, Keeps, pair_bytes, Placed, Turned, Discovered, slot_of};
 
-use base_bytes::numbers::wide;
-use base_numbers::{
-    MOST_NODES, MOST_SIGNALS, MOST_STATES, MOST_SYMBOL_BYTES, MOST_SYMBOLS, OVER_STATES,
-};
+use base_numbers::{MOST_STATES, MOST_SYMBOLS, Refusal};
+use machine_symbols::Symbols;
 use machine_symbols::steps::next;
-use node_step::stored::{Packed, same};
+use node_search::decoded::Decoded;
+use node_step::stored::Packed;
 
-// State j of those in the arrays is st.
-fn is_state(signal: &[u8; MOST_STATES], statuses: &[u64; MOST_STATES], j: usize, st: Packed) -> bool
-    requires { j < 256 }
-    ensures { result ≡ same_packed (state_at signal.now statuses.now j) st }
-{
-    let kept = Packed {
-        signal: signal[j],
-        statuses: statuses[j],
-    };
-    same(kept, st)
-}
-
-// State j is one of the n that are kept, and it is st.
-fn is_kept(
-    signal: &[u8; MOST_STATES],
-    statuses: &[u64; MOST_STATES],
-    n: usize,
-    j: usize,
-    st: Packed,
-) -> bool
-    requires { n ≤ most_states }
-    ensures { result ≡ (ltb j n && same_packed (state_at signal.now statuses.now j) st) }
-{
-    if j < n {
-        return is_state(signal, statuses, j, st);
-    }
-    false
-}
-
-// The number of st among the n kept states, or n.
-fn find(signal: &[u8; MOST_STATES], statuses: &[u64; MOST_STATES], n: usize, st: Packed) -> usize
-    requires { n ≤ most_states }
-    ensures { (slots : List ℕ) (l : List Packed) → Kept signal.now statuses.now slots n l → result ≡ index_by same_packed st l }
-{
-    let mut j = 0;
-    while j < n {
-        if is_state(signal, statuses, j, st) {
-            return j;
-        }
-        j += 1;
-    }
-    n
-}
+// The places of the hash table.
+const SLOTS: usize = 4096;
 
 // What the two halves of a state's statuses, and its signal, are multiplied with in its hash. Any numbers are right: these spread the states.
 const LOW_FACTOR: usize = 3635633;
@@ -75,101 +33,94 @@ fn slot_of(st: Packed) -> usize
 {
     let low = (st.statuses % 4294967296) as usize;
     let high = (st.statuses / 4294967296) as usize;
-    (low * LOW_FACTOR + high * HIGH_FACTOR + wide(st.signal) * SIGNAL_FACTOR) / 65536 % 4096
+    (low * LOW_FACTOR + high * HIGH_FACTOR + usize::from(st.signal) * SIGNAL_FACTOR) / 65536 % SLOTS
 }
 
-// The same number, by the hash table.
-fn number_of(
-    signal: &[u8; MOST_STATES],
-    statuses: &[u64; MOST_STATES],
-    slots: &[u8; 4096],
-    n: usize,
-    st: Packed,
-) -> usize
-    requires { n ≤ most_states }
-    ensures { (l : List Packed) → Kept signal.now statuses.now slots.now n l → result ≡ index_by same_packed st l }
-{
-    let at = slot_of(st);
-    let j = wide(slots[at]);
-    if is_kept(signal, statuses, n, j, st) {
-        return j;
-    }
-    if j == 0 {
-        return n;
-    }
-    find(signal, statuses, n, st)
-}
-
-// The number of st among the n kept states; n if it is a new one, which is then kept if there is room.
-fn keep(
-    signal: &mut [u8; MOST_STATES],
-    statuses: &mut [u64; MOST_STATES],
-    slots: &mut [u8; 4096],
-    n: usize,
-    st: Packed,
-) -> usize
-    requires { n ≤ most_states }
-    ensures upper_bound { result ≤ most_states }
-    ensures value { (l : List Packed) → Kept signal.old statuses.old slots.old n l
-        → (result ≡ index_by same_packed st l) × (result < most_states → Kept signal.new statuses.new slots.new (longer n result) (add_by same_packed l st)) }
-{
-    let j = number_of(signal, statuses, slots, n, st);
-    if j < n {
-        return j;
-    }
-    if n < MOST_STATES {
-        signal[n] = st.signal;
-        statuses[n] = st.statuses;
-        let at = slot_of(st);
-        slots[at] = n as u8;
-    }
-    n
-}
-
-// n, or one more if j is n.
-fn longer_by(n: usize, j: usize) -> usize
-    requires { n ≤ most_states }
-    ensures { result ≡ longer n j }
-{
-    if j == n {
-        return n + 1;
-    }
-    n
-}
-
-// The turn of a state: its targets are kept, and their numbers start the array.
-fn turn<'a>(
-    rows: &'a [u64; MOST_SIGNALS],
-    parents: &'a [u8; MOST_NODES],
-    inner: &'a [bool; MOST_NODES],
-    signals: usize,
-    symbols: &[u8; MOST_SYMBOL_BYTES],
+// The states that are kept: so many, each as it was first met, and the hash table.
+#[derive(Clone, Copy)]
+struct States {
     count: usize,
-    signal: &mut [u8; MOST_STATES],
-    statuses: &mut [u64; MOST_STATES],
-    slots: &mut [u8; 4096],
-    n: usize,
-    st: Packed,
-    numbers: &mut [u8; MOST_SYMBOLS],
-) -> usize
-    requires { (count ≤ most_symbols) × (n ≤ most_states) × (length numbers.old ≡ most_symbols) }
-    ensures upper_bound { (result ≤ (suc most_states)) × (length numbers.new ≡ most_symbols) }
-    ensures turned { (l : List Packed) → Kept signal.old statuses.old slots.old n l
-        → Turned (next_state rows.now parents.now inner.now signals symbols.now) count l st numbers.new signal.new statuses.new slots.new result }
-{
-    let mut m = n;
-    let mut k = 0;
-    while k < count {
-        let to = next(rows, parents, inner, signals, symbols, st, k);
-        let j = keep(signal, statuses, slots, m, to);
-        if MOST_STATES <= j {
-            return OVER_STATES;
-        }
-        m = longer_by(m, j);
-        numbers[k] = j as u8;
-        k += 1;
+    kept: [Packed; MOST_STATES],
+    slots: [u8; SLOTS],
+}
+
+impl States {
+    // State j is one of those that are kept, and it is st.
+    #[tactic(auto, unfolding(node_step::specs::StatusByte::same_packed))]
+    fn is(&self, j: usize, st: Packed) -> bool
+        requires { self.now.count ≤ most_states }
+        ensures { result ≡ (ltb j self.now.count && same_packed (get_or self.now.kept j begin) st) }
+    {
+        j < self.count && self.kept[j] == st
     }
-    m
+
+    // The number of st among those that are kept, or how many they are.
+    fn find(&self, st: Packed) -> usize
+        requires { self.now.count ≤ most_states }
+        ensures { (l : List Packed) → Kept self.now l → result ≡ index_by same_packed st l }
+    {
+        for j in 0..self.count {
+            if self.kept[j] == st {
+                return j;
+            }
+        }
+        self.count
+    }
+
+    // The same number, by the hash table.
+    fn number_of(&self, st: Packed) -> usize
+        requires { self.now.count ≤ most_states }
+        ensures { (l : List Packed) → Kept self.now l → result ≡ index_by same_packed st l }
+    {
+        let j = usize::from(self.slots[slot_of(st)]);
+        if self.is(j, st) {
+            j
+        } else if j == 0 {
+            self.count
+        } else {
+            self.find(st)
+        }
+    }
+
+    // The number of st; a new state is kept under the next number, if there is room.
+    fn keep(&mut self, st: Packed) -> Result<u8, Refusal>
+        requires { self.old.count ≤ most_states }
+        ensures upper_bound { self.new.count ≤ most_states }
+        ensures value { (l : List Packed) → Kept self.old l → Keeps l st self.new result }
+    {
+        let j = self.number_of(st);
+        if j < self.count {
+            return Ok(j as u8);
+        }
+        if MOST_STATES <= j {
+            return Err(Refusal::TooManyStates);
+        }
+        self.kept[j] = st;
+        self.slots[slot_of(st)] = j as u8;
+        self.count = j + 1;
+        Ok(j as u8)
+    }
+
+    // The turn of a state: its targets are kept, and their numbers start the array.
+    fn turn(
+        &mut self,
+        d: &Decoded,
+        symbols: &Symbols,
+        count: usize,
+        st: Packed,
+        numbers: &mut [u8; MOST_SYMBOLS],
+    ) -> Result<(), Refusal>
+        requires { (count ≤ most_symbols) × (self.old.count ≤ most_states) × (length numbers.old ≡ most_symbols) }
+        ensures upper_bound { (self.new.count ≤ most_states) × (length numbers.new ≡ most_symbols) }
+        ensures turned { (l : List Packed) → Kept self.old l
+            → Turned (next_state d.now.rows d.now.parent d.now.inner d.now.signals symbols.now.bytes) count l st numbers.new self.new result }
+    {
+        for k in 0..count {
+            let to = next(d, symbols, st, k);
+            numbers[k] = self.keep(to)?;
+        }
+        Ok(())
+    }
 }
 
 // The byte of category c.
@@ -187,91 +138,53 @@ fn write_pair(pair: &mut [u8], st: Packed, categories: usize)
     ensures { pair.new ≡ pair_bytes categories st }
 {
     pair[0] = st.signal;
-    let mut c = 0;
-    while c < categories {
+    for c in 0..categories {
         pair[1 + c] = byte_at(st.statuses, c);
-        c += 1;
-    }
-}
-
-// The row writer: it is lent a state's row, from its first byte to its last, and writes one target for each symbol.
-fn write_row(row: &mut [u8], numbers: &[u8; MOST_SYMBOLS])
-    requires { (length row.old ≤ most_symbols) × (length numbers.now ≡ most_symbols) }
-    ensures { row.new ≡ take (length row.old) numbers.now }
-{
-    let mut k = 0;
-    while k < row.len() {
-        row[k] = numbers[k];
-        k += 1;
     }
 }
 
 // A state in its stretch at a of the part, if that lies in it: its pair, then its row.
-fn write_state(
-    part: &mut [u8],
-    a: usize,
-    st: Packed,
-    categories: usize,
-    numbers: &[u8; MOST_SYMBOLS],
-    count: usize,
-)
-    requires { (a ≤ 65536) × (categories ≤ most_categories) × (length numbers.now ≡ most_symbols) × (count ≤ most_symbols) }
-    ensures { Placed categories count st numbers.now a part.old part.new }
+fn write_state(part: &mut [u8], a: usize, st: Packed, categories: usize, row: &[u8])
+    requires { (a ≤ 65536) × (categories ≤ most_categories) × (length row.now ≤ most_symbols) }
+    ensures { Placed categories st row.now a part.old part.new }
 {
     let from = a + categories + 1;
-    let to = from + count;
+    let to = from + row.len();
     if to <= part.len() {
         write_pair(&mut part[a..from], st, categories);
-        write_row(&mut part[from..to], numbers);
+        part[from..to].copy_from_slice(row);
     }
 }
 
-// How many states there are, or 257 if over 256; their bytes at the front of the part, if it has room for them.
-pub(crate) fn discover<'a>(
-    rows: &'a [u64; MOST_SIGNALS],
-    parents: &'a [u8; MOST_NODES],
-    inner: &'a [bool; MOST_NODES],
-    signals: usize,
+// How many states there are, if they are at most 256; their bytes at the front of the part, if it has room for them.
+pub(crate) fn discover(
+    d: &Decoded,
+    symbols: &Symbols,
     categories: usize,
-    symbols: &[u8; MOST_SYMBOL_BYTES],
     count: usize,
     part: &mut [u8],
-) -> usize
+) -> Result<usize, Refusal>
     requires { (categories ≤ most_categories) × (count ≤ most_symbols) }
-    ensures { Discovered (next_state rows.now parents.now inner.now signals symbols.now) categories count part.old part.new result }
+    ensures { Discovered (next_state d.now.rows d.now.parent d.now.inner d.now.signals symbols.now.bytes) categories count part.old part.new result }
 {
-    let mut signal = [0u8; MOST_STATES];
-    let mut statuses = [0u64; MOST_STATES];
-    let mut slots = [0u8; 4096];
-    let mut numbers = [0u8; MOST_SYMBOLS];
-    let mut n = 1;
+    let begin = Packed {
+        signal: 0,
+        statuses: 0,
+    };
+    let mut states = States {
+        count: 1,
+        kept: [begin; MOST_STATES],
+        slots: [0; SLOTS],
+    };
+    let mut numbers = [0; MOST_SYMBOLS];
+    let width = count + categories + 1;
     let mut i = 0;
-    let mut a = 0;
-    while i < n {
-        let st = Packed {
-            signal: signal[i],
-            statuses: statuses[i],
-        };
-        n = turn(
-            rows,
-            parents,
-            inner,
-            signals,
-            symbols,
-            count,
-            &mut signal,
-            &mut statuses,
-            &mut slots,
-            n,
-            st,
-            &mut numbers,
-        );
-        if MOST_STATES < n {
-            return OVER_STATES;
-        }
-        write_state(part, a, st, categories, &numbers, count);
-        a = a + categories + 1 + count;
+    // No `for`: the count grows as states are found.
+    while i < states.count {
+        let st = states.kept[i];
+        states.turn(d, symbols, count, st, &mut numbers)?;
+        write_state(part, i * width, st, categories, &numbers[..count]);
         i += 1;
     }
-    n
+    Ok(states.count)
 }

@@ -8,6 +8,9 @@ use borrow.Author.Tests.{le-leb, lt-ltb, ltb-true}
 use lib.ListN.{length, get_or, take, drop, get_or-eq_default}
 use native.Mathlib.Omega.{arith}
 use native.Mathlib.Nat.{add-zero, zero-add}
+use Rattle.std.specs.Prelude.{Ok, Err}
+use Rattle.base_numbers.specs.Refusals.{refusal_number}
+use Rattle.base_numbers.specs.declared.refusal.Refusal.TheVariants.{ImageBadForm, ImageWrongStart, ImageWrongTarget}
 use Rattle.base_numbers.specs.Numbers.{most_states, most_symbols}
 use Rattle.base_lists.proofs.Below.{all_same}
 use Rattle.base_lists.specs.Numbers.{word_of}
@@ -25,7 +28,7 @@ use Rattle.node_search.specs.Arrays.{NodesIn, InnerIn}
 use Rattle.node_step.specs.Rows.{Numbers}
 use Rattle.node_step.specs.Step.{coded, coded_status, status_in}
 use Rattle.node_step.specs.StatusByte.{byte_of, packed, same_packed, fits_by}
-use Rattle.node_step.specs.declared.Progress.{Progress}
+use Rattle.node_step.specs.declared.Status.{Status}
 use Rattle.node_step.specs.declared.stored.Packed.{Packed}
 use Rattle.node_step.proofs.Both.{packed-test, coded-at}
 use Rattle.machine_image.specs.Image.{symbol_count, state_count, place_of, signal_in, byte_in, target_in, machine_in}
@@ -36,13 +39,13 @@ use Rattle.machine_image.proofs.Check.{machine-states}
 use Rattle.machine_image.proofs.Walk.{machine-state-in, machine-target}
 use Rattle.machine_symbols.specs.Listed.{SymbolsIn}
 use Rattle.machine_symbols.specs.Steps.{begin, next_state}
-use Rattle.machine_check.specs.Checks.{packed_in, status_formed_by, state_formed_by, form_by, target_right_by, row_right_by, check_by}
+use Rattle.machine_check.specs.Checks.{packed_in, status_formed_by, state_formed_by, form_by, target_right_by, row_right_by, check_by, check_number}
 use Rattle.machine_symbols.proofs.StepRight.{code, code-start, next-code}
 use Rattle.theory_resolution.specs.Direct as direct
 use Rattle.machine_image.specs.Image as image
 
 -- categories that are all open have no byte
-packed_none : (l : List Progress) (n c : ℕ) → ((k : ℕ) → k < n → byte_of (status_in l (c + k)) ≡ 0) → 0 ≡ packed l c n
+packed_none : (l : List Status) (n c : ℕ) → ((k : ℕ) → k < n → byte_of (status_in l (c + k)) ≡ 0) → 0 ≡ packed l c n
 unfolding packed
 packed_none l zero c h = refl
 packed_none l (suc n) c h =
@@ -56,7 +59,7 @@ packed_none l (suc n) c h =
     the A x = x
 
 -- m bytes are those of the first m categories, where the others are open
-packed-from : (im : List ℕ) (l : List Progress) (m n i c : ℕ) → m ≤ n → ((k : ℕ) → k < m → get_or im (i + k) 0 ≡ byte_of (status_in l (c + k)))
+packed-from : (im : List ℕ) (l : List Status) (m n i c : ℕ) → m ≤ n → ((k : ℕ) → k < m → get_or im (i + k) 0 ≡ byte_of (status_in l (c + k)))
     → ((k : ℕ) → m ≤ k → k < n → byte_of (status_in l (c + k)) ≡ 0) → word_of im i m ≡ packed l c n
 unfolding packed
 packed-from im l zero n i c a h o = packed_none l n c (λ k j. o k (omega arith) j)
@@ -180,17 +183,24 @@ module _ (t ca pos len : List ℕ) (n : ℕ) (T : Table) (ni : NodesIn t ca pos 
         ∙ ap (λ n. all_below n (target_right T (machine_in T im) j)) (sym si.all-symbols))
         ∙ ap (λ n. all_below n (row_right T (machine_in T im))) (sym (machine-states T im))
 
-  pub check-right : check_by fits next sy count signals T.cats im ≡ check_of T im
-  unfolding check_by check_of
+  pub check-right : check_number (check_by fits next sy count signals T.cats im) ≡ check_of T im
+  unfolding check_by check_of refusal_number
   check-right =
-      ap (λ (b : Bool). cond {A = ℕ} b (cond (same_packed (packed_in T.cats im 0) begin)
-      (cond (all_below (state_count im) (row_right_by next count T.cats im)) 0 17) 16) 15) form-right
+      ap (λ (b : Bool). check_number (cond b (cond (same_packed (packed_in T.cats im 0) begin)
+      (cond (all_below (state_count im) (row_right_by next count T.cats im)) (Ok tt) (Err ImageWrongTarget)) (Err ImageWrongStart)) (Err ImageBadForm))) form-right
       ∙ go (form_of T im) refl
     where
+      numbers : (x y : Bool) → check_number (cond x (cond y (Ok tt) (Err ImageWrongTarget)) (Err ImageWrongStart)) ≡ cond x (cond y 0 17) 16
+      numbers true true = refl
+      numbers true false = refl
+      numbers false y = refl
+
       go : (b : Bool) → form_of T im ≡ b
-          → ◌≡◌ {A = ℕ} (cond b (cond (same_packed (packed_in T.cats im 0) begin)
-          (cond (all_below (state_count im) (row_right_by next count T.cats im)) 0 17) 16) 15)
-          (cond b (cond (same_state (machine_state (machine_in T im) 0).pair (start T.cats))
-          (cond (all_below (length (machine_in T im)) (row_right T (machine_in T im))) 0 17) 16) 15)
+          → check_number (cond b (cond (same_packed (packed_in T.cats im 0) begin)
+          (cond (all_below (state_count im) (row_right_by next count T.cats im)) (Ok tt) (Err ImageWrongTarget)) (Err ImageWrongStart)) (Err ImageBadForm))
+          ≡ cond b (cond (same_state (machine_state (machine_in T im) 0).pair (start T.cats))
+          (cond (all_below (length (machine_in T im)) (row_right T (machine_in T im))) 0 17) 16) 15
       go false e = refl
-      go true e = let ok = form-to T im e in ap₂ (λ (x : Bool) (y : Bool). cond {A = ℕ} x (cond y 0 17) 16) (begins ok) (rows_right ok)
+      go true e = let ok = form-to T im e in
+          numbers (same_packed (packed_in T.cats im 0) begin) (all_below (state_count im) (row_right_by next count T.cats im))
+          ∙ ap₂ (λ (x : Bool) (y : Bool). cond {A = ℕ} x (cond y 0 17) 16) (begins ok) (rows_right ok)

@@ -13,15 +13,15 @@ use native.Mathlib.Numerals.{add-one}
 use native.Mathlib.Decide.{dec_lt, ℕ_discrete}
 use Rattle.base_numbers.specs.Numbers.{most_states, most_symbols}
 use Rattle.base_lists.specs.Numbers.{word_of}
-use Rattle.base_lists.proofs.Below.{all-to, all_of, all-stop, all_more}
+use Rattle.base_lists.proofs.Below.{all-to, all_of}
 use Rattle.base_lists.proofs.Bools.{same_test}
 use Rattle.base_lists.specs.Lists.{all_below}
 use Rattle.theory_resolution.specs.Names.{same_name}
 use Rattle.node_step.specs.StatusByte.{same_packed}
 use Rattle.node_step.specs.declared.stored.Packed.{Packed}
 use Rattle.machine_image.specs.Image.{symbol_count, state_count, place_of, signal_in, byte_in, target_in}
-use Rattle.machine_symbols.specs.Steps.{begin, state_at}
-use Rattle.machine_check.specs.Checks.{packed_in, Read, status_formed_by, below_by, state_formed_by, form_by, target_right_by, row_right_by, check_by}
+use Rattle.machine_symbols.specs.Steps.{begin}
+use Rattle.machine_check.specs.Checks.{packed_in, status_formed_by, below_by, state_formed_by, form_by, target_right_by}
 
 -- the place of a state is a number of the machine's
 pub place-fits : (j m cats : ℕ) → j < 65536 → m < 256 → cats ≤ 8 → j * (m + cats + 1) ≤ 17301504
@@ -73,52 +73,21 @@ module _ (im : List ℕ) (cats j : ℕ) {i : ℕ} (e : i ≡ place_of cats im j)
   state-is f g = let a = signal-is f in let b = g ∙ ap (λ z. word_of im (z + 1) cats) e in ap₂ (λ x y. record { signal = x; statuses = y }) a b
 
   -- a byte that is tested
-  module _ (fits : ℕ → ℕ → ℕ → Bool) {s : ℕ} (g : s ≡ signal_in cats im j) (c : ℕ) {b : ℕ} {r : Bool} (f : b ≡ get_or im (i + 1 + c) 0) (t : r ≡ fits s c b) where
-    test-is : r ≡ status_formed_by fits cats im j c
-    test-is = t ∙ ap₂ (λ x y. fits x c y) g (status-is c f)
-
-    pub fits-no : c < cats → r ≡ false → false ≡ all_below cats (status_formed_by fits cats im j)
-    fits-no h n = sym (all-stop cats (status_formed_by fits cats im j) c h (sym test-is ∙ n))
-
-    pub fits-yes : r ≡ true → all_below c (status_formed_by fits cats im j) ≡ true → all_below (c + 1) (status_formed_by fits cats im j) ≡ true
-    fits-yes y a = all_more (status_formed_by fits cats im j) c a (sym test-is ∙ y)
-
-  -- a state's form
-  module _ (fits : ℕ → ℕ → ℕ → Bool) (signals : ℕ) {s : ℕ} (f : s ≡ get_or im i 0) where
-    pub state-signal : signals ≤ s → false ≡ state_formed_by fits signals cats im j
-    unfolding state_formed_by
-    state-signal h = let a : ltb (signal_in cats im j) signals ≡ false = ap (λ z. ltb z signals) (sym (signal-is f)) ∙ le-ltb s signals h in sym (rw a)
-
-    module _ (h : s < signals) {r : Bool} (g : r ≡ all_below cats (status_formed_by fits cats im j)) where
-      low : ltb (signal_in cats im j) signals ≡ true
-      low = ap (λ z. ltb z signals) (sym (signal-is f)) ∙ lt-ltb s signals h
-
-      pub state-status : r ≡ false → false ≡ state_formed_by fits signals cats im j
-      unfolding state_formed_by
-      state-status n = let a = sym g ∙ n in sym (rw (low, a))
-
-      pub state-rest : {b : Bool} → r ≡ true → b ≡ all_below (symbol_count im) (below_by cats im j) → b ≡ state_formed_by fits signals cats im j
-      unfolding state_formed_by
-      state-rest y e = let a = sym g ∙ y in e ∙ sym (rw (low, a))
+  pub test-is : (fits : ℕ → ℕ → ℕ → Bool) {s : ℕ} → s ≡ signal_in cats im j → (c : ℕ) {b : ℕ} {r : Bool} → b ≡ get_or im (i + 1 + c) 0 → r ≡ fits s c b
+      → r ≡ status_formed_by fits cats im j c
+  test-is fits g c f t = t ∙ ap₂ (λ x y. fits x c y) g (status-is c f)
 
 -- one state more is read
-pub read_none : (im : List ℕ) (cats : ℕ) (signal statuses : List ℕ) → Read cats im signal statuses 0
-read_none im cats signal statuses = record { held = λ j h. absurd (omega arith) }
+abbrev pub ReadTo : ℕ → List ℕ → List Packed → ℕ → Type 0
+ReadTo cats im states n = (j : ℕ) → j < n → get_or states j begin ≡ packed_in cats im j
 
-pub read_more : (im : List ℕ) (cats : ℕ) (signal statuses : List ℕ) (j : ℕ) {st : Packed} → Read cats im signal statuses j
-    → j < length signal → j < length statuses → st ≡ packed_in cats im j
-    → Read cats im (set signal j st.signal) (set statuses j st.statuses) (j + 1)
-read_more im cats signal statuses j {st} r a b e = record { held = λ i h. by i h (ℕ_discrete i j) }
+pub read_more : (im : List ℕ) (cats : ℕ) (states : List Packed) (j : ℕ) {st : Packed} → ReadTo cats im states j → j < length states → st ≡ packed_in cats im j
+    → ReadTo cats im (set states j st) (j + 1)
+read_more im cats states j {st} r a e i h = go (ℕ_discrete i j)
   where
-    by : (i : ℕ) → i < j + 1 → Dec (i ≡ j) → state_at (set signal j st.signal) (set statuses j st.statuses) i ≡ packed_in cats im i
-    by i h (yes z) = rw z (ap₂ (λ x y. record { signal = x; statuses = y }) (get_or-set_same signal j st.signal 0 a)
-        (get_or-set_same statuses j st.statuses 0 b) ∙ e)
-    by i h (no z) =
-        ap₂ (λ x y. record { signal = x; statuses = y }) (get_or-set_other signal j i st.signal 0 z) (get_or-set_other statuses j i st.statuses 0 z)
-        ∙ r.held i (omega arith)
-
-pub read_all : (im : List ℕ) (cats : ℕ) (signal statuses : List ℕ) (j n : ℕ) → j ≤ n → n ≤ j → Read cats im signal statuses j → Read cats im signal statuses n
-read_all im cats signal statuses j n a b r = record { held = λ i h. r.held i (omega arith) }
+    go : Dec (i ≡ j) → get_or (set states j st) i begin ≡ packed_in cats im i
+    go (yes z) = rw z (get_or-set_same states j st begin a ∙ e)
+    go (no z) = get_or-set_other states j i st begin z ∙ r i (omega arith)
 
 -- every byte is one of 256 states
 pub below_all : (im : List ℕ) (cats j : ℕ) {n : ℕ} → ((k : ℕ) → get_or im k 0 < 256) → most_states ≤ n → n ≡ state_count im
@@ -257,40 +226,7 @@ form-few fits sy count signals cats im e h = go (leb cats 8) refl (leb count mos
 module _ (next : Packed → ℕ → Packed) (im : List ℕ) (cats j : ℕ) {i : ℕ} {p : Packed} (e : i ≡ place_of cats im j)
     (f : p ≡ packed_in cats im j) (k : ℕ) {t : ℕ} {q : Packed} {b : Bool}
     (g : t ≡ get_or im (i + 1 + cats + k) 0) (h : q ≡ next p k) (s : b ≡ same_packed (packed_in cats im t) q) where
-  test-right : b ≡ target_right_by next cats im j k
+  pub target-test : b ≡ target_right_by next cats im j k
   unfolding target_right_by
-  test-right = s ∙ ap₂ same_packed (ap (packed_in cats im) (target_is im cats j e k g)) (h ∙ ap (λ z. next z k) f)
+  target-test = s ∙ ap₂ same_packed (ap (packed_in cats im) (target_is im cats j e k g)) (h ∙ ap (λ z. next z k) f)
 
-  pub right-no : (count : ℕ) → k < count → b ≡ false → false ≡ row_right_by next count cats im j
-  unfolding row_right_by
-  right-no count m n = sym (all-stop count (target_right_by next cats im j) k m (sym test-right ∙ n))
-
-  pub right-yes : b ≡ true → target_right_by next cats im j k ≡ true
-  right-yes z = sym test-right ∙ z
-
--- the checker, test by test
-module _ (fits : ℕ → ℕ → ℕ → Bool) (next : Packed → ℕ → Packed) (sy : List ℕ) (count signals cats : ℕ) (im : List ℕ) {b : Bool}
-    (e : b ≡ form_by fits sy count signals cats im) where
-  pub check-form : b ≡ false → 15 ≡ check_by fits next sy count signals cats im
-  unfolding check_by
-  check-form h = let a = sym e ∙ h in sym (rw a)
-
-  module _ (h : b ≡ true) {p : Packed} {s : Bool} (f : p ≡ packed_in cats im 0) (t : s ≡ same_packed p begin) where
-    start_test : same_packed (packed_in cats im 0) begin ≡ s
-    start_test = ap (λ z. same_packed z begin) (sym f) ∙ sym t
-
-    pub check-start : s ≡ false → 16 ≡ check_by fits next sy count signals cats im
-    unfolding check_by
-    check-start n = let a = sym e ∙ h in let c = start_test ∙ n in sym (rw (a, c))
-
-    module _ (z : s ≡ true) {n : ℕ} {r : Bool} (g : n ≡ state_count im) (k : r ≡ all_below n (row_right_by next count cats im)) where
-      rows : r ≡ all_below (state_count im) (row_right_by next count cats im)
-      rows = k ∙ ap (λ z. all_below z (row_right_by next count cats im)) g
-
-      pub check-wrong : r ≡ false → 17 ≡ check_by fits next sy count signals cats im
-      unfolding check_by
-      check-wrong l = let a = sym e ∙ h in let c = start_test ∙ z in let b = sym rows ∙ l in sym (rw (a, c, b))
-
-      pub check-right : r ≡ true → 0 ≡ check_by fits next sy count signals cats im
-      unfolding check_by
-      check-right l = let a = sym e ∙ h in let c = start_test ∙ z in let b = sym rows ∙ l in sym (rw (a, c, b))

@@ -5,26 +5,29 @@ ghost use Rattle.base_lists.specs.Numbers.{word_of};
 ghost use Rattle.machine_image.specs.Image.{state_count, place_of, signal_in, target_in};
 ghost use Rattle.machine_check.specs.Checks.{packed_in, image_bound};
 
-use base_bytes::lent::byte;
-use base_bytes::numbers::wide;
 use base_numbers::MOST_CATEGORIES;
 use node_step::stored::Packed;
 
-// The byte at i as an index, 0 past the end.
-pub(crate) fn at(im: &[u8], i: usize) -> usize
+// The byte at i, 0 past the end.
+pub(crate) fn byte(im: &[u8], i: usize) -> u8
+    ensures { result ≡ get_or im.now i 0 }
+{
+    im.get(i).copied().unwrap_or(0)
+}
+
+// The same as an index.
+pub fn at(im: &[u8], i: usize) -> usize
     ensures { (result ≡ get_or im.now i 0) × (result < 256) }
 {
-    wide(byte(im, i))
+    usize::from(byte(im, i))
 }
 
 // How many states the image says.
-pub(crate) fn state_count(im: &[u8]) -> usize
+pub fn state_count(im: &[u8]) -> usize
     ensures { (result ≡ state_count im.now) × (result < 65536) }
 {
     let m = at(im, 0);
-    let low = at(im, 3 * m + 1);
-    let high = at(im, 3 * m + 2);
-    low + 256 * high
+    at(im, 3 * m + 1) + 256 * at(im, 3 * m + 2)
 }
 
 // Where state j begins.
@@ -42,10 +45,8 @@ fn packed_at(im: &[u8], i: usize, n: usize) -> u64
     ensures { result ≡ word_of im.now i n }
 {
     let mut x: u64 = 0;
-    let mut c = n;
-    while 0 < c {
-        c -= 1;
-        let b = byte(im, i + c) as u64;
+    for c in (0..n).rev() {
+        let b = u64::from(byte(im, i + c));
         x = x * 256 + b;
     }
     x
@@ -57,28 +58,25 @@ pub(crate) fn state(im: &[u8], categories: usize, j: usize) -> Packed
     ensures { result ≡ packed_in categories im.now j }
 {
     let i = place(im, categories, j);
-    let signal = byte(im, i);
-    let statuses = packed_at(im, i + 1, categories);
-    Packed { signal, statuses }
+    Packed {
+        signal: byte(im, i),
+        statuses: packed_at(im, i + 1, categories),
+    }
 }
 
 // The target of state j for symbol k.
 pub fn target(im: &[u8], categories: usize, j: u8, k: u8) -> u8
     ensures { result ≡ target_in (min categories most_categories) im.now j k }
 {
-    let cats = base_bytes::numbers::at_most(categories, MOST_CATEGORIES);
-    let state = wide(j);
-    let symbol = wide(k);
-    let i = place(im, cats, state) + 1 + cats;
-    byte(im, i + symbol)
+    let cats = categories.min(MOST_CATEGORIES);
+    let i = place(im, cats, usize::from(j)) + 1 + cats;
+    byte(im, i + usize::from(k))
 }
 
 // The signal of state j.
 pub fn signal(im: &[u8], categories: usize, j: u8) -> u8
     ensures { result ≡ signal_in (min categories most_categories) im.now j }
 {
-    let cats = base_bytes::numbers::at_most(categories, MOST_CATEGORIES);
-    let state = wide(j);
-    let i = place(im, cats, state);
+    let i = place(im, categories.min(MOST_CATEGORIES), usize::from(j));
     byte(im, i)
 }

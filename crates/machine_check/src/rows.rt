@@ -7,113 +7,66 @@ ghost use Rattle.machine_symbols.specs.Steps.{next_state};
 ghost use Rattle.machine_check.specs.Checks.{packed_in, Read, row_right_by};
 
 use crate::image::{at, place, state};
-use base_numbers::{MOST_NODES, MOST_SIGNALS, MOST_STATES, MOST_SYMBOL_BYTES};
+use base_numbers::MOST_STATES;
+use machine_symbols::Symbols;
 use machine_symbols::steps::next;
-use node_step::stored::{Packed, same};
+use node_search::decoded::Decoded;
+use node_step::stored::Packed;
 
-// The first n states, each read once.
-fn read_states(
-    im: &[u8],
-    categories: usize,
-    n: usize,
-    signal: &mut [u8; MOST_STATES],
-    statuses: &mut [u64; MOST_STATES],
-)
-    requires { (categories ≤ most_categories) × (n ≤ most_states) × (length signal.old ≡ most_states) × (length statuses.old ≡ most_states) }
-    ensures { Read categories im.now signal.new statuses.new n }
+// The first states, as many as there is room for, each read once.
+fn read_states(im: &[u8], categories: usize, states: &mut [Packed])
+    requires { (categories ≤ most_categories) × (length states.old ≤ most_states) }
+    ensures { Read categories im.now states.new }
 {
-    let mut j = 0;
-    while j < n {
-        let st = state(im, categories, j);
-        signal[j] = st.signal;
-        statuses[j] = st.statuses;
-        j += 1;
+    for (j, st) in states.iter_mut().enumerate() {
+        *st = state(im, categories, j);
     }
 }
 
 // State j is st.
-fn is_right(
-    im: &[u8],
-    categories: usize,
-    signal: &[u8; MOST_STATES],
-    statuses: &[u64; MOST_STATES],
-    n: usize,
-    j: usize,
-    st: Packed,
-) -> bool
-    requires { (categories ≤ most_categories) × (n ≤ most_states) × (j < 65536) × Read categories im.now signal.now statuses.now n }
+#[tactic(auto, unfolding(node_step::specs::StatusByte::same_packed))]
+fn is_right(im: &[u8], categories: usize, read: &[Packed], j: usize, st: Packed) -> bool
+    requires { (categories ≤ most_categories) × (j < 65536) × Read categories im.now read.now }
     ensures { result ≡ same_packed (packed_in categories im.now j) st }
 {
-    if j < n {
-        let read = Packed {
-            signal: signal[j],
-            statuses: statuses[j],
-        };
-        return same(read, st);
+    match read.get(j) {
+        Some(kept) => *kept == st,
+        None => state(im, categories, j) == st,
     }
-    let other = state(im, categories, j);
-    same(other, st)
 }
 
 // The targets of state j are the right states.
-fn row_right<'a>(
-    rows: &'a [u64; MOST_SIGNALS],
-    parents: &'a [u8; MOST_NODES],
-    inner: &'a [bool; MOST_NODES],
-    signals: usize,
-    categories: usize,
-    symbols: &[u8; MOST_SYMBOL_BYTES],
-    count: usize,
-    im: &[u8],
-    signal: &[u8; MOST_STATES],
-    statuses: &[u64; MOST_STATES],
-    n: usize,
-    j: usize,
-) -> bool
-    requires { (categories ≤ most_categories) × (count ≤ most_symbols) × (n ≤ most_states) × (j < 65536) × Read categories im.now signal.now statuses.now n }
-    ensures { result ≡ row_right_by (next_state rows.now parents.now inner.now signals symbols.now) count categories im.now j }
+fn row_right(d: &Decoded, symbols: &Symbols, im: &[u8], read: &[Packed], j: usize) -> bool
+    requires { (d.now.categories ≤ most_categories) × (symbols.now.count ≤ most_symbols) × (j < 65536) × Read d.now.categories im.now read.now }
+    ensures { result ≡ row_right_by (next_state d.now.rows d.now.parent d.now.inner d.now.signals symbols.now.bytes) symbols.now.count d.now.categories im.now j }
 {
-    let i = place(im, categories, j) + 1 + categories;
-    let from = state(im, categories, j);
-    let mut k = 0;
-    while k < count {
-        let t = at(im, i + k);
-        let right = next(rows, parents, inner, signals, symbols, from, k);
-        if !is_right(im, categories, signal, statuses, n, t, right) {
+    let i = place(im, d.categories, j) + 1 + d.categories;
+    let from = state(im, d.categories, j);
+    for k in 0..symbols.count {
+        let right = next(d, symbols, from, k);
+        if !is_right(im, d.categories, read, at(im, i + k), right) {
             return false;
         }
-        k += 1;
     }
     true
 }
 
-pub(crate) fn rows_right<'a>(
-    rows: &'a [u64; MOST_SIGNALS],
-    parents: &'a [u8; MOST_NODES],
-    inner: &'a [bool; MOST_NODES],
-    signals: usize,
-    categories: usize,
-    symbols: &[u8; MOST_SYMBOL_BYTES],
-    count: usize,
-    im: &[u8],
-    n: usize,
-) -> bool
-    requires { (categories ≤ most_categories) × (count ≤ most_symbols) × (n < 65536) }
-    ensures { result ≡ all_below n (row_right_by (next_state rows.now parents.now inner.now signals symbols.now) count categories im.now) }
+// The targets of the first n states are the right states.
+pub(crate) fn rows_right(d: &Decoded, symbols: &Symbols, im: &[u8], n: usize) -> bool
+    requires { (d.now.categories ≤ most_categories) × (symbols.now.count ≤ most_symbols) × (n < 65536) }
+    ensures { result ≡ all_below n (row_right_by (next_state d.now.rows d.now.parent d.now.inner d.now.signals symbols.now.bytes) symbols.now.count d.now.categories im.now) }
 {
-    let mut signal = [0u8; MOST_STATES];
-    let mut statuses = [0u64; MOST_STATES];
-    let read = base_bytes::numbers::at_most(n, MOST_STATES);
-    read_states(im, categories, read, &mut signal, &mut statuses);
-    let mut from = 0;
-    while from < n {
-        if !row_right(
-            rows, parents, inner, signals, categories, symbols, count, im, &signal, &statuses,
-            read, from,
-        ) {
+    let none = Packed {
+        signal: 0,
+        statuses: 0,
+    };
+    let mut states = [none; MOST_STATES];
+    let m = n.min(MOST_STATES);
+    read_states(im, d.categories, &mut states[..m]);
+    for j in 0..n {
+        if !row_right(d, symbols, im, &states[..m], j) {
             return false;
         }
-        from += 1;
     }
     true
 }

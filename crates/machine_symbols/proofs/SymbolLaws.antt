@@ -5,7 +5,7 @@ use mathlib.Core.Bool.{Bool, true, false, cond, ◌&&◌, true≢false, and-eq-t
 use mathlib.Core.List.{List, [], ◌∷◌, ◌++◌, append_assoc, append-nil}
 use lib.Dec.{eqb, ltb}
 use borrow.Author.Tests.{eqb-true, eq-eqb, ne_eqb, ltb-true, lt-ltb, le-ltb}
-use lib.ListN.{length, get_or, set, take, drop, replicate, length-append, length-set, length-take, length-replicate, take-append-drop}
+use lib.ListN.{length, get_or, set, take, drop, replicate, get_or-eq_default, length-append, length-set, length-take, length-replicate, take-append-drop}
 use lib.Seq.{take-suc-set, take_all, take_at, take-append-le, drop_at, drop-drop, drop-set-lt, set_out, get_or-set_same, get_or-set_other}
 use native.Mathlib.Omega.{arith}
 use native.Mathlib.Nat.{sub-zero}
@@ -14,9 +14,9 @@ use native.Mathlib.Decide.{dec_lt, ℕ_discrete}
 use Rattle.base_numbers.specs.Numbers.{most_symbol_bytes, most_symbols}
 use Rattle.base_lists.proofs.Numbers.{min-le, min-gt}
 use Rattle.machine_symbols.specs.declared.Symbols.{Symbols}
-use Rattle.machine_symbols.specs.Listed.{triple, node_triples, nodes_triples, category_triples, triple_lists, symbols_of, Listed, is_triple}
-use Rattle.machine_symbols.specs.Listed.{triple_index, kind_for, slot, slot_at, index_from, entry_at, number_from, symbol_number}
-use Rattle.node_step.specs.Step.{inner_at}
+use Rattle.machine_symbols.specs.declared.Symbol.{Symbol}
+use Rattle.machine_symbols.specs.Listed.{triple, node_triples, nodes_triples, category_triples, triple_lists, array_of, symbols_of, Listed, is_triple}
+use Rattle.machine_symbols.specs.Listed.{symbol_in, triple_index, kind_for, slot, slot_at, index_from, entry_at, number_from, symbol_number}
 
 -- one symbol more
 module _ (bytes : List ℕ) (n : ℕ) (l : List ℕ) (v : Listed bytes n l) (x y z : ℕ) where
@@ -113,11 +113,17 @@ module _ (ca : List ℕ) (inner : List Bool) (n : ℕ) where
   pub lists-end : (c k : ℕ) → c ≤ k → k ≤ c → (bytes : List ℕ) (m : ℕ) → Listed bytes m (triple_lists ca inner n c) → Listed bytes m (triple_lists ca inner n k)
   lists-end c k a b bytes m v = let e : c ≡ k = omega arith in subst (λ (z : ℕ). Listed bytes m (triple_lists ca inner n z)) e v
 
--- what has been listed is the symbols of the list
-pub listed-all : (bytes : List ℕ) (n : ℕ) (l : List ℕ) → Listed bytes n l → record { count = n; bytes = bytes } ≡ symbols_of l
+-- what has been listed, with its index, is the symbols of the list
+pub listed-all : (bytes : List ℕ) (n : ℕ) (l : List ℕ) → Listed bytes n l → {ix : List ℕ} → ix ≡ index_from bytes 0 (min n most_symbols)
+    → record { count = n; bytes = bytes; index = ix } ≡ symbols_of l
 unfolding symbols_of
-listed-all bytes n l v = ap₂ (λ (k : ℕ) (b : List ℕ). record { count = k; bytes = b }) (go (dec_lt most_symbol_bytes (length l))) filled
+listed-all bytes n l v {ix} e =
+    ap₂ (λ (k : ℕ) (x : List ℕ). record { count = k; bytes = bytes; index = x }) counted (e ∙ ap (index_from bytes 0) (sym (min-le n most_symbols few) ∙ counted))
+    ∙ ap (λ (b : List ℕ). record { count = min (length l / 3) most_symbols; bytes = b; index = index_from b 0 (min (length l / 3) most_symbols) }) filled
   where
+    few : n ≤ most_symbols
+    few = omega (arith, v.counted)
+
     go : Dec (most_symbol_bytes < length l) → n ≡ min (length l / 3) most_symbols
     go (yes h) = let e : n ≡ most_symbols = omega (arith, v.counted) in e ∙ at_most (ℕ_discrete (length l / 3) most_symbols)
       where
@@ -126,14 +132,13 @@ listed-all bytes n l v = ap₂ (λ (k : ℕ) (b : List ℕ). record { count = k;
         at_most (no e) = min-gt (length l / 3) most_symbols (omega arith)
     go (no h) = let e : n ≡ length l / 3 = omega (arith, v.counted) in e ∙ min-le (length l / 3) most_symbols (omega arith)
 
+    counted : n ≡ min (length l / 3) most_symbols
+    counted = go (dec_lt most_symbol_bytes (length l))
+
     filled : bytes ≡ take most_symbol_bytes l ++ replicate (most_symbol_bytes - length l) 0
     filled =
         let e : most_symbol_bytes - 3 * n ≡ most_symbol_bytes - length l = omega (arith, v.counted) in
         sym (take-append-drop (3 * n) bytes) ∙ ap₂ ◌++◌ v.held (v.rest ∙ ap (λ k. replicate k 0) e)
-
-pub lists-same : (ca : List ℕ) (inner : List Bool) {n n' k k' : ℕ} → n ≡ n' → k ≡ k' → (bytes : List ℕ) (m : ℕ) → Listed bytes m (triple_lists ca inner n k)
-    → record { count = m; bytes = bytes } ≡ symbols_of (triple_lists ca inner n' k')
-lists-same ca inner e f bytes m v = listed-all bytes m _ v ∙ ap symbols_of (ap₂ (triple_lists ca inner) e f)
 
 -- each symbol has three bytes
 thirds : (a b : List ℕ) → length a % 3 ≡ 0 → length b % 3 ≡ 0 → length (a ++ b) % 3 ≡ 0
@@ -193,63 +198,38 @@ lists-listed ca inner n k {r} e =
     (listed_of (triple_lists ca inner n k) (lists-thirds ca inner n k)) in
     (v, omega (arith, v.counted))
 
--- one symbol, test by test
-module _ (sy : List ℕ) (c d kind k : ℕ) where
-  pub triple-category : (get_or sy (3 * k) 0 ≡ c → ⊥) → false ≡ is_triple sy c d kind k
+-- one symbol, by its three bytes at once
+module _ (sy : List ℕ) (s : Symbol) where
+  abbrev is : ℕ → Bool
+  is = is_triple sy s.category s.node s.kind
+
+  pub triple-is : (k : ℕ) {x : Symbol} → x ≡ symbol_in sy k → {b : Bool} → b ≡ (eqb x.category s.category && (eqb x.node s.node && eqb x.kind s.kind)) → b ≡ is k
   unfolding is_triple
-  triple-category e = sym (rw (ne_eqb (get_or sy (3 * k) 0) c e))
+  triple-is k e f = f ∙ ap (λ (x : Symbol). eqb x.category s.category && (eqb x.node s.node && eqb x.kind s.kind)) e
 
-  module _ (e : get_or sy (3 * k) 0 ≡ c) where
-    pub triple-node : (get_or sy (3 * k + 1) 0 ≡ d → ⊥) → false ≡ is_triple sy c d kind k
-    unfolding is_triple
-    triple-node f = sym (rw (eq-eqb (get_or sy (3 * k) 0) c e, ne_eqb (get_or sy (3 * k + 1) 0) d f))
+  -- the search, from k on
+  module _ (n k : ℕ) (v : triple_index sy s.category s.node s.kind 0 n ≡ triple_index sy s.category s.node s.kind k (n - k)) where
+    module _ {b : Bool} (h : k < n) (e : b ≡ is k) where
+      pub index-found : b ≡ true → k ≡ triple_index sy s.category s.node s.kind 0 n
+      unfolding triple_index
+      index-found q = let m : n - k ≡ suc (n - (k + 1)) = omega arith in let z = sym e ∙ q in sym (v ∙ rw (m, z))
 
-    pub triple-kind : get_or sy (3 * k + 1) 0 ≡ d → eqb (get_or sy (3 * k + 2) 0) kind ≡ is_triple sy c d kind k
-    unfolding is_triple
-    triple-kind f = sym (rw (eq-eqb (get_or sy (3 * k) 0) c e, eq-eqb (get_or sy (3 * k + 1) 0) d f))
+      pub index-more : b ≡ false → triple_index sy s.category s.node s.kind 0 n ≡ triple_index sy s.category s.node s.kind (k + 1) (n - (k + 1))
+      unfolding triple_index
+      index-more q = let m : n - k ≡ suc (n - (k + 1)) = omega arith in let z = sym e ∙ q in v ∙ rw (m, z)
 
--- the search for a symbol
-module _ (sy : List ℕ) (c d kind n k : ℕ) (v : triple_index sy c d kind 0 n ≡ triple_index sy c d kind k (n - k)) where
-  module _ {b : Bool} (h : k < n) (e : b ≡ is_triple sy c d kind k) where
-    pub index-found : b ≡ true → k ≡ triple_index sy c d kind 0 n
+    pub index-end : k ≤ n → n ≤ k → n ≡ triple_index sy s.category s.node s.kind 0 n
     unfolding triple_index
-    index-found q = let m : n - k ≡ suc (n - (k + 1)) = omega arith in let z = sym e ∙ q in sym (v ∙ rw (m, z))
+    index-end a b = let m : n - k ≡ 0 = omega arith in sym (v ∙ rw m (omega arith))
 
-    pub index-more : b ≡ false → triple_index sy c d kind 0 n ≡ triple_index sy c d kind (k + 1) (n - (k + 1))
-    unfolding triple_index
-    index-more q = let m : n - k ≡ suc (n - (k + 1)) = omega arith in let z = sym e ∙ q in v ∙ rw (m, z)
+-- the listed symbols have their index
+pub lists-indexed : (l : List ℕ) {r : Symbols} → r ≡ symbols_of l → r.index ≡ index_from r.bytes 0 (min r.count most_symbols)
+unfolding symbols_of
+lists-indexed l e = rw e (ap (index_from (array_of l) 0) (min-le (min (length l / 3) most_symbols) most_symbols (omega arith)))
 
-  pub index-end : k ≤ n → n ≤ k → n ≡ triple_index sy c d kind 0 n
-  unfolding triple_index
-  index-end a b = let m : n - k ≡ 0 = omega arith in sym (v ∙ rw m (omega arith))
-
--- the kind
-module _ (inner : List Bool) (d : ℕ) (whole : Bool) where
-  pub kind-whole : whole ≡ true → 0 ≡ kind_for inner d whole
-  unfolding kind_for
-  kind-whole e = sym (rw e)
-
-  module _ (e : whole ≡ false) where
-    pub kind-root : d ≡ 0 → 1 ≡ kind_for inner d whole
-    unfolding kind_for
-    kind-root f = sym (rw (e, eq-eqb d 0 f))
-
-    module _ (f : d ≡ 0 → ⊥) {b : Bool} (g : b ≡ inner_at inner d) where
-      pub kind-leaf : b ≡ false → 0 ≡ kind_for inner d whole
-      unfolding kind_for
-      kind-leaf h = sym (ap₂ (λ a x. cond a 0 (cond x 1 (cond (inner_at inner d) 1 0))) e (ne_eqb d 0 f) ∙ ap (λ z. cond z 1 0) (sym g ∙ h))
-
-      pub kind-inner : b ≡ true → 1 ≡ kind_for inner d whole
-      unfolding kind_for
-      kind-inner h = sym (ap₂ (λ a x. cond a 0 (cond x 1 (cond (inner_at inner d) 1 0))) e (ne_eqb d 0 f) ∙ ap (λ z. cond z 1 0) (sym g ∙ h))
-
--- the slot
-module _ (c d kind : ℕ) where
-  pub slot-root : d ≡ 0 → c ≡ slot c d kind
-  slot-root e = sym (ap (λ b. cond b c (6 + 2 * d + kind)) (eq-eqb d 0 e))
-
-  pub slot-node : (d ≡ 0 → ⊥) → 6 + 2 * d + kind ≡ slot c d kind
-  slot-node e = sym (ap (λ b. cond b c (6 + 2 * d + kind)) (ne_eqb d 0 e))
+-- the slot of symbol k
+pub slot-of : (sy : List ℕ) (k : ℕ) {x : Symbol} {r : ℕ} → x ≡ symbol_in sy k → r ≡ slot x.category x.node x.kind → r ≡ slot_at sy k
+slot-of sy k e f = f ∙ ap (λ (x : Symbol). slot x.category x.node x.kind) e
 
 index-wide : (sy : List ℕ) (n k : ℕ) → length (index_from sy k n) ≡ 136
 unfolding index_from
@@ -295,34 +275,31 @@ index-first sy (suc n) k j a b l = go (ℕ_discrete (slot_at sy j) (slot_at sy k
         later (yes q) = absurd (z (ap (slot_at sy) q))
         later (no q) = omega arith
 
--- what the index has at a slot
-module _ (ix : List ℕ) (s : ℕ) where
-  pub entry_in : {r : ℕ} → s < 136 → r ≡ get_or ix s 0 → r ≡ entry_at ix s
-  entry_in h e = e ∙ sym (ap (λ b. cond b (get_or ix s 0) 0) (lt-ltb s 136 h))
+-- the number: what the index names, if that is it, else by the search
+module _ (ix sy : List ℕ) (count : ℕ) (inner : List Bool) (c d : ℕ) (whole : Bool) {n kind x k : ℕ} (en : n ≡ min count most_symbols)
+    (ek : kind ≡ kind_for inner d whole) (es : x ≡ slot c d kind) (e : k ≡ get_or ix x 0) where
+  number_is : {r : ℕ} → r ≡ number_from sy n c d kind k → r ≡ symbol_number ix sy count inner c d whole
+  unfolding symbol_number
+  number_is f =
+      f ∙ ap₂ (λ z q. number_from sy z c d kind q) en (e ∙ ap (λ z. get_or ix z 0) es)
+      ∙ ap (λ z. number_from sy (min count most_symbols) c d z (get_or ix (slot c d z) 0)) ek
 
-  pub entry-out : 136 ≤ s → 0 ≡ entry_at ix s
-  entry-out h = sym (ap (λ b. cond b (get_or ix s 0) 0) (le-ltb s 136 h))
-
--- the number, test by test
-module _ (sy : List ℕ) (m c d kind k : ℕ) where
-  module _ (h : k < m) {b : Bool} (e : b ≡ is_triple sy c d kind k) where
-    pub from-yes : b ≡ true → k ≡ number_from sy m c d kind k
-    unfolding number_from
-    from-yes f = let z = sym e ∙ f in sym (rw (lt-ltb k m h, z))
-
-    pub from-no : b ≡ false → triple_index sy c d kind 0 m ≡ number_from sy m c d kind k
-    unfolding number_from
-    from-no f = let z = sym e ∙ f in sym (rw (lt-ltb k m h, z))
-
-  pub from_out : m ≤ k → triple_index sy c d kind 0 m ≡ number_from sy m c d kind k
+  pub number-named : k < n → {b : Bool} → b ≡ is_triple sy c d kind k → b ≡ true → k ≡ symbol_number ix sy count inner c d whole
   unfolding number_from
-  from_out h = sym (rw (le-ltb k m h))
+  number-named h f g = let z = sym f ∙ g in number_is (sym (rw (lt-ltb k n h, z)))
 
-pub number_is : (ix sy : List ℕ) (count : ℕ) (inner : List Bool) (c d : ℕ) (whole : Bool) {m kind s k r : ℕ} → m ≡ min count most_symbols
-    → kind ≡ kind_for inner d whole → s ≡ slot c d kind → k ≡ entry_at ix s → r ≡ number_from sy m c d kind k → r ≡ symbol_number ix sy count inner c d whole
-unfolding symbol_number
-number_is ix sy count inner c d whole {kind = kind} {k = k} f y h i j =
-    j ∙ ap (λ z. number_from sy z c d kind k) f ∙ ap₂ (number_from sy (min count most_symbols) c d) y (i ∙ ap (entry_at ix) (h ∙ ap (slot c d) y))
+  module _ {r : ℕ} (f : r ≡ triple_index sy c d kind 0 n) where
+    pub number-other : {b : Bool} → b ≡ is_triple sy c d kind k → b ≡ false → r ≡ symbol_number ix sy count inner c d whole
+    unfolding number_from
+    number-other g h = let z = sym g ∙ h in number_is (f ∙ sym (rw z (by (ltb k n))))
+      where
+        by : (a : Bool) → cond (a && false) k (triple_index sy c d kind 0 n) ≡ triple_index sy c d kind 0 n
+        by true = refl
+        by false = refl
+
+    pub number-unnamed : n ≤ k → r ≡ symbol_number ix sy count inner c d whole
+    unfolding number_from
+    number-unnamed h = number_is (f ∙ sym (rw (le-ltb k n h)))
 
 -- the index names the first symbol of its slot, so the number is that of the search
 module _ (sy : List ℕ) (c d kind : ℕ) where
@@ -365,12 +342,11 @@ module _ (sy : List ℕ) (c d kind : ℕ) where
           by : Dec (slot c d kind < 136) → k ≤ j
           by (yes l) = omega (
             arith,
-            entry_in ix (slot c d kind) l refl,
             ap (λ s. get_or ix s 0) (slot_of j e),
             ap (λ x. get_or x (slot_at sy j) 0) v,
             index-first sy m 0 j (omega arith) (omega arith) (omega (arith, slot_of j e)),
           )
-          by (no l) = omega (arith, entry-out ix (slot c d kind) (omega arith))
+          by (no l) = omega (arith, get_or-eq_default ix 0 {n = slot c d kind} (omega (arith, ap length v, index-wide sy m 0)))
 
       go : (a : Bool) → ltb k m ≡ a → (b : Bool) → is_triple sy c d kind k ≡ b → cond (a && b) k (triple_index sy c d kind 0 m) ≡ triple_index sy c d kind 0 m
       go false e b f = refl

@@ -6,6 +6,7 @@ use Rattle.theory_resolution.specs.Symbols.{symbols}
 use Rattle.node_step.specs.Step.{inner_at}
 use Rattle.machine_image.specs.Image.{stored_symbols}
 use Rattle.machine_symbols.specs.declared.Symbols.{Symbols}
+use Rattle.machine_symbols.specs.declared.Symbol.{Symbol}
 
 abbrev pub triple : ℕ → ℕ → ℕ → List ℕ
 triple c k kind = c ∷ k ∷ kind ∷ []
@@ -28,10 +29,6 @@ category_triples ca inner n c = nodes_triples ca inner c n ++ triple c 0 1
 unfoldable pub triple_lists : List ℕ → List Bool → ℕ → ℕ → List ℕ
 triple_lists ca inner n zero = []
 triple_lists ca inner n (suc c) = triple_lists ca inner n c ++ category_triples ca inner n c
-
--- the symbols of a list of symbols' bytes, the first 128 of them: how many, and their bytes with zeros after them
-unfoldable pub symbols_of : List ℕ → Symbols
-symbols_of l = record { count = min (length l / 3) most_symbols; bytes = take most_symbol_bytes l ++ replicate (most_symbol_bytes - length l) 0 }
 
 -- while they are listed: an array of 384 bytes holds n of them, all or 128, and zeros after them
 pub record Listed (bytes : List ℕ) (n : ℕ) (l : List ℕ) : Type 0 where
@@ -56,6 +53,10 @@ unfoldable pub triple_index : List ℕ → ℕ → ℕ → ℕ → ℕ → ℕ �
 triple_index sy c d kind k zero = k
 triple_index sy c d kind k (suc n) = cond (is_triple sy c d kind k) k (triple_index sy c d kind (k + 1) n)
 
+-- symbol k
+abbrev pub symbol_in : List ℕ → ℕ → Symbol
+symbol_in sy k = record { category = get_or sy (3 * k) 0; node = get_or sy (3 * k + 1) 0; kind = get_or sy (3 * k + 2) 0 }
+
 -- the kind of the symbol of a URN under node d: 0 if it is d itself or d is a leaf, else 1; the root is no leaf
 unfoldable pub kind_for : List Bool → ℕ → Bool → ℕ
 kind_for inner d whole = cond whole 0 (cond (eqb d 0) 1 (cond (inner_at inner d) 1 0))
@@ -73,9 +74,20 @@ unfoldable pub index_from : List ℕ → ℕ → ℕ → List ℕ
 index_from sy k zero = replicate 136 0
 index_from sy k (suc n) = set (index_from sy (k + 1) n) (slot_at sy k) k
 
+-- the symbols of a list of symbols' bytes, the first 128 of them: how many, their bytes with zeros after them, and their index
+abbrev pub array_of : List ℕ → List ℕ
+array_of l = take most_symbol_bytes l ++ replicate (most_symbol_bytes - length l) 0
+
+unfoldable pub symbols_of : List ℕ → Symbols
+symbols_of l = record {
+  count = min (length l / 3) most_symbols;
+  bytes = array_of l;
+  index = index_from (array_of l) 0 (min (length l / 3) most_symbols);
+}
+
 -- what the index has at a slot, 0 if there is no such slot
 abbrev pub entry_at : List ℕ → ℕ → ℕ
-entry_at ix s = cond (ltb s 136) (get_or ix s 0) 0
+entry_at ix s = get_or ix s 0
 
 -- the number of the symbol c, d and kind among the first m: k if that is it, else by the search
 unfoldable pub number_from : List ℕ → ℕ → ℕ → ℕ → ℕ → ℕ → ℕ

@@ -2,28 +2,20 @@
 ghost use Rattle.std.specs.Prelude.{◌≡◌};
 ghost use Rattle.machine_symbols.specs.Steps.{next_state};
 
-use base_bytes::numbers::wide;
-use base_numbers::{MOST_NODES, MOST_SIGNALS, MOST_SYMBOL_BYTES, MOST_SYMBOLS};
-use node_step::stored::Packed;
+use crate::Symbols;
+use base_numbers::MOST_SYMBOLS;
+use node_search::decoded::Decoded;
+use node_step::stored::{Packed, step_packed};
 
 // The state after symbol k, which is one of at most 128.
-pub fn next<'a>(
-    rows: &'a [u64; MOST_SIGNALS],
-    parents: &'a [u8; MOST_NODES],
-    inner: &'a [bool; MOST_NODES],
-    signals: usize,
-    symbols: &[u8; MOST_SYMBOL_BYTES],
-    st: Packed,
-    k: usize,
-) -> Packed
-    ensures { result ≡ next_state rows.now parents.now inner.now signals symbols.now st k }
+pub fn next(d: &Decoded, symbols: &Symbols, st: Packed, k: usize) -> Packed
+    ensures { result ≡ next_state d.now.rows d.now.parent d.now.inner d.now.signals symbols.now.bytes st k }
 {
     if MOST_SYMBOLS <= k {
         return st;
     }
-    let at = 3 * k;
-    let c = wide(symbols[at]);
-    let d = symbols[at + 1];
-    let whole = symbols[at + 2] == 0;
-    node_step::stored::step_packed(rows, parents, inner, signals, st, c, d, whole)
+    let s = symbols.get(k);
+    let whole = s.kind == 0;
+    let c = usize::from(s.category);
+    step_packed(d, st, c, s.node, whole)
 }

@@ -8,6 +8,6 @@ pub returns : goal.returns
 unfolding slot_of
 returns c = let st = c.args.st in (
   ap (λ z. (st.statuses % 4294967296 * low_factor + st.statuses / 4294967296 * high_factor + z * signal_factor) / 65536 % 4096)
-      c.wide.ensures.0,
+      c.from.ensures,
   omega arith,
 )

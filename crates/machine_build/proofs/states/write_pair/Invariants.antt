@@ -1,4 +1,4 @@
-use Prim.Native.Nat.{◌+◌, ◌-◌, ◌≤◌}
+use Prim.Native.Nat.{◌+◌}
 use mathlib.Core.Path.{◌≡◌}
 use mathlib.Core.List.{[], ◌∷◌, ◌++◌}
 use lib.ListN.{length}
@@ -7,8 +7,5 @@ use Rattle.node_step.specs.Step.{digit}
 use Rattle.machine_build.proofs.states.write_pair.Given as goal
 
 abbrev pub invariant-loop-c : goal.invariant-loop-c
-invariant-loop-c l = (l.c ≤ l.categories) × (length l.initial.pair ≡ l.categories + 1) × (length l.pair ≡ l.categories + 1)
+invariant-loop-c l = (length l.initial.pair ≡ l.categories + 1)
     × (l.pair ≡ over (l.st.signal ∷ [] ++ tabulate (digit l.st.statuses) l.c) l.initial.pair)
-
-abbrev pub decreases-loop-c : goal.decreases-loop-c
-decreases-loop-c l = l.categories - l.c

@@ -1,4 +1,3 @@
-use Prim.Native.Nat.{◌≤◌, ◌-◌}
 use mathlib.Core.Path.{◌≡◌}
 use mathlib.Core.Bool.{true}
 use Rattle.base_lists.specs.Lists.{all_below}
@@ -7,8 +6,4 @@ use Rattle.machine_check.specs.Checks.{state_formed_by}
 use Rattle.machine_check.proofs.form.states_formed.Given as goal
 
 abbrev pub invariant-loop-j : goal.invariant-loop-j
-invariant-loop-j l = (l.j ≤ l.n)
-    × (all_below l.j (state_formed_by (fits_by l.rows l.parents l.inner l.category l.nodes) l.signals l.categories l.im) ≡ true)
-
-abbrev pub decreases-loop-j : goal.decreases-loop-j
-decreases-loop-j l = l.n - l.j
+invariant-loop-j l = all_below l.j (state_formed_by (fits_by l.d.rows l.d.parent l.d.inner l.d.category l.d.nodes) l.d.signals l.categories l.im) ≡ true

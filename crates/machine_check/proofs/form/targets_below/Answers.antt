@@ -1,3 +1,4 @@
+use Rattle.std.proofs.Common.{rules, ◌≡◌, get_or, max}
 use native.Mathlib.Omega.{arith}
 use borrow.Author.Tests.{lt-ltb}
 use Rattle.base_lists.specs.Lists.{all_below}
@@ -7,23 +8,17 @@ use Rattle.machine_check.proofs.form.targets_below.Goals as goal
 pub returns-then-n-ge-MOST_STATES : goal.returns-then-n-ge-MOST_STATES
 returns-then-n-ge-MOST_STATES c = below_all c.args.im.now c.args.categories c.args.j (λ k. omega (arith, c.type_inv.im k)) c.if-n-ge-MOST_STATES.true c.requires.3
 
-pub loop-k-init : goal.loop-k-init
+pub loop-t-init : goal.loop-t-init
 unfolding all_below
-loop-k-init c = (omega arith, lt-ltb 0 c.args.n (omega arith))
+loop-t-init c = lt-ltb 0 c.args.n (omega arith)
 
-pub loop-k-preserved : goal.loop-k-preserved
-loop-k-preserved c = let inv = c.loop-k.invariant in let k = c.loop-k.k in
-    let most = c.loop-k.most in let part = c.part-row.ensures in
-    let place = c.place.ensures in
-    let at = c.at-m.ensures in (
-      omega arith,
-      most-more c.args.im.now c.args.categories c.args.j c.args.n place.0 at.0 c.requires.3 part k most inv.1
-          c.loop-k-test.true c.larger-most.ensures,
-    )
+pub loop-t-preserved : goal.loop-t-preserved
+loop-t-preserved c =
+    let e : c.max-most.result ≡ max c.loop-t.most (get_or c.part-row.result.now c.loop-t.t-index 0) = search rules in
+    most-more c.args.im.now c.args.categories c.args.j c.args.n c.place.ensures.0 c.at-m.ensures.0 c.requires.3 c.part-row.ensures c.loop-t.t-index c.loop-t.most
+    c.loop-t.invariant c.loop-t-test.true e
 
 pub returns : goal.returns
-returns c = let inv = c.loop-k.invariant in let part = c.part-row.ensures in
-    let place = c.place.ensures in
-    let at = c.at-m.ensures in
-    most-end c.args.im.now c.args.categories c.args.j c.args.n place.0 at.0 c.requires.3 part c.loop-k.k
-    c.loop-k.most inv.1 inv.0 c.loop-k-test.false (omega arith) c.wide.ensures.0
+returns c =
+    most-end c.args.im.now c.args.categories c.args.j c.args.n c.place.ensures.0 c.at-m.ensures.0 c.requires.3 c.part-row.ensures c.loop-t.t-index c.loop-t.most
+    c.loop-t.invariant (omega arith) c.loop-t-test.false (omega arith) c.from.ensures
