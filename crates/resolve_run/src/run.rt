@@ -11,11 +11,10 @@ use node_search::uses::{Used, uses};
 use node_step::{State, Status};
 use table_decode::Decoded;
 
-// What a walk goes by: a table's symbols, with their index, and an image whose states have a byte for each of so many categories:
+// What a walk goes by: a table's symbols, and an image whose states have a byte for each of so many categories:
 // the table's, or none in a small image.
 #[derive(Clone, Copy)]
 pub struct Walk<'a> {
-    pub index: &'a [u8],
     pub symbols: &'a Symbols,
     pub categories: usize,
     pub image: &'a [u8],
@@ -26,8 +25,7 @@ impl Walk<'_> {
     fn target(&self, d: &Decoded, j: u8, c: u8, k: u8, whole: bool) -> u8
         ensures { result ≡ target_now d.now.inner self.now j c k whole }
     {
-        let s = self.symbols;
-        let n = machine_symbols::number(self.index, &s.bytes, s.count, &d.inner, c, k, whole);
+        let n = self.symbols.number(d, c, k, whole);
         machine_check::image::target(self.image, self.categories, j, n)
     }
 
