@@ -15,7 +15,6 @@ use Rattle.value_cursor.specs.declared.alert_param.Span.{Span}
 use Rattle.value_cursor.specs.declared.alert_param.Found.{Found}
 use Rattle.value_cursor.specs.declared.alert_param.Found.TheVariants.{Last, More, None}
 use Rattle.value_reader.specs.Value.{part_of}
-use Rattle.node_step.specs.StatusByte.{step_packed}
 use Rattle.node_step.specs.declared.stored.Packed.{Packed}
 use Rattle.node_search.specs.declared.uses.Used.{Used}
 use Rattle.node_search.specs.declared.decoded.Decoded.{Decoded}

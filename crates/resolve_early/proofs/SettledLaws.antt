@@ -1,16 +1,16 @@
 -- Laws of the test of a state on node numbers, each from the tests that lead to it.
-use Prim.Native.Nat.{ℕ, ◌-◌, ◌≤◌, ◌<◌, min}
-use mathlib.Core.Path.{◌≡◌, sym, ap, ◌∙◌}
-use mathlib.Core.Bool.{Bool, true, false, cond, ◌&&◌}
+use Prim.Native.Nat.{ℕ, ◌<◌, min}
+use mathlib.Core.Path.{◌≡◌, refl, sym, ap, ◌∙◌}
+use mathlib.Core.Bool.{Bool, true, false, cond, not, ◌&&◌}
 use mathlib.Core.List.{List}
 use lib.Dec.{eqb}
 use lib.ListN.{get_or}
-use borrow.Author.Tests.{le-leb, lt-leb, lt-ltb, eq-eqb, ne_eqb}
+use borrow.Author.Tests.{lt-ltb, eq-eqb, ne_eqb}
 use Rattle.base_numbers.specs.Numbers.{most_signals}
 use Rattle.base_lists.specs.Lists.{all_below}
 use Rattle.node_step.specs.Step.{digit, put, row_at, place_in, with_place}
-use Rattle.node_step.specs.StatusByte.{same_packed, step_packed}
 use Rattle.node_step.specs.declared.stored.Packed.{Packed}
+use Rattle.node_step.proofs.ByteLaws.{packed-eq}
 use Rattle.node_step.proofs.PackedStep.{packed-exact}
 use Rattle.resolve_early.specs.SettledBy.{keeps_at, beside, beside_keeps, signal_keeps, held_keeps, category_keeps}
 
@@ -63,5 +63,10 @@ module _ (rows ps : List ℕ) (inner : List Bool) (n : ℕ) (st : Packed) (c : �
   rest-on b e z i = i ∙ sym (ap (λ x. x && all_below (min n most_signals) (signal_keeps rows ps inner n st c)) (sym e ∙ z))
 
 -- the same state is as settled as it was
-pub same-settled : (f : Packed → Bool) (a b : Packed) {was s : Bool} → was ≡ f a → s ≡ same_packed a b → s ≡ true → was ≡ f b
-same-settled f a b w e z = w ∙ ap f (packed-exact.to a b (sym e ∙ z))
+pub same-settled : (f : Packed → Bool) (a b : Packed) {was n : Bool} → was ≡ f a → n ≡ not (eqb a.signal b.signal && eqb a.statuses b.statuses) → n ≡ false
+    → was ≡ f b
+same-settled f a b w e z = w ∙ ap f (packed-exact.to a b (sym (packed-eq a b) ∙ same (eqb a.signal b.signal && eqb a.statuses b.statuses) (sym e ∙ z)))
+  where
+    same : (x : Bool) → not x ≡ false → x ≡ true
+    same true h = refl
+    same false h = sym h

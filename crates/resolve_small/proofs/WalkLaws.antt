@@ -101,7 +101,7 @@ module _ (t : List ℕ) (d : Decoded) (means : DecodedAs t d) (w : Walk) (within
             (number-right t d.category d.at d.len d.nodes (table_of t) held.nodes d.rows d.parent d.signals
             held.numbers d.inner held.inner
             held.well-formed symbols.bytes symbols.count (symbols-listed t d means n within listed) symbols.index
-            (lists-indexed listed) u);
+            (lists-indexed _ listed) u);
         stays = λ j u v x. tt;
       }
 

@@ -1,5 +1,4 @@
 use mathlib.Core.Path.{ap, ◌∙◌}
-use native.Mathlib.Omega.{arith}
 use Rattle.base_numbers.specs.Refusals.{refusal_number}
 use Rattle.resolve_early.specs.Early.{refused}
 use Rattle.resolve_early.proofs.AnswerLaws.{early-long, early-table}

@@ -8,7 +8,7 @@ use Rattle.resolve_early.specs.SettledBy.{settled_by}
 use Rattle.resolve_early.proofs.SettledLaws.{same-settled}
 use Rattle.resolve_early.proofs.RunLaws.{after-uri, run_settled, run-full, run_more, run-last, run_none}
 use Rattle.resolve_early.proofs.run.run.Goals as goal
-use Rattle.resolve_early.proofs.run.run.Goals.{then-not-same, else-not-same}
+use Rattle.resolve_early.proofs.run.run.Goals.{then-ne, else-ne}
 
 pub loop-ends-init : goal.loop-ends-init
 loop-ends-init c = (refl, c.settled-ends.ensures, omega arith, omega arith)
@@ -78,9 +78,9 @@ loop-ends-preserved c = let l = c.loop-ends.invariant in
           c.if-ends.false
           c.if-n-ge-MOST_ENTRIES.false
           c.entry_at-e.ensures fits c.if-e.false u,
-      elim c.if-not-same.branch [
-        | then-not-same w ↦ w.ends-is ∙ w.settled-ends-then-not-same.ensures
-        | else-not-same w ↦ w.ends-is ∙ same-settled (settled_by _ _ _ _ _) _ _ l.1 c.same.ensures w.if-not-same.false
+      elim c.if-ne.branch [
+        | then-ne w ↦ w.ends-is ∙ w.settled-ends-then-ne.ensures
+        | else-ne w ↦ w.ends-is ∙ same-settled (settled_by _ _ _ _ _) _ _ l.1 c.ne.ensures w.if-ne.false
       ],
       omega (
         arith,
