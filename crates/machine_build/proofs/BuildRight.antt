@@ -4,7 +4,7 @@ use mathlib.Core.Path.{◌≡◌, refl, sym, ap, ap₂, ◌∙◌}
 use mathlib.Core.Bool.{Bool, true, false, cond}
 use mathlib.Core.List.{List, [], ◌∷◌, ◌++◌, map}
 use lib.Dec.{eqb, ltb}
-use borrow.Author.Tests.{ltb-false, eq-eqb, ne_eqb}
+use borrow.Author.Tests.{ltb-false, eq-eqb}
 use lib.ListN.{length, get_or, take, replicate, length-map}
 use lib.Seq.{take_all}
 use native.Mathlib.Omega.{arith}
@@ -12,9 +12,7 @@ use native.Mathlib.Nat.{zero-add}
 use Rattle.base_numbers.specs.Numbers.{most_nodes, most_states}
 use Rattle.std.specs.Prelude.{Ok, Err}
 use Rattle.base_numbers.specs.Refusals.{refusal_number}
-use Rattle.base_numbers.proofs.Refusals.{refusal-some}
 use Rattle.base_bytes.specs.declared.Built.{Built}
-use Rattle.base_numbers.specs.declared.refusal.Refusal.{Refusal}
 use Rattle.base_numbers.specs.declared.refusal.Refusal.TheVariants.{TooManyStates, ImageNoRoom}
 use Rattle.base_lists.proofs.Each.{each_last}
 use Rattle.base_lists.proofs.Tabulated.{tabulate-entries}
@@ -131,7 +129,7 @@ module _ (T : Table) (wf : WellFormed T) (rows ps : List ℕ) (signals : ℕ) (n
           ap (λ n. answer_of (cond (ltb room n) (Err ImageNoRoom) (Ok n))) (size-right (ltb-false most_states (length states) e))
           ∙ by (ltb room (length (machine_image T))) (length (machine_image T))
 
-  -- the buffer, where there is room, and where the build is refused
+  -- the buffer, where there is room
   module _ (room : ℕ) where
     abbrev refusal : ℕ
     refusal = build_refusal T room
@@ -150,9 +148,3 @@ module _ (T : Table) (wf : WellFormed T) (rows ps : List ℕ) (signals : ℕ) (n
         let e : refusal ≡ 0 = ap (λ (b : Built). b.refusal) (sym (ap answer_of v ∙ built-right room)) in
         let few : length states ≤ most_states = within e in
         ap₂ (λ x n. x ++ replicate (room - n) 0) image-right (size-right few) ∙ sym (rw (eq-eqb refusal 0 e))
-
-    pub buffer-refused : {r : Refusal} → Err r ≡ built_by next T.cats count room → replicate room 0 ≡ buffer_of T room
-    unfolding buffer_of
-    buffer-refused {r} v =
-        let e : refusal ≡ refusal_number r = ap (λ (b : Built). b.refusal) (sym (ap answer_of v ∙ built-right room)) in
-        sym (rw (ne_eqb refusal 0 (λ z. omega (arith, e, refusal-some r))))

@@ -103,7 +103,7 @@ head-put (x ∷ head) y count lo hi {k} {i} {j} l e f g =
     ∙ ap (λ z. set z j hi) (over-set (count ∷ y) (count ∷ head) i lo (omega arith) (omega arith))
     ∙ over-set (count ∷ y ++ lo ∷ []) (count ∷ head) j hi (length-append (count ∷ y) (lo ∷ []) ∙ omega arith) (omega arith)
     ∙ over-all (count ∷ y ++ lo ∷ [] ++ hi ∷ []) (count ∷ head)
-      (length-append (count ∷ y ++ lo ∷ []) (hi ∷ []) ∙ omega (arith, length-append (count ∷ y) (lo ∷ [])))
+    (length-append (count ∷ y ++ lo ∷ []) (hi ∷ []) ∙ omega (arith, length-append (count ∷ y) (lo ∷ [])))
     ∙ append_assoc (count ∷ y) (lo ∷ []) (hi ∷ [])
 
 pub rows_fit : (n count cats : ℕ) → n ≤ most_states → count ≤ most_symbols → cats ≤ 8 → n * (count + cats + 1) ≤ 35072

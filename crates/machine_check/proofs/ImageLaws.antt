@@ -229,4 +229,3 @@ module _ (next : Packed → ℕ → Packed) (im : List ℕ) (cats j : ℕ) {i : 
   pub target-test : b ≡ target_right_by next cats im j k
   unfolding target_right_by
   target-test = s ∙ ap₂ same_packed (ap (packed_in cats im) (target_is im cats j e k g)) (h ∙ ap (λ z. next z k) f)
-

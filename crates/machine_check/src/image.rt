@@ -9,7 +9,7 @@ use base_numbers::MOST_CATEGORIES;
 use node_step::stored::Packed;
 
 // The byte at i, 0 past the end.
-pub(crate) fn byte(im: &[u8], i: usize) -> u8
+pub fn byte(im: &[u8], i: usize) -> u8
     ensures { result ≡ get_or im.now i 0 }
 {
     im.get(i).copied().unwrap_or(0)

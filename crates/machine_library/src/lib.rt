@@ -10,13 +10,17 @@
 pub mod c;
 mod matching;
 
-ghost use Rattle.std.specs.Prelude.{◌≡◌, length};
+ghost use Rattle.std.specs.Prelude.{◌≡◌, length, OnOk};
 ghost use Rattle.table_decode.specs.Tables.{table_refusal};
+ghost use Rattle.machine_build.specs.States.{answer_of};
+ghost use Rattle.machine_check.specs.Checks.{check_number};
 ghost use Rattle.machine_library.specs.Built.{built_from, buffer_from, check_from};
 ghost use Rattle.machine_library.specs.Matching.{match_of};
 
 pub use crate::matching::Match;
 pub use base_bytes::Built;
+use base_numbers::Refusal;
+use table_decode::decode;
 
 // 0 if the table is well-formed, else the number that refuses it.
 pub fn refusal(t: &[u8]) -> u8
@@ -25,51 +29,44 @@ pub fn refusal(t: &[u8]) -> u8
     table_decode::refusal(t)
 }
 
+// The table's machine, written to the buffer: its image and zeros after it; if it is refused, any bytes.
+fn written(t: &[u8], buf: &mut [u8]) -> Result<usize, Refusal>
+    ensures value { answer_of result ≡ built_from t.now (length buf.old) }
+    ensures buf_after { OnOk result (buf.new ≡ buffer_from t.now (length buf.old)) }
+{
+    let d = decode(t)?;
+    let s = machine_symbols::list(&d);
+    machine_build::build_by(&d, &s, buf)
+}
+
 // The table's machine, written to the buffer: its image and zeros after it, or all zeros and the number of the refusal.
 pub fn build(t: &[u8], buf: &mut [u8]) -> Built
     ensures value { result ≡ built_from t.now (length buf.old) }
     ensures buf_after { buf.new ≡ buffer_from t.now (length buf.old) }
 {
-    let d = table_decode::decode(t);
-    let refused = d.refusal;
-    if refused != 0 {
-        return base_bytes::refuse(buf, refused);
+    match written(t, buf) {
+        Ok(len) => Built { refusal: 0, len },
+        Err(r) => base_bytes::refuse(buf, u8::from(r)),
     }
-    let s = machine_symbols::list(&d.category, &d.inner, d.nodes, d.categories);
-    machine_build::build_by(
-        &d.rows,
-        &d.parent,
-        &d.inner,
-        d.signals,
-        d.categories,
-        &s.bytes,
-        s.count,
-        buf,
-    )
+}
+
+// The image is a right machine of the table, or what is wrong with one of them.
+fn checked(t: &[u8], image: &[u8]) -> Result<(), Refusal>
+    ensures { check_number result ≡ check_from t.now image.now }
+{
+    let d = decode(t)?;
+    let s = machine_symbols::list(&d);
+    machine_check::check_by(&d, &s, image)
 }
 
 // 0 if the image is a right machine of the table, else the number of what is wrong.
 pub fn check(t: &[u8], image: &[u8]) -> u8
     ensures { result ≡ check_from t.now image.now }
 {
-    let d = table_decode::decode(t);
-    let refused = d.refusal;
-    if refused != 0 {
-        return refused;
+    match checked(t, image) {
+        Ok(()) => 0,
+        Err(r) => u8::from(r),
     }
-    let s = machine_symbols::list(&d.category, &d.inner, d.nodes, d.categories);
-    machine_check::check_by(
-        &d.rows,
-        &d.parent,
-        &d.inner,
-        &d.category,
-        d.nodes,
-        d.signals,
-        d.categories,
-        &s.bytes,
-        s.count,
-        image,
-    )
 }
 
 // What a URI is to the table: its category, the deepest node that it is or lies under, whether it is that node, and the bytes
@@ -77,23 +74,8 @@ pub fn check(t: &[u8], image: &[u8]) -> u8
 pub fn match_urn(t: &[u8], uri: &[u8]) -> Match
     ensures { result ≡ match_of t.now uri.now }
 {
-    let d = table_decode::decode(t);
-    let refused = d.refusal;
-    if refused != 0 {
-        return matching::refused(refused);
+    match decode(t) {
+        Ok(d) => matching::answer(node_search::uses::uses(t, &d, uri)),
+        Err(r) => matching::unused(u8::from(r)),
     }
-    let u = node_search::uses::uses(
-        t,
-        &d.name_at,
-        &d.name_len,
-        d.categories,
-        &d.category,
-        &d.at,
-        &d.len,
-        &d.shared,
-        &d.inner,
-        d.nodes,
-        uri,
-    );
-    matching::answer(u)
 }

@@ -1,8 +1,8 @@
 // The answer to what a URI is to a table.
-ghost use Rattle.std.specs.Prelude.{◌≡◌, cond};
+ghost use Rattle.std.specs.Prelude.{◌≡◌};
 ghost use Rattle.machine_library.specs.Matching.{refused_match, match_use};
 
-use node_search::uses::Use;
+use node_search::uses::Used;
 
 // A refusal number, 0 if the table is well-formed; whether the URI is used; the category and the node or root; whether the URN
 // is that node; and how many bytes were compared.
@@ -17,12 +17,12 @@ pub struct Match {
     pub compared: u32,
 }
 
-// The answer to a refused table.
-pub(crate) fn refused(k: u8) -> Match
-    ensures { result ≡ refused_match k }
+// The answer without a use: the number that refuses the table, or 0 for a skipped URI.
+pub(crate) fn unused(refusal: u8) -> Match
+    ensures { result ≡ refused_match refusal }
 {
     Match {
-        refusal: k,
+        refusal,
         used: 0,
         category: 0,
         node: 0,
@@ -31,41 +31,19 @@ pub(crate) fn refused(k: u8) -> Match
     }
 }
 
-// 1 for yes.
-fn flag(b: bool) -> u8
-    ensures { result ≡ cond b 1 0 }
-{
-    if b {
-        return 1;
-    }
-    0
-}
-
 // The answer where the table is well-formed.
-pub(crate) fn answer(u: Use) -> Match
+pub(crate) fn answer(u: Option<Used>) -> Match
     ensures { result ≡ match_use u }
 {
     match u {
-        Use::Skipped => Match {
-            refusal: 0,
-            used: 0,
-            category: 0,
-            node: 0,
-            whole: 0,
-            compared: 0,
-        },
-        Use::Used {
-            category,
-            node,
-            whole,
-            compared,
-        } => Match {
+        None => unused(0),
+        Some(x) => Match {
             refusal: 0,
             used: 1,
-            category,
-            node,
-            whole: flag(whole),
-            compared,
+            category: x.category,
+            node: x.node,
+            whole: u8::from(x.whole),
+            compared: x.compared,
         },
     }
 }
