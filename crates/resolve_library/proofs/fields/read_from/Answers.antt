@@ -1,3 +1,4 @@
+use Prim.Native.Nat.{◌+◌}
 use mathlib.Core.Path.{ap, ◌∙◌}
 use Rattle.node_step.specs.declared.State.{State}
 use Rattle.resolve_record.specs.Coded.{carried_with}
@@ -13,4 +14,4 @@ pub returns : goal.returns
 returns c =
     let e = fed-ends _ _ c.requires.0 _ c.requires.2 c.requires.1 _ c.state.ensures c.resolved-e.ensures in
     read_taken _ c.requires.0.refusal _ c.args.carried _ e c.if-e-ne0.false _
-    (c.after.ensures ∙ ap (λ (s : State). carried_with s _) c.state-2.ensures)
+    (c.after.ensures ∙ ap (λ (s : State). carried_with s (c.args.carried.values + 1)) c.state-2.ensures)
