@@ -40,9 +40,6 @@ lent-front b y a k h e =
 
 -- a state's bytes, lent in two parts one after the other
 module _ (cats : ℕ) (st : Packed) (row : List ℕ) (a : ℕ) (part : List ℕ) where
-  pub placed-out : length part < a + cats + 1 + length row → Placed cats st row a part part
-  placed-out h = record { same_length = refl; written = λ k. absurd (omega arith) }
-
   module _ (y z : List ℕ) {from to : ℕ} (ef : from ≡ a + cats + 1) (et : to ≡ from + length row) (h : to ≤ length part) (ey : y ≡ pair_bytes cats st) (ez : z ≡ row) where
     abbrev first : List ℕ
     first = take a part ++ (y ++ drop (from - a) (drop a part))

@@ -6,9 +6,8 @@ use borrow.Author.Tests.{lt-ltb, le-ltb}
 use lib.ListN.{length, set, take, drop, replicate, length-append, length-drop, length-replicate, drop_of_length-le}
 use lib.Seq.{length-take-le, drop_at, take-append-add}
 use native.Mathlib.Omega.{arith}
-use native.Mathlib.Nat.{mul-le-mul_right}
 use borrow.Rule.Slice.PartMut.{put_mid}
-use Rattle.base_numbers.specs.Numbers.{most_states, most_symbols}
+use Rattle.base_numbers.specs.Numbers.{most_states}
 use Rattle.std.specs.Prelude.{Ok, Err}
 use Rattle.base_numbers.specs.declared.refusal.Refusal.{Refusal}
 use Rattle.base_numbers.specs.declared.refusal.Refusal.TheVariants.{TooManyStates, ImageNoRoom}
@@ -105,9 +104,6 @@ head-put (x ∷ head) y count lo hi {k} {i} {j} l e f g =
     ∙ over-all (count ∷ y ++ lo ∷ [] ++ hi ∷ []) (count ∷ head)
     (length-append (count ∷ y ++ lo ∷ []) (hi ∷ []) ∙ omega (arith, length-append (count ∷ y) (lo ∷ [])))
     ∙ append_assoc (count ∷ y) (lo ∷ []) (hi ∷ [])
-
-pub rows_fit : (n count cats : ℕ) → n ≤ most_states → count ≤ most_symbols → cats ≤ 8 → n * (count + cats + 1) ≤ 35072
-rows_fit n count cats h k l = omega (arith, mul-le-mul_right (count + cats + 1) h)
 
 -- the whole buffer, where the rows, the head and the zeros were lent one after the other
 module _ (next : Packed → ℕ → Packed) (cats count : ℕ) (sy b y h z : List ℕ) (f n : ℕ) where

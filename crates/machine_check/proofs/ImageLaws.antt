@@ -3,29 +3,24 @@ use Prim.Native.Nat.{ℕ, suc, ◌+◌, ◌-◌, ◌*◌, ◌^◌, ◌≤◌, �
 use mathlib.Core.Path.{◌≡◌, refl, sym, ap, ap₂, ◌∙◌}
 use mathlib.Core.Bool.{Bool, true, false, ◌&&◌, true≢false}
 use mathlib.Core.List.{List}
-use lib.Dec.{eqb, ltb, leb}
-use borrow.Author.Tests.{eq-eqb, ne_eqb, lt-ltb, le-ltb, le-leb, lt-leb, leb-true}
-use lib.ListN.{length, get_or, set, take, drop, length-take, get_or-eq_default}
-use lib.Seq.{get_or-take, get_or-drop, get_or-set_same, get_or-set_other}
+use lib.Dec.{ltb, leb}
+use borrow.Author.Tests.{lt-ltb, le-ltb, leb-true}
+use lib.ListN.{length, get_or, take, drop, length-take, get_or-eq_default}
+use lib.Seq.{get_or-take, get_or-drop}
 use native.Mathlib.Omega.{arith}
-use native.Mathlib.Nat.{mul-le-mul_right, add-zero, sub-zero, pow-le-pow_right, pow-succ'}
+use native.Mathlib.Nat.{add-zero, sub-zero, pow-le-pow_right, pow-succ'}
 use native.Mathlib.Numerals.{add-one}
-use native.Mathlib.Decide.{dec_lt, ℕ_discrete}
+use native.Mathlib.Decide.{dec_lt}
 use Rattle.base_numbers.specs.Numbers.{most_states, most_symbols}
 use Rattle.base_lists.specs.Numbers.{word_of}
 use Rattle.base_lists.proofs.Below.{all-to, all_of}
 use Rattle.base_lists.proofs.Bools.{same_test}
 use Rattle.base_lists.specs.Lists.{all_below}
-use Rattle.theory_resolution.specs.Names.{same_name}
 use Rattle.node_step.specs.StatusByte.{same_packed}
 use Rattle.node_step.specs.declared.stored.Packed.{Packed}
 use Rattle.machine_image.specs.Image.{symbol_count, state_count, place_of, signal_in, byte_in, target_in}
 use Rattle.machine_symbols.specs.Steps.{begin}
-use Rattle.machine_check.specs.Checks.{packed_in, status_formed_by, below_by, state_formed_by, form_by, target_right_by}
-
--- the place of a state is a number of the machine's
-pub place-fits : (j m cats : ℕ) → j < 65536 → m < 256 → cats ≤ 8 → j * (m + cats + 1) ≤ 17301504
-place-fits j m cats h k l = let i : j ≤ 65536 = omega arith in omega (arith, mul-le-mul_right (m + cats + 1) i)
+use Rattle.machine_check.specs.Checks.{packed_in, status_formed_by, below_by, form_by, target_right_by}
 
 pub count-is : (im : List ℕ) {m low high : ℕ} → m ≡ get_or im 0 0 → low ≡ get_or im (3 * m + 1) 0 → high ≡ get_or im (3 * m + 2) 0 → low + 256 * high ≡ state_count im
 count-is im e f g =
@@ -69,25 +64,14 @@ module _ (im : List ℕ) (cats j : ℕ) {i : ℕ} (e : i ≡ place_of cats im j)
   pub status-is : (c : ℕ) {s : ℕ} → s ≡ get_or im (i + 1 + c) 0 → s ≡ byte_in cats im j c
   status-is c f = f ∙ ap (λ z. get_or im (z + 1 + c) 0) e
 
-  pub state-is : {s x : ℕ} → s ≡ get_or im i 0 → x ≡ word_of im (i + 1) cats → record { signal = s; statuses = x } ≡ packed_in cats im j
-  state-is f g = let a = signal-is f in let b = g ∙ ap (λ z. word_of im (z + 1) cats) e in ap₂ (λ x y. record { signal = x; statuses = y }) a b
-
   -- a byte that is tested
   pub test-is : (fits : ℕ → ℕ → ℕ → Bool) {s : ℕ} → s ≡ signal_in cats im j → (c : ℕ) {b : ℕ} {r : Bool} → b ≡ get_or im (i + 1 + c) 0 → r ≡ fits s c b
       → r ≡ status_formed_by fits cats im j c
   test-is fits g c f t = t ∙ ap₂ (λ x y. fits x c y) g (status-is c f)
 
--- one state more is read
+-- the first n states are read
 abbrev pub ReadTo : ℕ → List ℕ → List Packed → ℕ → Type 0
 ReadTo cats im states n = (j : ℕ) → j < n → get_or states j begin ≡ packed_in cats im j
-
-pub read_more : (im : List ℕ) (cats : ℕ) (states : List Packed) (j : ℕ) {st : Packed} → ReadTo cats im states j → j < length states → st ≡ packed_in cats im j
-    → ReadTo cats im (set states j st) (j + 1)
-read_more im cats states j {st} r a e i h = go (ℕ_discrete i j)
-  where
-    go : Dec (i ≡ j) → get_or (set states j st) i begin ≡ packed_in cats im i
-    go (yes z) = rw z (get_or-set_same states j st begin a ∙ e)
-    go (no z) = get_or-set_other states j i st begin z ∙ r i (omega arith)
 
 -- every byte is one of 256 states
 pub below_all : (im : List ℕ) (cats j : ℕ) {n : ℕ} → ((k : ℕ) → get_or im k 0 < 256) → most_states ≤ n → n ≡ state_count im
@@ -141,75 +125,6 @@ module _ (im : List ℕ) (cats j n : ℕ) {i m : ℕ} (e : i ≡ place_of cats i
 
       of : all_below (symbol_count im) (below_by cats im j) ≡ true → all_below k (below_by cats im j) ≡ true
       of t = all_of k (below_by cats im j) (λ x l. all-to (symbol_count im) (below_by cats im j) t x (omega (arith, short, f)))
-
--- the form, test by test
-module _ (fits : ℕ → ℕ → ℕ → Bool) (sy : List ℕ) (count signals cats : ℕ) (im : List ℕ) where
-  pub form-cats : 8 < cats → false ≡ form_by fits sy count signals cats im
-  unfolding form_by
-  form-cats h = sym (rw (lt-leb cats 8 h))
-
-  module _ (h₁ : cats ≤ 8) where
-    pub form-count : most_symbols < count → false ≡ form_by fits sy count signals cats im
-    unfolding form_by
-    form-count h = sym (rw (le-leb cats 8 h₁, lt-leb count most_symbols h))
-
-    module _ (h₂ : count ≤ most_symbols) {m : ℕ} (e : m ≡ get_or im 0 0) where
-      pub form-short : length im < 3 + 3 * m → false ≡ form_by fits sy count signals cats im
-      unfolding form_by
-      form-short h = sym (rw (le-leb cats 8 h₁, le-leb count most_symbols h₂, lt-leb (3 + 3 * get_or im 0 0) (length im) (omega arith)))
-
-      module _ (h₃ : 3 + 3 * m ≤ length im) {n p : ℕ} (f : n ≡ state_count im) (g : p ≡ place_of cats im n) where
-        long : leb (3 + 3 * get_or im 0 0) (length im) ≡ true
-        long = le-leb (3 + 3 * get_or im 0 0) (length im) (omega arith)
-
-        placed : p ≡ place_of cats im (state_count im)
-        placed = g ∙ ap (place_of cats im) f
-
-        pub form-length : (length im ≡ p → ⊥) → false ≡ form_by fits sy count signals cats im
-        unfolding form_by
-        form-length h =
-            let a : eqb (length im) (place_of cats im (state_count im)) ≡ false =
-            ne_eqb (length im) (place_of cats im (state_count im)) (λ z. h (z ∙ sym placed)) in
-            sym (rw (le-leb cats 8 h₁, le-leb count most_symbols h₂, long, a))
-
-        module _ (h₄ : length im ≡ p) {x y : List ℕ} {b : Bool} (u : x ≡ take (3 * m) (drop 1 im)) (v : y ≡ take (3 * count) (drop 0 sy))
-            (w : b ≡ same_name x y) where
-          long-right : eqb (length im) (place_of cats im (state_count im)) ≡ true
-          long-right = eq-eqb (length im) (place_of cats im (state_count im)) (h₄ ∙ placed)
-
-          test : b ≡ same_name (take (3 * get_or im 0 0) (drop 1 im)) (take (3 * count) (drop 0 sy))
-          test = w ∙ ap₂ same_name (u ∙ ap (λ z. take (3 * z) (drop 1 im)) e) v
-
-          pub form-symbols : b ≡ false → false ≡ form_by fits sy count signals cats im
-          unfolding form_by
-          form-symbols h = let a = sym test ∙ h in sym (rw (le-leb cats 8 h₁, le-leb count most_symbols h₂, long, long-right, a))
-
-          module _ (h₅ : b ≡ true) where
-            same : same_name (take (3 * get_or im 0 0) (drop 1 im)) (take (3 * count) (drop 0 sy)) ≡ true
-            same = sym test ∙ h₅
-
-            pub form-none : n < 1 → false ≡ form_by fits sy count signals cats im
-            unfolding form_by
-            form-none h =
-                let a : leb 1 (state_count im) ≡ false = lt-leb 1 (state_count im) (omega arith) in
-                sym (rw (le-leb cats 8 h₁, le-leb count most_symbols h₂, long, long-right, same, a))
-
-            module _ (h₆ : 1 ≤ n) where
-              some : leb 1 (state_count im) ≡ true
-              some = le-leb 1 (state_count im) (omega arith)
-
-              pub form-many : most_states < n → false ≡ form_by fits sy count signals cats im
-              unfolding form_by
-              form-many h =
-                  let a : leb (state_count im) most_states ≡ false = lt-leb (state_count im) most_states (omega arith) in
-                  sym (rw (le-leb cats 8 h₁, le-leb count most_symbols h₂, long, long-right, same, some, a))
-
-              pub form-states : {r : Bool} → n ≤ most_states → r ≡ all_below (state_count im) (state_formed_by fits signals cats im)
-                  → r ≡ form_by fits sy count signals cats im
-              unfolding form_by
-              form-states h k =
-                  let a : leb (state_count im) most_states ≡ true = le-leb (state_count im) most_states (omega arith) in
-                  k ∙ sym (rw (le-leb cats 8 h₁, le-leb count most_symbols h₂, long, long-right, same, some, a))
 
 -- an image of right form has at most 8 categories and 128 symbols
 pub form-few : (fits : ℕ → ℕ → ℕ → Bool) (sy : List ℕ) (count signals cats : ℕ) (im : List ℕ) {b : Bool}

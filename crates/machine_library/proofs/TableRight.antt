@@ -13,7 +13,6 @@ use Rattle.base_lists.proofs.Numbers.{min-le}
 use Rattle.theory_resolution.proofs.SymbolCount.{few-symbols}
 use Rattle.node_step.specs.StatusByte.{fits_by}
 use Rattle.node_step.specs.declared.stored.Packed.{Packed}
-use Rattle.machine_image.specs.Refusals.{form_of}
 use Rattle.table_decode.specs.Tables.{table_of, table_refusal}
 use Rattle.std.specs.Prelude.{Result, Ok, Err, OnOk}
 use Rattle.base_numbers.specs.Refusals.{refusal_number}
@@ -29,12 +28,12 @@ use Rattle.machine_symbols.specs.declared.Symbols.{Symbols}
 use Rattle.machine_symbols.proofs.SymbolLaws.{lists-listed}
 use Rattle.machine_symbols.specs.Steps.{next_state}
 use Rattle.machine_build.specs.States.{built_by, buffer_by, answer_of}
-use Rattle.machine_check.specs.Checks.{form_by, check_by, check_number}
+use Rattle.machine_check.specs.Checks.{check_by, check_number}
 use Rattle.machine_library.proofs.Claims.{all-used, refused-build}
 use Rattle.base_bytes.specs.declared.Built.{Built}
 use Rattle.machine_symbols.proofs.SymbolsRight.{symbols-in}
 use Rattle.machine_build.proofs.BuildRight.{built-right, buffer-right}
-use Rattle.machine_check.proofs.CheckRight.{form-right, check-right}
+use Rattle.machine_check.proofs.CheckRight.{check-right}
 
 -- a refused table
 module _ (t : List ℕ) (k : Refusal) (m : refusal_number k ≡ table_refusal t) where
@@ -106,13 +105,6 @@ module _ (t : List ℕ) (r : Decoded) (m : DecodedAs t r) (s : Symbols)
       → OnOk x (buf ≡ buffer_by next (min r.categories 8) (min count most_symbols) sy room) → OnOk x (buf ≡ buffer_from t room)
   table-written room buf (Ok n) e h = h ∙ table-buffer room e
   table-written room buf (Err k) e h = tt
-
-  -- the form of an image, also for the machine resolver
-  pub table-form : (im : List ℕ) → form_by fits sy count r.signals r.categories im ≡ form_of (table_of t) im
-  table-form im =
-      ap (λ k. form_by fits sy count r.signals k im) held.categories
-      ∙ form-right t r.category r.at r.len r.nodes (table_of t) held.nodes held.well-formed all-well.rows r.rows
-      r.parent r.signals held.numbers r.inner held.inner sy count table-symbols im
 
   pub table-check : (im : List ℕ) → check_number (check_by fits next sy count r.signals r.categories im) ≡ check_from t im
   unfolding check_from

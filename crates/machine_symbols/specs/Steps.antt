@@ -12,7 +12,3 @@ begin = record { signal = 0; statuses = 0 }
 unfoldable pub next_state : List ℕ → List ℕ → List Bool → ℕ → List ℕ → Packed → ℕ → Packed
 next_state rows ps inner n sy st k =
     cond (ltb k most_symbols) (step_packed rows ps inner n st (get_or sy (3 * k) 0) (get_or sy (3 * k + 1) 0) (eqb (get_or sy (3 * k + 2) 0) 0)) st
-
--- state i in the arrays of signals and statuses
-abbrev pub state_at : List ℕ → List ℕ → ℕ → Packed
-state_at signal statuses i = record { signal = get_or signal i 0; statuses = get_or statuses i 0 }
