@@ -30,20 +30,20 @@ module _ (c : List ℕ) (r : Resolution) where
   unfolding full_count count_to
   counts-accepted e = let z = eq-eqb r.refusal 0 e in (simp z, simp z)
 
-  module _ (some : r.refusal ≡ 0 → ⊥) where
-    pub counts-full : (a : Resolution) → a ≡ refused 20 → most < get_or c (r.refusal - 1) 0 + 1 → Counts c r a c
+  module _ (some : r.refusal ≡ 0 → ⊥) (p : ℕ) (at : p ≡ r.refusal - 1) where
+    pub counts-full : (a : Resolution) → a ≡ refused 20 → most < get_or c p 0 + 1 → Counts c r a c
     unfolding full_count count_to
     counts-full a e f =
         let z = ne_eqb r.refusal 0 some in
-        let h = lt-ltb most (get_or c (r.refusal - 1) 0 + 1) f in
+        let h = lt-ltb most (get_or c (r.refusal - 1) 0 + 1) (subst (λ (i : ℕ). most < get_or c i 0 + 1) at f) in
         (e ∙ simp (z, h), simp (z, h))
 
-    pub counts-one : get_or c (r.refusal - 1) 0 + 1 ≤ most → Counts c r r (set c (r.refusal - 1) (get_or c (r.refusal - 1) 0 + 1))
+    pub counts-one : {n : ℕ} → n ≡ get_or c p 0 + 1 → get_or c p 0 + 1 ≤ most → Counts c r r (set c p n)
     unfolding full_count count_to
-    counts-one f =
+    counts-one e f =
         let z = ne_eqb r.refusal 0 some in
-        let h = le-ltb most (get_or c (r.refusal - 1) 0 + 1) f in
-        (simp (z, h), simp (z, h))
+        let h = le-ltb most (get_or c (r.refusal - 1) 0 + 1) (subst (λ (i : ℕ). get_or c i 0 + 1 ≤ most) at f) in
+        (simp (z, h), rw e (ap (λ (i : ℕ). set c i (get_or c i 0 + 1)) at ∙ simp (z, h)))
 
 -- fewer than 12 counts
 pub few-counts : (t : List ℕ) (n m : ℕ) → m < 12 → too_few t n m ≡ true

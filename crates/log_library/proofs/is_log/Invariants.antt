@@ -6,5 +6,5 @@ use Rattle.base_numbers.specs.Numbers.{most_log_bytes}
 use Rattle.log_library.specs.Log.{end_from, is_log}
 use Rattle.log_library.proofs.is_log.Given as goal
 
-abbrev pub invariant-loop-_call : goal.invariant-loop-_call
-invariant-loop-_call l = (is_log l.log ≡ eqb (end_from l.log l.at (l.calls - l._call)) (length l.log)) × (l.at ≤ most_log_bytes)
+abbrev pub invariant-loop-call : goal.invariant-loop-call
+invariant-loop-call l = (is_log l.log ≡ eqb (end_from l.log l.at (l.calls - l._call)) (length l.log)) × (l.at ≤ most_log_bytes)

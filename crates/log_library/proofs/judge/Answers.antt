@@ -21,8 +21,8 @@ overflow_add-end c = omega (arith, c.loop-k.invariant.1, c.loop-k-test.true, c.w
 pub overflow_add-end-in-loop-k : goal.overflow_add-end-in-loop-k
 overflow_add-end-in-loop-k c = omega (arith, c.loop-k.invariant.1, c.loop-k-test.true, c.word-calls.ensures.1, c.word-n.ensures.1)
 
-pub overflow_add-part : goal.overflow_add-part
-overflow_add-part c = omega (arith, c.loop-k.invariant.1, c.loop-k-test.true, c.word-calls.ensures.1)
+pub overflow_add-at : goal.overflow_add-at
+overflow_add-at c = omega (arith, c.loop-k.invariant.1, c.loop-k-test.true, c.word-calls.ensures.1)
 
 pub says-requires : goal.says-requires
 says-requires c = omega (arith, c.loop-k.invariant.1, c.loop-k-test.true, c.word-calls.ensures.1, c.word-n.ensures.1)
@@ -34,8 +34,8 @@ returns-then-not-says c =
     (omega (arith, c.loop-k-test.true)) c.word-n.ensures.0 c.part.ensures (c.plain-r.ensures ∙ plain-means _ _ _ c.requires)
     c.says.ensures c.if-not-says.true c.differs.ensures
 
-pub overflow_add-at : goal.overflow_add-at
-overflow_add-at c = omega (arith, c.loop-k.invariant.1, c.loop-k-test.true, c.word-calls.ensures.1, c.word-n.ensures.1)
+pub overflow_add-at-in-loop-k : goal.overflow_add-at-in-loop-k
+overflow_add-at-in-loop-k c = omega (arith, c.loop-k.invariant.1, c.loop-k-test.true, c.word-calls.ensures.1, c.word-n.ensures.1)
 
 pub loop-k-preserved : goal.loop-k-preserved
 loop-k-preserved c =

@@ -1,4 +1,5 @@
-use Prim.Native.Nat.{◌+◌, ◌-◌}
+use Prim.Native.Nat.{ℕ, ◌-◌}
+use mathlib.Core.Path.{ap}
 use native.Mathlib.Omega.{arith}
 use Rattle.base_numbers.specs.Refusals.{refusal_number}
 use Rattle.tally_library.proofs.JudgeLaws.{counts-accepted, counts-full, counts-one}
@@ -8,8 +9,10 @@ pub returns-then-r-eq0 : goal.returns-then-r-eq0
 returns-then-r-eq0 c = counts-accepted _ _ c.if-r-eq0.true
 
 pub returns-in-Some : goal.returns-in-Some
-returns-in-Some c = ?
+returns-in-Some c = counts-one _ _ c.if-r-eq0.false (c.from-place.result - 1) (ap (λ (n : ℕ). n - 1) c.from-place.ensures)
+    (omega (arith, c.in-Some.ensures)) (omega (arith, c.in-Some.ensures))
 
 pub returns-in-None : goal.returns-in-None
 unfolding refusal_number
-returns-in-None c = ?
+returns-in-None c = counts-full _ _ c.if-r-eq0.false (c.from-place.result - 1) (ap (λ (n : ℕ). n - 1) c.from-place.ensures)
+    _ c.refused.ensures (omega (arith, c.in-None.ensures))
