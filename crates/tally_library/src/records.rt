@@ -12,7 +12,11 @@ use resolve_run::answer::refused;
 pub(crate) fn place(r: Resolution, n: usize) -> usize
     ensures { result ≡ place_of r n }
 {
-    if r.refusal == 0 { usize::from(r.signal) } else { n }
+    if r.refusal == 0 {
+        usize::from(r.signal)
+    } else {
+        n
+    }
 }
 
 // The record x with the resolution r added, unless a count would pass 4,294,967,295.
