@@ -87,9 +87,12 @@ fed-ends t d means r wide fit v e q =
 
 module _ (t : List ℕ) (r : Carried) (v : List ℕ) where
   -- feeding, by its tests
-  pub feed-table : (k : Refusal) → refusal_number k ≡ table_refusal t → unchanged (refusal_number k) r ≡ feed_of t r v
+  pub feed-table : {k : ℕ} → k ≡ table_refusal t → (k ≡ 0 → ⊥) → unchanged k r ≡ feed_of t r v
   unfolding feed_of
-  feed-table k e = simp (ne_eqb (table_refusal t) 0 (λ z. omega (arith, refusal-some k, e, z))) (ap (λ (n : ℕ). unchanged n r) e)
+  feed-table e n = simp (ne_eqb (table_refusal t) 0 (λ z. n (e ∙ z))) (ap (λ (k : ℕ). unchanged k r) e)
+
+  pub feed-refused : (k : Refusal) → refusal_number k ≡ table_refusal t → unchanged (refusal_number k) r ≡ feed_of t r v
+  feed-refused k e = feed-table e (λ z. omega (arith, refusal-some k, z))
 
   module _ (ok : table_refusal t ≡ 0) where
     pub feed-unfit : carried_fits (table_of t) r ≡ false → unchanged 28 r ≡ feed_of t r v

@@ -3,11 +3,11 @@ use native.Mathlib.Omega.{arith}
 use Rattle.base_numbers.specs.Refusals.{refusal_number}
 use Rattle.table_sections.proofs.Readings.{passed-on}
 use Rattle.resolve_record.proofs.FitLaws.{fits-to}
-use Rattle.resolve_library.proofs.ReadLaws.{feed-table, feed-unfit, feed-full, feed-read, fits-table}
+use Rattle.resolve_library.proofs.ReadLaws.{feed-refused, feed-unfit, feed-full, feed-read, fits-table}
 use Rattle.resolve_library.proofs.read.Goals as goal
 
 pub returns-in_err-d : goal.returns-in_err-d
-returns-in_err-d c = rw (passed-on c.from_residual.result c.from_residual.ensures) (feed-table _ _ _ _ c.in_err-d.ensures)
+returns-in_err-d c = rw (passed-on c.from_residual.result c.from_residual.ensures) (feed-refused _ _ _ _ c.in_err-d.ensures)
 
 pub returns-then-not-fits : goal.returns-then-not-fits
 unfolding refusal_number
