@@ -1,42 +1,40 @@
-use mathlib.Core.Path.{◌∙◌}
+use mathlib.Core.Path.{refl, ap, ◌∙◌}
+use Rattle.std.specs.Prelude.{Some}
+use Rattle.resolve_early.specs.declared.run.Reached.{Reached}
 use native.Mathlib.Omega.{arith}
+use borrow.Author.Tests.{not-true, not-false}
 use Rattle.resolve_run.proofs.RunLaws.{met}
 use Rattle.resolve_early.specs.SettledBy.{settled_by}
 use Rattle.resolve_early.proofs.SettledLaws.{same-settled}
-use Rattle.resolve_early.proofs.RunLaws.{run-start, after-uri, run_settled, run-full, run_more, run-last, run_none}
+use Rattle.resolve_early.proofs.RunLaws.{after-uri, run_settled, run-full, run_more, run-last, run_none}
 use Rattle.resolve_early.proofs.run.run.Goals as goal
-use Rattle.resolve_early.proofs.run.run.Goals.{then-not-same, else-not-same}
+use Rattle.resolve_early.proofs.run.run.Goals.{then-ne, else-ne}
 
 pub loop-ends-init : goal.loop-ends-init
-loop-ends-init c = (run-start _ _ _ _ _ c.begin-st.ensures, c.settled-ends.ensures, omega arith, omega arith)
+loop-ends-init c = (refl, c.settled-ends.ensures, omega arith, omega arith)
 
-pub ended-requires : goal.ended-requires
-ended-requires c = c.loop-ends.invariant.2
+pub signal_at-requires : goal.signal_at-requires
+signal_at-requires c = c.loop-ends.invariant.2
 
 pub returns-then-ends : goal.returns-then-ends
-returns-then-ends c = c.ended.ensures ∙ run_settled _ _ _ _ _ _ _ c.loop-ends.invariant.0 _ c.loop-ends.invariant.1 c.if-ends.true
-
-pub ended-requires-then-n-ge-MOST_ENTRIES : goal.ended-requires-then-n-ge-MOST_ENTRIES
-ended-requires-then-n-ge-MOST_ENTRIES c = c.loop-ends.invariant.2
+returns-then-ends c = ap (λ (r : Reached). Some r) c.signal_at.ensures
+    ∙ run_settled _ _ _ _ _ _ _ c.loop-ends.invariant.0 _ c.loop-ends.invariant.1 c.if-ends.true
 
 pub returns-then-n-ge-MOST_ENTRIES : goal.returns-then-n-ge-MOST_ENTRIES
-returns-then-n-ge-MOST_ENTRIES c = c.ended-then-n-ge-MOST_ENTRIES.ensures ∙ run-full _ _ _ _ _ _ _ c.loop-ends.invariant.0 _
+returns-then-n-ge-MOST_ENTRIES c = run-full _ _ _ _ _ _ _ c.loop-ends.invariant.0 _
     c.loop-ends.invariant.1 c.if-ends.false c.if-n-ge-MOST_ENTRIES.true
 
-pub ended-requires-in_default : goal.ended-requires-in_default
-ended-requires-in_default c = c.loop-ends.invariant.2
-
-pub returns-in_default : goal.returns-in_default
-returns-in_default c = c.ended-in_default.ensures ∙ run_none _ _ _ _ _ _ _ c.loop-ends.invariant.0 _
+pub returns-then-not-e : goal.returns-then-not-e
+returns-then-not-e c = run_none _ _ _ _ _ _ _ c.loop-ends.invariant.0 _
     c.loop-ends.invariant.1
     c.if-ends.false c.if-n-ge-MOST_ENTRIES.false
-    c.entry_at.ensures c.in_default.is
+    c.entry_at-e.ensures (not-true _ c.if-not-e.true)
 
 pub overflow_add-end : goal.overflow_add-end
-overflow_add-end c = omega (arith, (met _ _ c.entry_at.ensures _ c.in-Some.is).inside)
+overflow_add-end c = omega (arith, (met _ _ c.entry_at-e.ensures).inside)
 
 pub slice_bounds-uses-end : goal.slice_bounds-uses-end
-slice_bounds-uses-end c = omega (arith, (met _ _ c.entry_at.ensures _ c.in-Some.is).inside)
+slice_bounds-uses-end c = omega (arith, (met _ _ c.entry_at-e.ensures).inside)
 
 pub overflow_add-n : goal.overflow_add-n
 overflow_add-n c = omega (
@@ -44,20 +42,18 @@ overflow_add-n c = omega (
   c.if-n-ge-MOST_ENTRIES.false,
 )
 
-pub ended-requires-in_default-next : goal.ended-requires-in_default-next
-ended-requires-in_default-next c = omega (
-  arith,
-  c.if-n-ge-MOST_ENTRIES.false,
-)
+pub signal_at-requires-then-e : goal.signal_at-requires-then-e
+signal_at-requires-then-e c = omega (arith, c.if-n-ge-MOST_ENTRIES.false)
 
-pub returns-in_default-next : goal.returns-in_default-next
-returns-in_default-next c = let l = c.loop-ends.invariant in
-    let u = after-uri _ _ _ _ c.in-Some.e.span
+pub returns-then-e : goal.returns-then-e
+returns-then-e c = let l = c.loop-ends.invariant in
+    let u = after-uri _ _ _ _ c.entry_at-e.result.span
     c.uses-u.ensures c.taken-next.ensures in
-    c.ended-in_default-next.ensures ∙ run-last _ _ _ _ _ _ _ l.0 _ l.1
+    ap (λ (r : Reached). Some r) c.signal_at-then-e.ensures ∙ run-last _ _ _ _ _ _ _ l.0 _ l.1
     c.if-ends.false
     c.if-n-ge-MOST_ENTRIES.false
-    c.entry_at.ensures _ c.in-Some.is c.in_default-next.is u
+    c.entry_at-e.ensures
+    (not-false _ c.if-not-e.false) c.if-e.true u
 
 pub overflow_add-n-in-loop-ends : goal.overflow_add-n-in-loop-ends
 overflow_add-n-in-loop-ends c = omega (
@@ -68,24 +64,27 @@ overflow_add-n-in-loop-ends c = omega (
 pub loop-ends-smaller : goal.loop-ends-smaller
 loop-ends-smaller c = omega (
   arith,
-  (met _ _ c.entry_at.ensures _ c.in-Some.is).more _ c.in-Some-next.is,
+  (met _ _
+      c.entry_at-e.ensures).more
+      (not-false _ c.if-not-e.false) c.if-e.false,
 )
 
 pub loop-ends-preserved : goal.loop-ends-preserved
 loop-ends-preserved c = let l = c.loop-ends.invariant in
-    let u = after-uri _ _ _ _ c.in-Some.e.span
+    let fits = not-false _ c.if-not-e.false in
+    let u = after-uri _ _ _ _ c.entry_at-e.result.span
     c.uses-u.ensures c.taken-next.ensures in (
       run_more _ _ _ _ _ _ _ l.0 _ l.1
           c.if-ends.false
           c.if-n-ge-MOST_ENTRIES.false
-          c.entry_at.ensures _ c.in-Some.is _ c.in-Some-next.is u,
-      elim c.if-not-same.branch [
-        | then-not-same w ↦ w.ends-is ∙ w.settled-ends-then-not-same.ensures
-        | else-not-same w ↦ w.ends-is ∙ same-settled (settled_by _ _ _ _ _) _ _ l.1 c.same.ensures w.if-not-same.false
+          c.entry_at-e.ensures fits c.if-e.false u,
+      elim c.if-ne.branch [
+        | then-ne w ↦ w.ends-is ∙ w.settled-ends-then-ne.ensures
+        | else-ne w ↦ w.ends-is ∙ same-settled (settled_by _ _ _ _ _) _ _ l.1 c.ne.ensures w.if-ne.false
       ],
       omega (
         arith,
         c.if-n-ge-MOST_ENTRIES.false,
       ),
-      ((met _ _ c.entry_at.ensures _ c.in-Some.is).more _ c.in-Some-next.is).2,
+      ((met _ _ c.entry_at-e.ensures).more fits c.if-e.false).2,
     )

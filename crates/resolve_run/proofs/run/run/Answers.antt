@@ -1,61 +1,46 @@
-use mathlib.Core.Path.{refl, ◌∙◌}
+use mathlib.Core.Path.{refl}
 use native.Mathlib.Omega.{arith}
+use borrow.Author.Tests.{not-true, not-false}
 use Rattle.resolve_run.specs.Run.{run_from}
-use Rattle.resolve_run.proofs.RunLaws.{met, unmet, after-uri, after-counted, after-few, ended-few, run_more, run-last, run_none}
+use Rattle.resolve_run.proofs.RunLaws.{met, after-uri, after-counted, after-few, run_more, run-last, run_none}
 use Rattle.resolve_run.proofs.run.run.Goals as goal
 
-pub loop-e-init : goal.loop-e-init
+pub loop-p-init : goal.loop-p-init
 unfolding run_from
-loop-e-init c = (refl, omega arith, omega arith, omega arith)
+loop-p-init c = (refl, omega arith, omega arith, omega arith)
 
-pub returns-in_default : goal.returns-in_default
-returns-in_default c = record {
-  ends = c.ended.ensures ∙ run_none _ _ _ _ _ _ c.loop-e.invariant.0 (unmet _ _ c.entry_at.ensures c.in_default.is);
-  few = ended-few c.ended.ensures (omega arith);
+pub returns-then-not-e : goal.returns-then-not-e
+returns-then-not-e c = record {
+  ends = run_none _ _ _ _ _ c.loop-p.invariant.0 ((met _ _ c.entry_at-e.ensures).none (not-true _ c.if-not-e.true));
+  few = tt;
 }
 
 pub overflow_add-end : goal.overflow_add-end
-overflow_add-end c = omega (arith, (met _ _ c.entry_at.ensures _ c.in-Some.is).inside)
+overflow_add-end c = omega (arith, (met _ _ c.entry_at-e.ensures).inside)
 
 pub slice_bounds-uses-end : goal.slice_bounds-uses-end
-slice_bounds-uses-end c = omega (arith, (met _ _ c.entry_at.ensures _ c.in-Some.is).inside)
+slice_bounds-uses-end c = omega (arith, (met _ _ c.entry_at-e.ensures).inside)
 
 pub taken-p-requires : goal.taken-p-requires
-taken-p-requires c = omega (
-  arith,
-  c.requires.0,
-  c.loop-e.invariant,
-)
+taken-p-requires c = omega (arith, c.requires.0, c.loop-p.invariant)
 
-pub returns-in_default-next : goal.returns-in_default-next
-returns-in_default-next c = let a = after-uri _ _ _ _ _ c.uses-u.ensures c.taken-p.ensures in
-    let l = (met _ _ c.entry_at.ensures _ c.in-Some.is).last c.in_default-next.is in record {
-      ends = c.ended-in_default-next.ensures ∙ run-last _ _ _ _ _ _
-          c.loop-e.invariant.0 _ l a;
-      few = ended-few c.ended-in_default-next.ensures (omega (
-        arith,
-        after-counted _ _ _ _ _ a,
-        c.requires.0,
-        c.loop-e.invariant,
-      ));
+pub returns-then-e : goal.returns-then-e
+returns-then-e c =
+    let a = after-uri _ _ _ _ c.uses-u.ensures c.taken-p.ensures in
+    let l = (met _ _ c.entry_at-e.ensures).last (not-false _ c.if-not-e.false) c.if-e.true in record {
+      ends = run-last _ _ _ _ _ c.loop-p.invariant.0 _ l a;
+      few = omega (arith, after-counted _ _ _ _ a, c.requires.0, c.loop-p.invariant);
     }
 
-pub loop-e-smaller : goal.loop-e-smaller
-loop-e-smaller c = omega (
-  arith,
-  (met _ _ c.entry_at.ensures _ c.in-Some.is).more _ c.in-Some-next.is,
-)
+pub loop-p-smaller : goal.loop-p-smaller
+loop-p-smaller c = omega (arith, (met _ _ c.entry_at-e.ensures).more (not-false _ c.if-not-e.false) c.if-e.false)
 
-pub loop-e-preserved : goal.loop-e-preserved
-loop-e-preserved c = let a = after-uri _ _ _ _ _ c.uses-u.ensures c.taken-p.ensures in
-    let m = (met _ _ c.entry_at.ensures _ c.in-Some.is).more _ c.in-Some-next.is in (
-      run_more _ _ _ _ _ _ c.loop-e.invariant.0 _ _ m.0 a,
-      omega (
-        arith,
-        m.1,
-        after-counted _ _ _ _ _ a,
-        c.loop-e.invariant,
-      ),
+pub loop-p-preserved : goal.loop-p-preserved
+loop-p-preserved c =
+    let a = after-uri _ _ _ _ c.uses-u.ensures c.taken-p.ensures in
+    let m = (met _ _ c.entry_at-e.ensures).more (not-false _ c.if-not-e.false) c.if-e.false in (
+      run_more _ _ _ _ _ c.loop-p.invariant.0 _ _ m.0 a,
+      omega (arith, m.1, after-counted _ _ _ _ a, c.loop-p.invariant),
       m.2,
-      after-few _ _ _ _ _ a c.loop-e.invariant.3,
+      after-few _ _ _ _ a c.loop-p.invariant.3,
     )
