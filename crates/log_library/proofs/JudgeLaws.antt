@@ -8,30 +8,14 @@ use lib.ListN.{get_or, take, drop}
 use lib.Dec.{eqb}
 use borrow.Author.Tests.{eq-eqb, ne_eqb}
 use Rattle.table_decode.specs.Tables.{table_refusal}
-use Rattle.table_decode.specs.Decoded.{Means}
-use Rattle.node_search.specs.declared.decoded.Decoded.{Decoded}
+use Rattle.base_numbers.specs.declared.refusal.Refusal.{Refusal}
+use Rattle.base_numbers.specs.Refusals.{refusal_number}
+use Rattle.base_numbers.proofs.Refusals.{refusal-some}
 use Rattle.resolve_run.specs.declared.Resolution.{Resolution}
 use Rattle.resolve_library.specs.Resolve.{plain_of}
 use Rattle.log_library.specs.Log.{word_at, call_at, after_call, calls_from, calls_of, is_log}
 use Rattle.log_library.specs.Verdict.{same_answer, agrees, refused, all_agree, differs, judged, verdict_of}
 use Rattle.log_library.specs.declared.Verdict.{Verdict}
-
--- three numbers, compared one after another
-module _ (r : Resolution) (s u x : ℕ) {a : ℕ} (e : a ≡ s) where
-  pub said-other : (r.signal ≡ a → ⊥) → false ≡ same_answer r s u x
-  unfolding same_answer
-  said-other n = ap (λ (p : Bool). p && (eqb r.used u && eqb r.skipped x)) (sym (ne_eqb r.signal s (λ q. n (q ∙ sym e))))
-
-  module _ (f : r.signal ≡ a) {b : ℕ} (g : b ≡ u) where
-    signal-same : same_answer r s u x ≡ (eqb r.used u && eqb r.skipped x)
-    unfolding same_answer
-    signal-same = ap (λ (p : Bool). p && (eqb r.used u && eqb r.skipped x)) (eq-eqb r.signal s (f ∙ e))
-
-    pub said-used : (r.used ≡ b → ⊥) → false ≡ same_answer r s u x
-    said-used n = sym (signal-same ∙ ap (λ (p : Bool). p && eqb r.skipped x) (ne_eqb r.used u (λ q. n (q ∙ sym g))))
-
-    pub said-last : r.used ≡ b → {c : ℕ} → c ≡ x → eqb r.skipped c ≡ same_answer r s u x
-    said-last h k = sym (signal-same ∙ ap (λ (p : Bool). p && eqb r.skipped x) (eq-eqb r.used u (h ∙ g)) ∙ ap (eqb r.skipped) (sym k))
 
 -- the calls from a position on
 module _ (t log : List ℕ) (n at k : ℕ) {v : Verdict} (inv : v ≡ judged t k (calls_from log at n)) where
@@ -81,10 +65,8 @@ module _ (t log : List ℕ) where
   unfolding verdict_of
   verdict-log z e = ap (λ (b : Bool). cond b (by_log (is_log log)) (refused (table_refusal t))) (eq-eqb (table_refusal t) 0 z) ∙ ap by_log e
 
-  -- from the decoded table
-  module _ (d : Decoded) (m : Means t d) where
-    pub decoded-refused : (d.refusal ≡ 0 → ⊥) → {r : Verdict} → r ≡ refused d.refusal → r ≡ verdict_of t log
-    decoded-refused n e = e ∙ ap refused m.refusal ∙ sym (verdict-table (λ q. n (m.refusal ∙ q)))
+  pub refused-table : (k : Refusal) → refusal_number k ≡ table_refusal t → {r : Verdict} → r ≡ refused (refusal_number k) → r ≡ verdict_of t log
+  refused-table k e f = f ∙ ap refused e ∙ sym (verdict-table (λ z. omega (arith, refusal-some k, e, z)))
 
-    pub decoded-log : d.refusal ≡ 0 → {b : Bool} → b ≡ is_log log → {c : Bool} → b ≡ c → {r : Verdict} → r ≡ by_log c → r ≡ verdict_of t log
-    decoded-log z e f g = g ∙ sym (verdict-log (sym m.refusal ∙ z) (sym e ∙ f))
+  pub decoded-log : table_refusal t ≡ 0 → {b : Bool} → b ≡ is_log log → {c : Bool} → b ≡ c → {r : Verdict} → r ≡ by_log c → r ≡ verdict_of t log
+  decoded-log z e f g = g ∙ sym (verdict-log z (sym e ∙ f))

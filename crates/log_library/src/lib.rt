@@ -9,12 +9,11 @@
 pub mod c;
 
 ghost use Rattle.std.specs.Prelude.{◌≡◌, ◌+◌, ◌<◌, get_or};
-ghost use Rattle.table_decode.specs.Decoded.{Means};
+ghost use Rattle.table_decode.specs.Decoded.{DecodedAs};
 ghost use Rattle.log_library.specs.Log.{word_at, calls_of, is_log};
 ghost use Rattle.log_library.specs.Verdict.{same_answer, differs as differs_at, judged, verdict_of};
 
-use base_bytes::lent::byte;
-use base_numbers::{BAD_LOG, MOST_LOG_BYTES};
+use base_numbers::{MOST_LOG_BYTES, Refusal};
 use base_text::cut::part;
 use resolve_run::Resolution;
 use table_decode::Decoded;
@@ -64,9 +63,9 @@ fn word(log: &[u8], at: usize) -> usize
     requires { at < 18446744073709551615 }
     ensures { (result ≡ word_at log.now at) × (result < 65536) }
 {
-    let low = byte(log, at) as usize;
-    let high = byte(log, at + 1) as usize;
-    low + 256 * high
+    let low = log.get(at).copied().unwrap_or(0);
+    let high = log.get(at + 1).copied().unwrap_or(0);
+    usize::from(low) + 256 * usize::from(high)
 }
 
 // Not too long, and it ends with its last call.
@@ -77,52 +76,45 @@ fn is_log(log: &[u8]) -> bool
     if MOST_LOG_BYTES < n {
         return false;
     }
-    let mut left = word(log, 0);
+    let calls = word(log, 0);
     let mut at: usize = 2;
-    while 0 < left {
+    for _call in 0..calls {
         let end = at + 2 + word(log, at);
         let next = end + 3;
         if n < next {
             return false;
         }
         at = next;
-        left -= 1;
     }
     at == n
 }
 
 // The three bytes at a position are the resolution's.
+#[tactic(auto, unfolding(crate::specs::Verdict::same_answer))]
 fn says(log: &[u8], at: usize, r: Resolution) -> bool
     requires { at < 18446744073709551613 }
     ensures { result ≡ same_answer r (get_or log.now at 0) (get_or log.now (at + 1) 0) (get_or log.now (at + 2) 0) }
 {
-    if r.signal != byte(log, at) {
-        return false;
-    }
-    if r.used != byte(log, at + 1) {
-        return false;
-    }
-    r.skipped == byte(log, at + 2)
+    r.signal == log.get(at).copied().unwrap_or(0)
+        && r.used == log.get(at + 1).copied().unwrap_or(0)
+        && r.skipped == log.get(at + 2).copied().unwrap_or(0)
 }
 
 // The calls in turn, by the table t, decoded as d.
-fn judge(t: &[u8], d: Decoded, log: &[u8]) -> Verdict
-    requires { Means t.now d }
+fn judge(t: &[u8], d: &Decoded, log: &[u8]) -> Verdict
+    requires { DecodedAs t.now d.now }
     ensures { result ≡ judged t.now 0 (calls_of log.now) }
 {
-    let mut left = word(log, 0);
+    let calls = word(log, 0);
     let mut at: usize = 2;
-    let mut k: u16 = 0;
-    while 0 < left {
+    for k in 0..calls {
         let n = word(log, at);
         let end = at + 2 + n;
         let r = resolve_library::by::plain(t, d, part(log, at + 2, n));
         if !says(log, end, r) {
-            return differs(k, r);
+            return differs(k as u16, r);
         }
         at = end + 3;
-        k += 1;
-        left -= 1;
     }
     without_call(0, 1)
 }
@@ -131,12 +123,14 @@ fn judge(t: &[u8], d: Decoded, log: &[u8]) -> Verdict
 pub fn check(t: &[u8], log: &[u8]) -> Verdict
     ensures { result ≡ verdict_of t.now log.now }
 {
-    let d = table_decode::decode(t);
-    if d.refusal != 0 {
-        return without_call(d.refusal, 0);
+    match table_decode::decode(t) {
+        Ok(d) => {
+            if is_log(log) {
+                judge(t, &d, log)
+            } else {
+                without_call(u8::from(Refusal::BadLog), 0)
+            }
+        }
+        Err(r) => without_call(u8::from(r), 0),
     }
-    if is_log(log) {
-        return judge(t, d, log);
-    }
-    without_call(BAD_LOG, 0)
 }

@@ -27,33 +27,18 @@ use Rattle.node_step.proofs.SearchedBy.{SearchedBy, row-agrees}
 use Rattle.resolve_available.specs.Available.{has_bit}
 use Rattle.resolve_available.specs.Rows.{no_row, row_if}
 
--- signal 0 always counts, the others by their bits
-pub counts-first : (on : ℕ → Bool) (s : ℕ) → s ≡ 0 → true ≡ counts on s
-counts-first on s e = rw e
-
-pub counts-bit : (set s : ℕ) {b : Bool} → (s ≡ 0 → ⊥) → b ≡ has_bit set s → b ≡ counts (has_bit set) s
-counts-bit set zero n e = absurd (n refl)
-counts-bit set (suc s) n e = e
-
--- a row by the test
-pub row-there : {b : Bool} (row : ℕ) → b ≡ true → row ≡ cond b row no_row
-row-there row e = ap (λ b. cond b row no_row) (sym e)
-
-pub row-absent : {b : Bool} (row : ℕ) → b ≡ false → no_row ≡ cond b row no_row
-row-absent row e = ap (λ b. cond b row no_row) (sym e)
-
 -- the first s rows are filled
 pub record Filled (set : ℕ) (rows kept : List ℕ) (s : ℕ) : Type 0 where
   pub wide : length kept ≡ most_signals
   pub so_far : (k : ℕ) → k < s → get_or kept k 0 ≡ row_if (has_bit set) rows k
 
--- one more, by the test
-pub fill-row : (set : ℕ) (rows kept : List ℕ) (s : ℕ) {b : Bool} {row : ℕ} → Filled set rows kept s → s < most_signals → b ≡ counts (has_bit set) s
-    → row ≡ cond b (get_or rows s 0) no_row → Filled set rows (store kept s row) (s + 1)
-fill-row set rows kept s {b} {row} i h e f =
+-- one more
+pub fill-row : (set : ℕ) (rows kept : List ℕ) (s : ℕ) {row : ℕ} → Filled set rows kept s → s < most_signals
+    → row ≡ row_if (has_bit set) rows s → Filled set rows (store kept s row) (s + 1)
+fill-row set rows kept s {row} i h e =
     record {
       wide = length-set kept s row ∙ i.wide;
-      so_far = filled_more (row_if (has_bit set) rows) kept s row (omega (arith, i.wide)) (f ∙ ap (λ b. cond b (get_or rows s 0) no_row) e) i.so_far;
+      so_far = filled_more (row_if (has_bit set) rows) kept s row (omega (arith, i.wide)) e i.so_far;
     }
 
 -- all 32 rows are filled

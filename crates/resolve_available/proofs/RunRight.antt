@@ -20,7 +20,8 @@ use Rattle.node_search.specs.declared.decoded.Decoded.{Decoded}
 use Rattle.resolve_run.specs.declared.run.Current.{Current}
 use Rattle.resolve_run.specs.declared.answer.Ended.{Ended}
 use Rattle.resolve_run.specs.Answers.{taken_as}
-use Rattle.resolve_run.specs.Run.{start_now, Direct, Machine, moved, ended_from}
+use Rattle.resolve_run.specs.declared.run.Current.TheVariants.{Direct}
+use Rattle.resolve_run.specs.Run.{start_now, moved, ended_from}
 use Rattle.resolve_run.proofs.FoldLaws.{Reads, Steps, holds-reads}
 use Rattle.resolve_run.proofs.AnswerLaws.{End, value-ends}
 use Rattle.resolve_run.proofs.DirectLaws.{Counted, shown, begun}
@@ -54,29 +55,28 @@ module _ (t : List ℕ) (d : Decoded) (h : Holds t (table_of t) d) (on : ℕ →
   abbrev reads : Reads t T (among rows d)
   reads = record { uses = (holds-reads t T d h).uses; used = (holds-reads t T d h).used }
 
-  module _ (m : Machine) where
-    run-steps : Steps t T (among rows d) reads m (λ x. AvailableState T on x.at) counts (shown T)
-    unfolding moved
-    run-steps =
-        record {
-          moves = λ x u g w.
-              ap (λ (s : code.State). Direct s (counts x u).count)
-              (step_by d.rows d.parent d.inner d.signals T h.well-formed h.numbers h.inner (find_available T on)
-              (available-laws T on h.well-formed) rows (only-searched on h.numbers) x.at
-              (available-valid T on x.at g) u w.known);
-          stays = λ x u g w. available-step T on h.well-formed x.at u g;
-        }
+  run-steps : Steps t T (among rows d) reads (λ x. AvailableState T on x.at) counts (shown T)
+  unfolding moved
+  run-steps =
+      record {
+        moves = λ x u g w.
+            ap (λ (s : code.State). Direct s (counts x u).count)
+            (step_by d.rows d.parent d.inner d.signals T h.well-formed h.numbers h.inner (find_available T on)
+            (available-laws T on h.well-formed) rows (only-searched on h.numbers) x.at
+            (available-valid T on x.at g) u w.known);
+        stays = λ x u g w. available-step T on h.well-formed x.at u g;
+      }
 
-    abbrev pub last : List ℕ → Counted
-    last v = foldl counts (begun (start T.cats)) (used_of (taken_as t (uris_of v)))
+  abbrev pub last : List ℕ → Counted
+  last v = foldl counts (begun (start T.cats)) (used_of (taken_as t (uris_of v)))
 
-    -- the state at the end is direct resolution's
-    pub last-right : (v : List ℕ) → (last v).at ≡ direct_available T on (used_of (taken_as t (uris_of v)))
-    last-right v = at-over (used_of (taken_as t (uris_of v))) (begun (start T.cats))
+  -- the state at the end is direct resolution's
+  pub last-right : (v : List ℕ) → (last v).at ≡ direct_available T on (used_of (taken_as t (uris_of v)))
+  last-right v = at-over (used_of (taken_as t (uris_of v))) (begun (start T.cats))
 
-    -- the whole value, from signal 0 with every category open
-    pub run-right : (v : List ℕ) {x : Current} → x ≡ Direct start_now 0 → {e : Ended} → e ≡ ended_from t (among rows d) m x v → End t v m (shown T (last v)) e
-    run-right v f q =
-        value-ends t T (among rows d) reads m v (λ x. AvailableState T on x.at) counts (shown T) run-steps (begun (start T.cats))
-        (available-start T on h.well-formed) refl
-        (f ∙ ap (λ (s : code.State). Direct s 0) (sym (coded-start T T.cats))) q
+  -- the whole value, from signal 0 with every category open
+  pub run-right : (v : List ℕ) {x : Current} → x ≡ Direct start_now 0 → {e : Ended} → e ≡ ended_from t (among rows d) x v → End t v (shown T (last v)) e
+  run-right v f q =
+      value-ends t T (among rows d) reads v (λ x. AvailableState T on x.at) counts (shown T) run-steps (begun (start T.cats))
+      (available-start T on h.well-formed) refl
+      (f ∙ ap (λ (s : code.State). Direct s 0) (sym (coded-start T T.cats))) q

@@ -21,7 +21,6 @@ rows_among on rows = tabulate (row_if on rows) most_signals
 abbrev pub among : List ℕ → Decoded → Decoded
 among rows d =
     record {
-      refusal = d.refusal;
       categories = d.categories;
       signals = d.signals;
       nodes = d.nodes;

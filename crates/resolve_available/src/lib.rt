@@ -10,53 +10,48 @@ mod rows;
 
 ghost use Rattle.std.specs.Prelude.{min, ◌≡◌};
 ghost use Rattle.base_numbers.specs.Numbers.{most_signals};
-ghost use Rattle.table_decode.specs.Decoded.{Means};
+ghost use Rattle.table_decode.specs.Decoded.{DecodedAs};
 ghost use Rattle.resolve_available.specs.Available.{has_bit, known, available_of};
 ghost use Rattle.resolve_available.specs.Rows.{rows_among, among as among_of};
 
-use base_bytes::numbers::at_most;
-use base_numbers::{MOST_SIGNALS, UNKNOWN_AVAILABLE};
+use base_numbers::{MOST_SIGNALS, Refusal};
 use resolve_run::Resolution;
 use resolve_run::answer::{direct, value_first};
-use resolve_run::run::at_start;
 use table_decode::Decoded;
 
 // Each bit of the set is one of so many signals, of which there are at most 32.
 pub fn is_known(set: u32, signals: usize) -> bool
     ensures { result ≡ known set (min signals most_signals) }
 {
-    let n = at_most(signals, MOST_SIGNALS);
-    let bits = set as u64;
-    bits >> n == 0
+    u64::from(set) >> signals.min(MOST_SIGNALS) == 0
 }
 
 // The decoded table with the rows of the available signals.
 pub fn among(d: Decoded, set: u32) -> Decoded
     ensures { result ≡ among_of (rows_among (has_bit set) d.rows) d }
 {
-    let rows = rows::only(&d.rows, set);
-    let mut kept = d;
-    kept.rows = rows;
-    kept
+    Decoded {
+        rows: rows::only(&d.rows, set),
+        ..d
+    }
 }
 
 // The value v with the table t, decoded as d, and the signals of the set, bit s for signal s.
 fn by(t: &[u8], d: Decoded, set: u32, v: &[u8]) -> Resolution
-    ensures { Means t.now d → result ≡ available_of t.now set v.now }
+    ensures { DecodedAs t.now d → result ≡ available_of t.now set v.now }
 {
-    if d.refusal != 0 {
-        return value_first(v, d.refusal);
-    }
     if !is_known(set, d.signals) {
-        return value_first(v, UNKNOWN_AVAILABLE);
+        return value_first(v, Refusal::UnknownAvailable);
     }
-    let e = direct(t, among(d, set), at_start(), v);
-    e.answer
+    direct(t, &among(d, set), v).answer
 }
 
 // The value v with the table t and the signals of the set, bit s for signal s.
 pub fn resolve(t: &[u8], set: u32, v: &[u8]) -> Resolution
     ensures { result ≡ available_of t.now set v.now }
 {
-    by(t, table_decode::decode(t), set, v)
+    match table_decode::decode(t) {
+        Ok(d) => by(t, d, set, v),
+        Err(r) => value_first(v, r),
+    }
 }

@@ -9,15 +9,14 @@ use native.Mathlib.Omega.{arith}
 use native.Mathlib.Decide.{dec_lt}
 use borrow.Author.Tests.{le-leb, lt-leb}
 use Rattle.base_numbers.specs.Numbers.{most_entries}
+use Rattle.std.specs.Prelude as option
 use Rattle.value_cursor.specs.Parts.{entry_at}
 use Rattle.value_cursor.specs.declared.alert_param.Span.{Span}
 use Rattle.value_cursor.specs.declared.alert_param.Found.{Found}
 use Rattle.value_cursor.specs.declared.alert_param.Found.TheVariants.{Last, More, None}
 use Rattle.value_reader.specs.Value.{part_of}
-use Rattle.node_step.specs.StatusByte.{step_packed}
 use Rattle.node_step.specs.declared.stored.Packed.{Packed}
-use Rattle.node_search.specs.declared.uses.Use.{Use}
-use Rattle.node_search.specs.declared.uses.Use.TheVariants.{Skipped, Used}
+use Rattle.node_search.specs.declared.uses.Used.{Used}
 use Rattle.node_search.specs.declared.decoded.Decoded.{Decoded}
 use Rattle.resolve_early.specs.FirstEntries.{Front, nothing, only, before, front_from, first_of}
 use Rattle.resolve_early.specs.Run.{use_in, after_use, after_uri, settled_in, reached_at, run_over, run_from}
@@ -27,15 +26,8 @@ use Rattle.resolve_run.specs.Run.{entry_of}
 use Rattle.resolve_run.proofs.RunLaws.{whole_part}
 use Rattle.resolve_run.specs.declared.entry.Entry.{Entry}
 
-module _ (rows ps : List ℕ) (inner : List Bool) (n : ℕ) (st : Packed) (u : Use) where
-  pub after-skipped : u ≡ Skipped → st ≡ after_use rows ps inner n st u
-  after-skipped e = rw e
-
-  pub after-used : {c k m : ℕ} {w : Bool} {r : Packed} → u ≡ Used c k w m → r ≡ step_packed rows ps inner n st c k w → r ≡ after_use rows ps inner n st u
-  after-used e q = rw e q
-
 -- the state after the URI in a part of the value, by what it is to the table
-pub after-uri : (t : List ℕ) (d : Decoded) (v : List ℕ) (st : Packed) (p : Span) {u : Use} {r : Packed}
+pub after-uri : (t : List ℕ) (d : Decoded) (v : List ℕ) (st : Packed) (p : Span) {u : option.Option Used} {r : Packed}
     → u ≡ use_in t d (take (p.start + p.len - p.start) (drop p.start v)) → r ≡ after_use d.rows d.parent d.inner d.signals st u
     → r ≡ after_uri t d st (part_of v p)
 unfolding after_uri
@@ -48,13 +40,9 @@ leb-suc a b = go (dec_lt b a)
     go (yes h) = lt-leb (suc a) (suc b) (omega arith) ∙ sym (lt-leb a b h)
     go (no h) = le-leb (suc a) (suc b) (omega arith) ∙ sym (le-leb a b (omega arith))
 
--- the run begins at the start
-pub run-start : (t : List ℕ) (d : Decoded) (v : List ℕ) (n at : ℕ) {a b : Packed} → b ≡ a → run_from t d v a n at ≡ run_from t d v b n at
-run-start t d v n at e = ap (λ s. run_from t d v s n at) (sym e)
-
-module _ (t : List ℕ) (d : Decoded) (v : List ℕ) (st : Packed) (n at : ℕ) (all : Reached) (inv : all ≡ run_from t d v st n at) (ends : Bool)
+module _ (t : List ℕ) (d : Decoded) (v : List ℕ) (st : Packed) (n at : ℕ) (all : option.Option Reached) (inv : all ≡ run_from t d v st n at) (ends : Bool)
     (is : ends ≡ settled_in d st) where
-  abbrev over : Packed → ℕ → Front → Reached
+  abbrev over : Packed → ℕ → Front → option.Option Reached
   over s k f = run_over t d v s k f.parts f.ended
 
   at_once : ends ≡ true → (l : List Span) (b : Bool) → run_over t d v st n l b ≡ reached_at true st n

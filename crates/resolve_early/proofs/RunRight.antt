@@ -7,6 +7,7 @@ use mathlib.Core.List.{List, [], ◌∷◌, map, foldl}
 use lib.ListN.{take}
 use native.Mathlib.Omega.{arith}
 use native.Mathlib.Nat.{zero-add}
+use Rattle.std.specs.Prelude as found
 use Rattle.value_cursor.specs.declared.alert_param.Span.{Span}
 use Rattle.value_reader.specs.Value.{part_of}
 use Rattle.theory_resolution.specs.Names.{same_parts}
@@ -37,11 +38,11 @@ module _ (T : Table) where
   abbrev next : State → Option Urn → State
   next = step_uri (step (env_of T))
 
-  abbrev reached_at : Bool → State → ℕ → Reached
-  reached_at enough s n = record { enough = enough; signal = s.signal; entries = n }
+  abbrev reached_at : Bool → State → ℕ → found.Option Reached
+  reached_at enough s n = cond enough (found.Some (record { signal = s.signal; entries = n })) found.None
 
   -- the run over a list of URIs as the table takes them
-  abbrev over : State → ℕ → List (Option Urn) → Bool → Reached
+  abbrev over : State → ℕ → List (Option Urn) → Bool → found.Option Reached
   over s n [] ended = reached_at (ended || is_settled T s) s n
   over s n (u ∷ l) ended = cond (is_settled T s) (reached_at true s n) (over (next s u) (n + 1) l ended)
 

@@ -1,29 +1,30 @@
 -- Laws of the test of a state on node numbers, each from the tests that lead to it.
-use Prim.Native.Nat.{ℕ, ◌-◌, ◌≤◌, ◌<◌, min}
-use mathlib.Core.Path.{◌≡◌, sym, ap, ◌∙◌}
-use mathlib.Core.Bool.{Bool, true, false, cond, ◌&&◌}
+use Prim.Native.Nat.{ℕ, ◌<◌, min}
+use mathlib.Core.Path.{◌≡◌, refl, sym, ap, ◌∙◌}
+use mathlib.Core.Bool.{Bool, true, false, cond, not, ◌&&◌}
 use mathlib.Core.List.{List}
 use lib.Dec.{eqb}
 use lib.ListN.{get_or}
-use borrow.Author.Tests.{le-leb, lt-leb, eq-eqb, ne_eqb}
+use borrow.Author.Tests.{lt-ltb, eq-eqb, ne_eqb}
 use Rattle.base_numbers.specs.Numbers.{most_signals}
 use Rattle.base_lists.specs.Lists.{all_below}
-use Rattle.node_step.specs.Step.{digit, put, row_at}
-use Rattle.node_step.specs.StatusByte.{same_packed, step_packed}
+use Rattle.node_step.specs.Step.{digit, put, row_at, place_in, with_place}
 use Rattle.node_step.specs.declared.stored.Packed.{Packed}
+use Rattle.node_step.proofs.ByteLaws.{packed-eq}
 use Rattle.node_step.proofs.PackedStep.{packed-exact}
 use Rattle.resolve_early.specs.SettledBy.{keeps_at, beside, beside_keeps, signal_keeps, held_keeps, category_keeps}
 
-pub beside-is : (row other c : ℕ) {x : ℕ} → x ≡ put row c (digit other c) → eqb x other ≡ beside row other c
-unfolding beside
-beside-is row other c e = ap (λ z. eqb z other) e
+-- a place of one of the 8 categories
+pub place-of : (row c : ℕ) → c < 8 → {p : ℕ} → p ≡ place_in row c → p ≡ digit row c
+unfolding place_in
+place-of row c h e = e ∙ ap (λ b. cond b (digit row c) 0) (lt-ltb c 8 h)
+
+pub beside-is : (row other c : ℕ) → c < 8 → {x p : ℕ} → p ≡ place_in other c → x ≡ with_place row c p → eqb x other ≡ beside row other c
+unfolding with_place beside
+beside-is row other c h {x} {p} e f =
+    ap (λ z. eqb z other) (f ∙ ap (λ b. cond b (put row c p) row) (lt-ltb c 8 h) ∙ ap (put row c) (place-of other c h e))
 
 module _ (rows ps : List ℕ) (inner : List Bool) (n : ℕ) (st : Packed) (c : ℕ) where
-  pub keeps-is : (d : ℕ) (whole : Bool) {r : Packed} → r ≡ step_packed rows ps inner n st c d whole → eqb r.signal st.signal
-      ≡ keeps_at rows ps inner n st c d whole
-  unfolding keeps_at
-  keeps-is d whole e = ap (λ (z : Packed). eqb z.signal st.signal) e
-
   module _ (row other : ℕ) {a : Bool} (e : a ≡ beside row other c) where
     pub beside-no : a ≡ false → true ≡ beside_keeps rows ps inner n st c row other
     unfolding beside_keeps
@@ -40,14 +41,6 @@ module _ (rows ps : List ℕ) (inner : List Bool) (n : ℕ) (st : Packed) (c : �
       → b ≡ signal_keeps rows ps inner n st c s
   unfolding signal_keeps
   signal-is s e k = k ∙ ap (λ z. beside_keeps rows ps inner n st c z (get_or rows s 0)) e
-
-  pub held_none : (b : ℕ) → b ≤ 1 → true ≡ held_keeps rows ps inner n st c b
-  unfolding held_keeps
-  held_none b h = simp (le-leb b 1 h)
-
-  pub held_at : (b : ℕ) {r : Bool} → 1 < b → r ≡ keeps_at rows ps inner n st c (b - 1) false → r ≡ held_keeps rows ps inner n st c b
-  unfolding held_keeps
-  held_at b h e = e ∙ sym (ap (λ z. cond z true (keeps_at rows ps inner n st c (b - 1) false)) (lt-leb b 1 h))
 
   abbrev rest : ℕ → Bool
   rest b = held_keeps rows ps inner n st c b && all_below (min n most_signals) (signal_keeps rows ps inner n st c)
@@ -70,5 +63,10 @@ module _ (rows ps : List ℕ) (inner : List Bool) (n : ℕ) (st : Packed) (c : �
   rest-on b e z i = i ∙ sym (ap (λ x. x && all_below (min n most_signals) (signal_keeps rows ps inner n st c)) (sym e ∙ z))
 
 -- the same state is as settled as it was
-pub same-settled : (f : Packed → Bool) (a b : Packed) {was s : Bool} → was ≡ f a → s ≡ same_packed a b → s ≡ true → was ≡ f b
-same-settled f a b w e z = w ∙ ap f (packed-exact.to a b (sym e ∙ z))
+pub same-settled : (f : Packed → Bool) (a b : Packed) {was n : Bool} → was ≡ f a → n ≡ not (eqb a.signal b.signal && eqb a.statuses b.statuses) → n ≡ false
+    → was ≡ f b
+same-settled f a b w e z = w ∙ ap f (packed-exact.to a b (sym (packed-eq a b) ∙ same (eqb a.signal b.signal && eqb a.statuses b.statuses) (sym e ∙ z)))
+  where
+    same : (x : Bool) → not x ≡ false → x ≡ true
+    same true h = refl
+    same false h = sym h

@@ -9,11 +9,12 @@
 mod run;
 mod settled;
 
-ghost use Rattle.std.specs.Prelude.{◌≡◌};
-ghost use Rattle.table_decode.specs.Decoded.{Means};
+ghost use Rattle.std.specs.Prelude.{◌≡◌, ◌≤◌, length};
+ghost use Rattle.base_numbers.specs.Numbers.{most_value_bytes};
+ghost use Rattle.table_decode.specs.Decoded.{DecodedAs};
 ghost use Rattle.resolve_early.specs.Early.{refused as refused_with, early_of};
 
-use base_numbers::{MOST_VALUE_BYTES, VALUE_TOO_LONG};
+use base_numbers::{MOST_VALUE_BYTES, Refusal};
 use resolve_run::answer::first_number;
 use table_decode::Decoded;
 
@@ -38,29 +39,29 @@ fn refused(k: u8) -> Early
 }
 
 // The value v with the table t, decoded as d.
-fn by(t: &[u8], d: Decoded, v: &[u8]) -> Early
-    ensures { Means t.now d → result ≡ early_of t.now v.now }
+fn by(t: &[u8], d: &Decoded, v: &[u8]) -> Early
+    requires { length v.now ≤ most_value_bytes }
+    ensures { DecodedAs t.now d.now → result ≡ early_of t.now v.now }
 {
-    if MOST_VALUE_BYTES < v.len() {
-        return refused(VALUE_TOO_LONG);
-    }
-    if d.refusal != 0 {
-        return refused(first_number(v, d.refusal));
-    }
-    let r = run::run(t, d, v);
-    if r.enough {
-        return Early {
+    match run::run(t, d, v) {
+        Some(r) => Early {
             refusal: 0,
             signal: r.signal,
             entries: r.entries,
-        };
+        },
+        None => refused(value_reader::refusal(v)),
     }
-    refused(first_number(v, 0))
 }
 
 // The value v with the table t.
 pub fn resolve(t: &[u8], v: &[u8]) -> Early
     ensures { result ≡ early_of t.now v.now }
 {
-    by(t, table_decode::decode(t), v)
+    if MOST_VALUE_BYTES < v.len() {
+        return refused(u8::from(Refusal::ValueTooLong));
+    }
+    match table_decode::decode(t) {
+        Ok(d) => by(t, &d, v),
+        Err(r) => refused(first_number(v, r)),
+    }
 }

@@ -5,6 +5,10 @@ use mathlib.Core.Bool.{true, false, cond}
 use mathlib.Core.List.{List, [], ◌∷◌, foldl}
 use lib.ListN.{length}
 use borrow.Author.Tests.{eq-eqb, ne_eqb}
+use native.Mathlib.Omega.{arith}
+use Rattle.base_numbers.specs.declared.refusal.Refusal.{Refusal}
+use Rattle.base_numbers.specs.Refusals.{refusal_number}
+use Rattle.base_numbers.proofs.Refusals.{refusal-some}
 use Rattle.value_reader.specs.Value.{refusal_of, uris_of}
 use Rattle.theory_resolution.specs.Table.{Urn}
 use Rattle.theory_resolution.specs.Direct.{env_of, step, used_of, StateOf}
@@ -19,14 +23,15 @@ use Rattle.resolve_record.specs.Coded.{Fits, fits_by, state_with, carried_with}
 use Rattle.resolve_record.proofs.FitLaws.{record-right}
 use Rattle.resolve_record.proofs.StateLaws.{state-coded, carried-state, carried-coded}
 use Rattle.table_decode.specs.Tables.{table_refusal, table_of}
-use Rattle.table_decode.specs.Decoded.{Holds, Means}
+use Rattle.table_decode.specs.Decoded.{Holds, DecodedAs}
 use Rattle.node_search.specs.declared.decoded.Decoded.{Decoded}
 use Rattle.table_decode.proofs.Accepting.{accepted}
 use Rattle.resolve_run.specs.declared.Resolution.{Resolution}
 use Rattle.resolve_run.specs.declared.run.Current.{Current}
 use Rattle.resolve_run.specs.declared.answer.Ended.{Ended}
 use Rattle.resolve_library.specs.Resolve.{taken_as}
-use Rattle.resolve_run.specs.Run.{Direct, Machine, signal_now, ended_from}
+use Rattle.resolve_run.specs.declared.run.Current.TheVariants.{Direct}
+use Rattle.resolve_run.specs.Run.{state_of, signal_now, ended_from}
 use Rattle.resolve_library.specs.Feed.{unchanged, only_counted, state_after, goes_on, read_from, feed_of}
 use Rattle.resolve_run.proofs.AnswerLaws.{End}
 use Rattle.resolve_run.proofs.AnswerLaws as ends
@@ -49,8 +54,8 @@ module _ (t : List ℕ) (ok : table_refusal t ≡ 0) (v : List ℕ) (r : Carried
   abbrev end : direct.State
   end = state_after t (state_in (table_of t) r) (uris_of v)
 
-  module _ {m : Machine} {n : ℕ} (x : Ended) where
-    pub read-refused : End t v m (Direct (coded (table_of t) end) n) x → (x.answer.refusal ≡ 0 → ⊥) → record {
+  module _ {n : ℕ} (x : Ended) where
+    pub read-refused : End t v (Direct (coded (table_of t) end) n) x → (x.answer.refusal ≡ 0 → ⊥) → record {
       answer = x.answer;
       carried = counted r;
     } ≡ read_from t r v
@@ -59,32 +64,32 @@ module _ (t : List ℕ) (ok : table_refusal t ≡ 0) (v : List ℕ) (r : Carried
         ∙ sym (ap (λ b. cond b (goes_on t r v) (only_counted (refusal_of v) r)) (ne_eqb (refusal_of v) 0 n))
     read-refused (ends.taken z c e) h = absurd (h (ap (λ (y : Resolution). y.refusal) e))
 
-    pub read_taken : End t v m (Direct (coded (table_of t) end) n) x → x.answer.refusal ≡ 0 → (c : Carried) → c ≡ carried_with x.last.state (r.values + 1)
+    pub read_taken : End t v (Direct (coded (table_of t) end) n) x → x.answer.refusal ≡ 0 → (c : Carried) → c ≡ carried_with (state_of x.last) (r.values + 1)
         → record { answer = x.answer; carried = c } ≡ read_from t r v
     unfolding signal_now
     read_taken (ends.not_taken n e) h c ec = absurd (n (sym (ap (λ (y : Resolution). y.refusal) e) ∙ h))
     read_taken (ends.taken z y e) h c ec =
-        let q : x.last.state ≡ coded (table_of t) end = ap (λ (w : Current). w.state) y in
+        let q : state_of x.last ≡ coded (table_of t) end = ap state_of y in
         let k = ec ∙ ap (λ (w : State). carried_with w (r.values + 1)) q ∙ carried-coded (table_of t) (accepted t ok).few-categories
         (accepted t ok).few-nodes end (r.values + 1) in
         (λ i. record { answer = e i; carried = k i })
         ∙ sym (ap (λ b. cond b (goes_on t r v) (only_counted (refusal_of v) r)) (eq-eqb (refusal_of v) 0 z))
 
 -- the run over a value from what a fitting record carries
-module _ (t : List ℕ) (d : Decoded) (means : Means t d) (ok : table_refusal t ≡ 0) (r : Carried) (wide : length r.status ≡ 8) (fit : Fits (table_of t) r)
-    (m : Machine) (v : List ℕ) where
-  pub fed-ends : {s : State} → s ≡ state_with r → {x : Current} → x ≡ Direct s 0 → {e : Ended} → e ≡ ended_from t d m x v
-      → End t v m (Direct (coded (table_of t) (state_after t (state_in (table_of t) r) (uris_of v)))
-      (tries_over (table_of t) (state_in (table_of t) r) (used_of (taken_as t (uris_of v))))) e
-  fed-ends e f q =
-      let c = state-coded (table_of t) (accepted t ok).few-categories r wide fit in
-      direct-ends t d (means.holds ok) m v (state_in (table_of t) r) (state-carried t ok r wide fit) (f ∙ ap (λ (s : State). Direct s 0) (e ∙ c)) q
+pub fed-ends : (t : List ℕ) (d : Decoded) → DecodedAs t d → (r : Carried) → length r.status ≡ 8 → Fits (table_of t) r → (v : List ℕ)
+    → {s : State} → s ≡ state_with r → {e : Ended} → e ≡ ended_from t d (Direct s 0) v
+    → End t v (Direct (coded (table_of t) (state_after t (state_in (table_of t) r) (uris_of v)))
+    (tries_over (table_of t) (state_in (table_of t) r) (used_of (taken_as t (uris_of v))))) e
+fed-ends t d means r wide fit v e q =
+    let ok = means.refusal in
+    let c = state-coded (table_of t) (accepted t ok).few-categories r wide fit in
+    direct-ends t d means.holds v (state_in (table_of t) r) (state-carried t ok r wide fit) (ap (λ (s : State). Direct s 0) (e ∙ c)) q
 
 module _ (t : List ℕ) (r : Carried) (v : List ℕ) where
   -- feeding, by its tests
-  pub feed-table : {k : ℕ} → k ≡ table_refusal t → (k ≡ 0 → ⊥) → unchanged k r ≡ feed_of t r v
+  pub feed-table : (k : Refusal) → refusal_number k ≡ table_refusal t → unchanged (refusal_number k) r ≡ feed_of t r v
   unfolding feed_of
-  feed-table e n = simp (ne_eqb (table_refusal t) 0 (λ z. n (e ∙ z))) (ap (λ (k : ℕ). unchanged k r) e)
+  feed-table k e = simp (ne_eqb (table_refusal t) 0 (λ z. omega (arith, refusal-some k, e, z))) (ap (λ (n : ℕ). unchanged n r) e)
 
   module _ (ok : table_refusal t ≡ 0) where
     pub feed-unfit : carried_fits (table_of t) r ≡ false → unchanged 28 r ≡ feed_of t r v

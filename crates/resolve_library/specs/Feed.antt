@@ -1,7 +1,9 @@
 -- Several Alert-Info values of one message, fed one after another, with a record carried between them.
-use Rattle.std.specs.Prelude.{ℕ, ◌+◌, cond, eqb}
+use Rattle.std.specs.Prelude.{ℕ, ◌+◌, cond, eqb, Result, Ok, Err}
 use mathlib.Core.List.{List, foldl}
 use Rattle.base_numbers.specs.Numbers.{bad_record, most_values, too_many_values}
+use Rattle.base_numbers.specs.Refusals.{refusal_number}
+use Rattle.base_numbers.specs.declared.refusal.Refusal.{Refusal}
 use Rattle.value_reader.specs.Value.{refusal_of, uris_of}
 use Rattle.theory_resolution.specs.Direct.{State, env_of, step, used_of}
 use Rattle.resolve_record.specs.Record.{state_in, carried_as, carried_fits, counted}
@@ -40,3 +42,8 @@ feed_of t r v =
     cond (eqb (table_refusal t) 0)
     (cond (carried_fits (table_of t) r) (cond (eqb r.values most_values) (unchanged too_many_values r) (read_from t r v)) (unchanged bad_record r))
     (unchanged (table_refusal t) r)
+
+-- what is fed, or a refusal that changes nothing
+abbrev pub fed_as : Carried → Result Fed Refusal → Fed
+fed_as r (Ok f) = f
+fed_as r (Err k) = unchanged (refusal_number k) r

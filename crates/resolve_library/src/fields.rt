@@ -1,25 +1,29 @@
 // One value of a message that has several: direct resolution goes on from what is carried.
 ghost use Rattle.std.specs.Prelude.{◌≡◌, ◌<◌, length};
 ghost use Rattle.base_numbers.specs.Numbers.{most_categories, most_values};
-ghost use Rattle.table_decode.specs.Tables.{table_refusal, table_of};
-ghost use Rattle.table_decode.specs.Decoded.{Means};
+ghost use Rattle.base_numbers.specs.Refusals.{refusal_number};
+ghost use Rattle.table_decode.specs.Tables.{table_of};
+ghost use Rattle.table_decode.specs.Decoded.{DecodedAs};
 ghost use Rattle.resolve_record.specs.Record.{counted as counted_of};
 ghost use Rattle.resolve_record.specs.Coded.{Fits};
 ghost use Rattle.resolve_library.specs.Feed.{unchanged as unchanged_with, read_from};
 
 use crate::Fed;
+use base_numbers::Refusal;
 use resolve_record::Carried;
 use resolve_run::Resolution;
-use resolve_run::answer::{direct, refused};
-use resolve_run::run::at_state;
+use resolve_run::answer::{refused, resolved};
+use resolve_run::run::Current;
 use table_decode::Decoded;
 
 // A refused value changes nothing.
-pub(crate) fn unchanged(k: u8, carried: Carried) -> Fed
-    ensures { result ≡ unchanged_with k carried }
+pub(crate) fn unchanged(r: Refusal, carried: Carried) -> Fed
+    ensures { result ≡ unchanged_with (refusal_number r) carried }
 {
-    let answer = refused(k);
-    Fed { answer, carried }
+    Fed {
+        answer: refused(r),
+        carried,
+    }
 }
 
 // A value that is refused for its own sake is counted.
@@ -27,34 +31,30 @@ fn counted(answer: Resolution, carried: Carried) -> Fed
     requires { carried.values < most_values }
     ensures { result ≡ record { answer = answer; carried = counted_of carried } }
 {
-    let values = carried.values + 1;
-    let kept = carried.status;
-    let next = Carried {
-        signal: carried.signal,
-        status: kept,
-        values,
-    };
     Fed {
         answer,
-        carried: next,
+        carried: Carried {
+            values: carried.values + 1,
+            ..carried
+        },
     }
 }
 
 // One value more, from a record that fits the table and has room for it.
-pub(crate) fn read_from(t: &[u8], d: Decoded, carried: Carried, v: &[u8]) -> Fed
-    requires { Means t.now d × (table_refusal t.now ≡ 0) × Fits (table_of t.now) carried × (length carried.status ≡ most_categories) × (carried.values < most_values) }
+pub(crate) fn read_from(t: &[u8], d: &Decoded, carried: Carried, v: &[u8]) -> Fed
+    requires { DecodedAs t.now d.now × Fits (table_of t.now) carried × (length carried.status ≡ most_categories) × (carried.values < most_values) }
     ensures { result ≡ read_from t.now carried v.now }
 {
-    let start = resolve_record::state(carried);
-    let e = direct(t, d, at_state(start, 0), v);
-    let a = e.answer;
-    if a.refusal != 0 {
-        return counted(a, carried);
+    let from = Current::Direct {
+        state: resolve_record::state(carried),
+        tries: 0,
+    };
+    let e = resolved(t, d, from, v);
+    if e.answer.refusal != 0 {
+        return counted(e.answer, carried);
     }
-    let last = e.last;
-    let next = resolve_record::after(last.state, carried.values + 1);
     Fed {
-        answer: a,
-        carried: next,
+        answer: e.answer,
+        carried: resolve_record::after(e.last.state(), carried.values + 1),
     }
 }

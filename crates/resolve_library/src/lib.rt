@@ -14,9 +14,9 @@ mod fields;
 
 ghost use Rattle.std.specs.Prelude.{◌≡◌};
 ghost use Rattle.resolve_library.specs.Resolve.{plain_with, machine_of};
-ghost use Rattle.resolve_library.specs.Feed.{feed_of};
+ghost use Rattle.resolve_library.specs.Feed.{fed_as, feed_of};
 
-use base_numbers::{BAD_RECORD, MOST_VALUES, TOO_MANY_VALUES};
+use base_numbers::{MOST_VALUES, Refusal};
 use resolve_record::Carried;
 use resolve_run::Resolution;
 
@@ -42,11 +42,10 @@ pub struct Fed {
 pub fn plain(t: &[u8], v: &[u8]) -> PlainResolution
     ensures { result ≡ plain_with t.now v.now }
 {
-    let d = table_decode::decode(t);
-    if d.refusal != 0 {
-        return by::untried(v, d.refusal);
+    match table_decode::decode(t) {
+        Ok(d) => by::tried(t, &d, v),
+        Err(r) => by::untried(v, r),
     }
-    by::tried(t, d, v)
 }
 
 // The machine resolver: the walk of the image, as it is stored, over the value v with the table t.
@@ -56,28 +55,26 @@ pub fn machine(t: &[u8], image: &[u8], v: &[u8]) -> Resolution
     resolve_small::by_image(t, image, v)
 }
 
+// One value more from what is carried, unless the table is refused, or the record does not fit it or has no room.
+fn read(t: &[u8], carried: Carried, v: &[u8]) -> Result<Fed, Refusal>
+    ensures { fed_as carried result ≡ feed_of t.now carried v.now }
+{
+    let d = table_decode::decode(t)?;
+    if !resolve_record::fits(&d, carried) {
+        return Err(Refusal::BadRecord);
+    }
+    if carried.values == MOST_VALUES {
+        return Err(Refusal::TooManyValues);
+    }
+    Ok(fields::read_from(t, &d, carried, v))
+}
+
 // One value of a message that has several: direct resolution goes on from what is carried.
 pub fn feed(t: &[u8], carried: Carried, v: &[u8]) -> Fed
     ensures { result ≡ feed_of t.now carried v.now }
 {
-    let d = table_decode::decode(t);
-    if d.refusal != 0 {
-        return fields::unchanged(d.refusal, carried);
+    match read(t, carried, v) {
+        Ok(fed) => fed,
+        Err(r) => fields::unchanged(r, carried),
     }
-    if !resolve_record::fits(
-        &d.rows,
-        &d.parent,
-        &d.inner,
-        &d.category,
-        d.nodes,
-        d.signals,
-        d.categories,
-        carried,
-    ) {
-        return fields::unchanged(BAD_RECORD, carried);
-    }
-    if carried.values == MOST_VALUES {
-        return fields::unchanged(TOO_MANY_VALUES, carried);
-    }
-    fields::read_from(t, d, carried, v)
 }

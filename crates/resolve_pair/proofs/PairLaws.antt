@@ -7,6 +7,9 @@ use lib.Dec.{eqb}
 use lib.ListN.{length, get_or}
 use borrow.Author.Tests.{eq-eqb, ne_eqb}
 use native.Mathlib.Omega.{arith}
+use Rattle.base_numbers.specs.declared.refusal.Refusal.{Refusal}
+use Rattle.base_numbers.specs.Refusals.{refusal_number}
+use Rattle.base_numbers.proofs.Refusals.{refusal-some}
 use Rattle.base_lists.proofs.Lists.{mem-at, member_of, index-member}
 use Rattle.base_lists.proofs.Below.{all-stop, all-failed}
 use Rattle.base_lists.specs.Lists.{member_by, index_by}
@@ -34,21 +37,27 @@ module _ (ring lamp v : List ℕ) where
   of-value {n} e h = ap refused e ∙ some_number (refusal_of v) (simp (ne_eqb (refusal_of v) 0 (λ z. h (e ∙ z)))) (λ z. h (e ∙ z))
 
   module _ (z : refusal_of v ≡ 0) where
-    pub of-ring : {n : ℕ} → n ≡ table_refusal ring → (n ≡ 0 → ⊥) → refused n ≡ pair_of ring lamp v
-    of-ring {n} e h = ap refused e ∙ some_number (table_refusal ring) (simp (
+    by-ring : {n : ℕ} → n ≡ table_refusal ring → (n ≡ 0 → ⊥) → refused n ≡ pair_of ring lamp v
+    by-ring {n} e h = ap refused e ∙ some_number (table_refusal ring) (simp (
       eq-eqb (refusal_of v) 0 z,
       ne_eqb (table_refusal ring) 0 (λ i. h (e ∙ i)),
     )) (λ i. h (e ∙ i))
 
+    pub of-ring : (k : Refusal) → refusal_number k ≡ table_refusal ring → refused (refusal_number k) ≡ pair_of ring lamp v
+    of-ring k e = by-ring e (λ i. omega (arith, refusal-some k, i))
+
     module _ (zr : table_refusal ring ≡ 0) where
-      pub of-lamp : {n : ℕ} → n ≡ table_refusal lamp → (n ≡ 0 → ⊥) → refused n ≡ pair_of ring lamp v
-      of-lamp {n} e h =
+      by-lamp : {n : ℕ} → n ≡ table_refusal lamp → (n ≡ 0 → ⊥) → refused n ≡ pair_of ring lamp v
+      by-lamp {n} e h =
           ap refused e
           ∙ some_number (table_refusal lamp) (simp (
             eq-eqb (refusal_of v) 0 z,
             eq-eqb (table_refusal ring) 0 zr,
             ne_eqb (table_refusal lamp) 0 (λ i. h (e ∙ i)),
           )) (λ i. h (e ∙ i))
+
+      pub of-lamp : (k : Refusal) → refusal_number k ≡ table_refusal lamp → refused (refusal_number k) ≡ pair_of ring lamp v
+      of-lamp k e = by-lamp e (λ i. omega (arith, refusal-some k, i))
 
       module _ (zl : table_refusal lamp ≡ 0) where
         last : (b : Bool) → apart (category_names ring) (category_names lamp) ≡ b → pair_refusal ring lamp v ≡ cond b 0 24
@@ -92,8 +101,8 @@ pub pair-claim : PairClaim
 pair-claim ring lamp v =
     record {
       of-value = λ n. sym (of-value ring lamp v refl n);
-      of-ring = λ z n. sym (of-ring ring lamp v z refl n);
-      of-lamp = λ z r n. sym (of-lamp ring lamp v z r refl n);
+      of-ring = λ z n. sym (by-ring ring lamp v z refl n);
+      of-lamp = λ z r n. sym (by-lamp ring lamp v z r refl n);
       shared = λ z r l. (shared z r l, λ w. sym (with-24 ring lamp v z r l (not-apart (category_names ring) (category_names lamp) w.0 w.1 w.2)));
       given = λ z r l n.
           by_test (apart (category_names ring) (category_names lamp))

@@ -9,13 +9,12 @@ mod names;
 
 ghost use Rattle.std.specs.Prelude.{◌≡◌};
 ghost use Rattle.value_reader.specs.Value.{refusal_of};
-ghost use Rattle.table_decode.specs.Tables.{table_refusal};
-ghost use Rattle.table_decode.specs.Decoded.{Means};
+ghost use Rattle.table_decode.specs.Decoded.{DecodedAs};
 ghost use Rattle.resolve_pair.specs.Pair.{refused as refused_with, signal_in, pair_of};
+ghost use Rattle.resolve_pair.specs.Alone.{paired};
 
-use base_numbers::SHARED_CATEGORY;
+use base_numbers::Refusal;
 use resolve_run::answer::direct;
-use resolve_run::run::at_start;
 use table_decode::Decoded;
 
 // A refusal number, 0 if nothing is refused; the ring table's signal; and the lamp table's.
@@ -39,12 +38,22 @@ fn refused(k: u8) -> Pair
 }
 
 // The signal of an accepted value with one table.
-fn alone(t: &[u8], d: Decoded, v: &[u8]) -> u8
-    ensures { Means t.now d → table_refusal t.now ≡ 0 → refusal_of v.now ≡ 0 → result ≡ signal_in t.now v.now }
+fn alone(t: &[u8], d: &Decoded, v: &[u8]) -> u8
+    ensures { DecodedAs t.now d.now → refusal_of v.now ≡ 0 → result ≡ signal_in t.now v.now }
 {
-    let e = direct(t, d, at_start(), v);
-    let a = e.answer;
-    a.signal
+    direct(t, d, v).answer.signal
+}
+
+// The signals of an accepted value with the ring table and with the lamp table.
+fn both(ring: &[u8], lamp: &[u8], v: &[u8]) -> Result<(u8, u8), Refusal>
+    ensures { refusal_of v.now ≡ 0 → paired result ≡ pair_of ring.now lamp.now v.now }
+{
+    let r = table_decode::decode(ring)?;
+    let l = table_decode::decode(lamp)?;
+    if !names::apart(ring, &r, lamp, &l) {
+        return Err(Refusal::SharedCategory);
+    }
+    Ok((alone(ring, &r, v), alone(lamp, &l, v)))
 }
 
 // The value v with the ring table and with the lamp table.
@@ -55,31 +64,12 @@ pub fn resolve(ring: &[u8], lamp: &[u8], v: &[u8]) -> Pair
     if n != 0 {
         return refused(n);
     }
-    let r = table_decode::decode(ring);
-    if r.refusal != 0 {
-        return refused(r.refusal);
-    }
-    let l = table_decode::decode(lamp);
-    if l.refusal != 0 {
-        return refused(l.refusal);
-    }
-    if !names::apart(
-        ring,
-        &r.name_at,
-        &r.name_len,
-        r.categories,
-        lamp,
-        &l.name_at,
-        &l.name_len,
-        l.categories,
-    ) {
-        return refused(SHARED_CATEGORY);
-    }
-    let a = alone(ring, r, v);
-    let b = alone(lamp, l, v);
-    Pair {
-        refusal: 0,
-        ring: a,
-        lamp: b,
+    match both(ring, lamp, v) {
+        Ok((a, b)) => Pair {
+            refusal: 0,
+            ring: a,
+            lamp: b,
+        },
+        Err(r) => refused(u8::from(r)),
     }
 }

@@ -1,4 +1,4 @@
--- The test of a record: test by test as the code goes, by the arrays of a table, and in words.
+-- The test of a record: by the arrays of a table, and in words.
 use Prim.Native.Nat.{ℕ, ◌≤◌, ◌<◌}
 use mathlib.Core.Path.{◌≡◌, refl, sym, ap, ◌∙◌}
 use mathlib.Core.Logic.{inl}
@@ -6,7 +6,7 @@ use mathlib.Core.Bool.{Bool, true, false, cond, ◌&&◌, and-eq-true_iff}
 use mathlib.Core.List.{List}
 use lib.Dec.{eqb, leb, ltb}
 use lib.ListN.{length, get_or, get_or-eq_default}
-use borrow.Author.Tests.{eq-eqb, eqb-true, leb-true, le-leb, lt-leb, lt-ltb, le-ltb, ltb-true, ltb-false}
+use borrow.Author.Tests.{eq-eqb, eqb-true, leb-true, le-leb, lt-ltb, le-ltb, ltb-true, ltb-false}
 use native.Mathlib.Decide.{dec_lt}
 use native.Mathlib.Omega.{arith}
 use Rattle.base_lists.proofs.Below.{all-to, all_of, all_same}
@@ -23,32 +23,6 @@ use Rattle.machine_image.proofs.Statuses.{byte-told, fits-right}
 use Rattle.resolve_record.specs.declared.Carried.{Carried}
 use Rattle.resolve_record.specs.Record.{status_fits, carried_fits, Fitting, FitsExactly}
 use Rattle.resolve_record.specs.Coded.{status_by, status_at, fits_by, Fits}
-
--- one category's status, test by test
-module _ (rows ps : List ℕ) (inner : List Bool) (category : List ℕ) (n cats s c b : ℕ) where
-  pub status-listed : {r : Bool} → c < cats → r ≡ node.fits_by rows ps inner category n s c b → r ≡ status_by rows ps inner category n cats s c b
-  unfolding status_by
-  status-listed h e = simp (lt-ltb c cats h) e
-
-  pub status-lacking : cats ≤ c → eqb b 0 ≡ status_by rows ps inner category n cats s c b
-  unfolding status_by
-  status-lacking h = simp (le-ltb c cats h)
-
--- a record, test by test
-module _ (rows ps : List ℕ) (inner : List Bool) (category : List ℕ) (n signals cats : ℕ) (r : Carried) where
-  pub fits-signal : signals ≤ r.signal → false ≡ fits_by rows ps inner category n signals cats r
-  unfolding fits_by
-  fits-signal h = simp (le-ltb r.signal signals h)
-
-  module _ (h : r.signal < signals) where
-    pub fits-values : 16 < r.values → false ≡ fits_by rows ps inner category n signals cats r
-    unfolding fits_by
-    fits-values k = simp (lt-ltb r.signal signals h, lt-leb r.values 16 k)
-
-    pub fits-rest : {b : Bool} → r.values ≤ 16 → b ≡ all_below 8 (status_at rows ps inner category n cats r.signal r.status)
-        → b ≡ fits_by rows ps inner category n signals cats r
-    unfolding fits_by
-    fits-rest k e = simp (lt-ltb r.signal signals h, le-leb r.values 16 k) e
 
 -- by the arrays of a table it is the test of the table
 module _ (t ca pos len : List ℕ) (n : ℕ) (T : Table) (ni : NodesIn t ca pos len n T) (wf : WellFormed T) (rows ps : List ℕ) (signals : ℕ)

@@ -5,20 +5,15 @@ use mathlib.Core.List.{List, [], ◌∷◌, ◌++◌}
 use lib.ListN.{length, get_or, drop, drop_of_length-le}
 use lib.Seq.{drop-cons}
 use native.Mathlib.Omega.{arith}
-use Rattle.resolve_record.specs.declared.Carried.{Carried}
-use Rattle.resolve_record.specs.Record.{bytes_from, carried_in, carried_bytes, BytesLaw}
+use Rattle.resolve_record.specs.Record.{bytes_from, carried_in, BytesLaw}
 
 -- the bytes of a list one by one
-bytes-from : (l : List ℕ) (n at : ℕ) → length l ≡ at + n → bytes_from l at n ≡ drop at l
+pub bytes-from : (l : List ℕ) (n at : ℕ) → length l ≡ at + n → bytes_from l at n ≡ drop at l
 bytes-from l zero at h = let k : length l ≤ at = omega arith in sym (drop_of_length-le l k)
 bytes-from l (suc n) at h =
     let e : at + 1 ≡ suc at = omega arith in
     ap (λ (x : List ℕ). get_or l at 0 ∷ x) (bytes-from l n (at + 1) (omega arith) ∙ ap (λ (k : ℕ). drop k l) e)
     ∙ sym (drop-cons l at 0 (omega arith))
-
--- a record's bytes, one by one
-pub record-bytes : (r : Carried) → length r.status ≡ 8 → r.signal ∷ (bytes_from r.status 0 8 ++ (r.values ∷ [])) ≡ carried_bytes r
-record-bytes r h = ap (λ (l : List ℕ). r.signal ∷ (l ++ (r.values ∷ []))) (bytes-from r.status 8 0 (omega arith))
 
 -- there and back
 pub bytes-law : BytesLaw

@@ -1,12 +1,11 @@
 -- A carried state: its statuses as bytes, as the code has them and as the theory has them.
-use Prim.Native.Nat.{ℕ, zero, suc, ◌+◌, ◌≤◌, ◌<◌}
+use Prim.Native.Nat.{ℕ, zero, suc, ◌≤◌, ◌<◌}
 use mathlib.Core.Path.{◌≡◌, refl, sym, ap, ◌∙◌}
 use mathlib.Core.Bool.{true}
 use mathlib.Core.List.{List, []}
-use lib.ListN.{length, get_or, set, replicate, length-replicate, length-set, get_or-eq_default}
-use lib.Seq.{get_or-set_same, get_or-set_other}
+use lib.ListN.{length, get_or, replicate, length-replicate, get_or-eq_default}
 use borrow.Author.Tests.{eq-eqb, eqb-true}
-use native.Mathlib.Decide.{ℕ_discrete, dec_lt}
+use native.Mathlib.Decide.{dec_lt}
 use native.Mathlib.Nat.{zero-add}
 use native.Mathlib.Omega.{arith}
 use Rattle.base_numbers.specs.Numbers.{most_nodes}
@@ -31,26 +30,6 @@ use Rattle.resolve_record.specs.Record.{fresh, status_in, byte_in, state_in, car
 use Rattle.resolve_record.specs.Coded.{Fits, progress_at, byte_at, state_with, carried_with}
 use Rattle.resolve_record.proofs.FitLaws.{fits-known, fits-lacking}
 
--- an array that is filled from the front
-pub record Filled {A : Type 0} (d : A) (f : ℕ → A) (l : List A) (c : ℕ) : Type 0 where
-  pub wide : length l ≡ 8
-  pub few : c ≤ 8
-  pub so_far : (k : ℕ) → k < c → get_or l k d ≡ f k
-
-module _ {A : Type 0} (d : A) (f : ℕ → A) where
-  pub fill_none : (l : List A) → length l ≡ 8 → Filled d f l 0
-  fill_none l h = record { wide = h; few = omega arith; so_far = λ k i. absurd (omega arith) }
-
-  pub fill_more : (l : List A) (c : ℕ) (x : A) → Filled d f l c → c < 8 → x ≡ f c → Filled d f (set l c x) (c + 1)
-  fill_more l c x i h e = record { wide = length-set l c x ∙ i.wide; few = omega arith; so_far = λ k j. go k j (ℕ_discrete k c) }
-    where
-      go : (k : ℕ) → k < c + 1 → Dec (k ≡ c) → get_or (set l c x) k d ≡ f k
-      go k j (yes z) = rw z (get_or-set_same l c x d (omega (arith, i.wide)) ∙ e)
-      go k j (no z) = get_or-set_other l c k x d z ∙ i.so_far k (omega arith)
-
-  pub fill_done : (l : List A) (c : ℕ) → Filled d f l c → 8 ≤ c → l ≡ tabulate f 8
-  fill_done l c i h = sym (tabulate-entries d l f 8 i.wide (λ k j. sym (i.so_far k (omega arith))))
-
 -- a category without a status
 past_open : (l : List direct.Status) (c : ℕ) → length l ≤ c → get_or l c Open ≡ Open
 past_open l c h = get_or-eq_default l Open h
@@ -72,11 +51,11 @@ module _ (T : Table) (few : T.cats ≤ 8) where
     pub state-coded : state_with r ≡ coded T (state_in T r)
     state-coded =
         ap (λ l. record { signal = r.signal; categories = l })
-        (tabulate-entries (record { status = node.Open }) (coded T (state_in T r)).categories (progress_at r.status) 8
+        (tabulate-entries node.Open (coded T (state_in T r)).categories (progress_at r.status) 8
         (progress-length (nodes T) (state_in T r).status 0 8)
-        (λ c h. ap (λ s. record { status = s }) (at-category c h)
-        ∙ sym (progress-at (nodes T) (state_in T r).status 0 8 c (record { status = node.Open }) h
-        ∙ ap (λ z. record { status = coded_status (nodes T) z (get_or (state_in T r).status z Open) }) (zero-add c))))
+        (λ c h. at-category c h
+        ∙ sym (progress-at (nodes T) (state_in T r).status 0 8 c node.Open h
+        ∙ ap (λ z. coded_status (nodes T) z (get_or (state_in T r).status z Open)) (zero-add c))))
 
     -- it is a state of the table
     pub carried-state : ((i j : ℕ) → i < length T.signals → j < length T.signals → row_of T i ≡ row_of T j → i ≡ j) → StateOf T (state_in T r)

@@ -20,7 +20,8 @@ use Rattle.node_search.specs.declared.decoded.Decoded.{Decoded}
 use Rattle.resolve_run.specs.declared.run.Current.{Current}
 use Rattle.resolve_run.specs.declared.answer.Ended.{Ended}
 use Rattle.resolve_run.specs.Answers.{taken_as}
-use Rattle.resolve_run.specs.Run.{start_now, Direct, Machine, moved, ended_from}
+use Rattle.resolve_run.specs.declared.run.Current.TheVariants.{Direct}
+use Rattle.resolve_run.specs.Run.{start_now, moved, ended_from}
 use Rattle.resolve_run.proofs.FoldLaws.{Reads, Steps, holds-reads}
 use Rattle.resolve_run.proofs.AnswerLaws.{End, value-ends}
 
@@ -49,14 +50,14 @@ counts-over T (u ∷ us) st n =
     counts-over T us (step (env_of T) st u) (n + k)
     ∙ ap (λ (m : ℕ). record { at = foldl (step (env_of T)) (step (env_of T) st u) us; count = m }) e
 
-module _ (t : List ℕ) (d : Decoded) (h : Holds t (table_of t) d) (m : Machine) where
+module _ (t : List ℕ) (d : Decoded) (h : Holds t (table_of t) d) where
   abbrev table : Table
   table = table_of t
 
   abbrev reads : Reads t table d
   reads = holds-reads t table d h
 
-  pub direct-steps : Steps t table d reads m (λ x. StateOf table x.at) (counts table) (shown table)
+  pub direct-steps : Steps t table d reads (λ x. StateOf table x.at) (counts table) (shown table)
   unfolding moved
   direct-steps =
       record {
@@ -69,18 +70,18 @@ module _ (t : List ℕ) (d : Decoded) (h : Holds t (table_of t) d) (m : Machine)
       }
 
   -- the whole value, from a state of the table
-  pub direct-ends : (v : List ℕ) (st : direct.State) → StateOf table st → {x : Current} → x ≡ Direct (coded table st) 0 → {e : Ended} → e ≡ ended_from t d m x v
-      → End t v m (Direct (coded table (foldl (step (env_of table)) st (used_of (taken_as t (uris_of v))))) (tries_over table st (used_of (taken_as t (uris_of v))))) e
+  pub direct-ends : (v : List ℕ) (st : direct.State) → StateOf table st → {x : Current} → x ≡ Direct (coded table st) 0 → {e : Ended} → e ≡ ended_from t d x v
+      → End t v (Direct (coded table (foldl (step (env_of table)) st (used_of (taken_as t (uris_of v))))) (tries_over table st (used_of (taken_as t (uris_of v))))) e
   direct-ends v st g f {e} q =
       let us = used_of (taken_as t (uris_of v)) in
       let z : 0 + tries_over table st us ≡ tries_over table st us = omega arith in
-      subst (λ (x : Current). End t v m x e)
+      subst (λ (x : Current). End t v x e)
       (ap (shown table) (counts-over table us st 0) ∙ ap (Direct (coded table (foldl (step (env_of table)) st us))) z)
-      (value-ends t table d reads m v (λ x. StateOf table x.at) (counts table) (shown table) direct-steps (begun st) g refl f q)
+      (value-ends t table d reads v (λ x. StateOf table x.at) (counts table) (shown table) direct-steps (begun st) g refl f q)
 
   -- from signal 0 with every category open
-  pub plain-ends : (v : List ℕ) → {x : Current} → x ≡ Direct start_now 0 → {e : Ended} → e ≡ ended_from t d m x v
-      → End t v m (Direct (coded table (direct.direct table (used_of (taken_as t (uris_of v)))))
+  pub plain-ends : (v : List ℕ) → {x : Current} → x ≡ Direct start_now 0 → {e : Ended} → e ≡ ended_from t d x v
+      → End t v (Direct (coded table (direct.direct table (used_of (taken_as t (uris_of v)))))
       (tries_over table (start table.cats) (used_of (taken_as t (uris_of v))))) e
   plain-ends v f q =
       direct-ends v (start table.cats) (state-start table h.well-formed)

@@ -17,7 +17,7 @@ use Rattle.resolve_run.proofs.TakenLaws.{used-urn}
 use Rattle.resolve_run.specs.declared.run.Current.{Current}
 use Rattle.resolve_run.specs.declared.run.Point.{Point}
 use Rattle.resolve_run.specs.Answers.{taken_as}
-use Rattle.resolve_run.specs.Run.{Machine, use_in, moved, after_use, after}
+use Rattle.resolve_run.specs.Run.{use_in, moved, after_use, after}
 
 -- what a run needs of the decoded table: what a URI is to it, and that used URNs are of the table
 pub record Reads (t : List ℕ) (T : Table) (d : Decoded) : Type 0 where
@@ -33,11 +33,11 @@ holds-reads t T d h =
           record { known = omega (arith, k.0, h.names.all-names, h.categories); some-part = k.1 };
     }
 
-module _ (t : List ℕ) (T : Table) (d : Decoded) (h : Reads t T d) (m : Machine) where
+module _ (t : List ℕ) (T : Table) (d : Decoded) (h : Reads t T d) where
   -- what a run needs of one step: f on the states s of a kind that `shown` shows as the code has them
   pub record Steps {S : Type 0} (valid : S → Type 0) (f : S → Urn → S) (shown : S → Current) : Type 0 where
     pub moves : (s : S) (u : Urn) → valid s → Used T u
-        → moved d.rows d.parent d.inner d.signals m (shown s) u.cat
+        → moved d.rows d.parent d.inner d.signals (shown s) u.cat
         (number (nodes T) u.cat (deepest (nodes T) u.cat u.path)) (same_parts (deepest (nodes T) u.cat u.path) u.path) ≡ shown (f s u)
     pub stays : (s : S) (u : Urn) → valid s → Used T u → valid (f s u)
 
@@ -47,20 +47,20 @@ module _ (t : List ℕ) (T : Table) (d : Decoded) (h : Reads t T d) (m : Machine
 
     -- the run over a list of URIs
     pub run-fold : (uris : List (List ℕ)) (s : S) (a b : ℕ) → valid s
-        → foldl (after t d m) (at s a b) uris
+        → foldl (after t d) (at s a b) uris
         ≡ at (foldl f s (used_of (taken_as t uris))) (a + used_count (taken_as t uris)) (b + skipped_count (taken_as t uris))
     unfolding after
     run-fold [] s a b v = let p : a ≡ a + 0 = omega arith in let q : b ≡ b + 0 = omega arith in ap₂ (at s) p q
     run-fold (uri ∷ uris) s a b v =
-        ap (λ u. foldl (after t d m) (after_use d.rows d.parent d.inner d.signals m (at s a b) u) uris)
+        ap (λ u. foldl (after t d) (after_use d.rows d.parent d.inner d.signals (at s a b) u) uris)
         (h.uses uri)
         ∙ go (used_urn (category_names t) uri) refl (run-fold uris)
       where
         go : (o : Option Urn) → used_urn (category_names t) uri ≡ o
             → ((s : S) (a b : ℕ) → valid s
-            → foldl (after t d m) (at s a b) uris
+            → foldl (after t d) (at s a b) uris
             ≡ at (foldl f s (used_of (taken_as t uris))) (a + used_count (taken_as t uris)) (b + skipped_count (taken_as t uris)))
-            → foldl (after t d m) (after_use d.rows d.parent d.inner d.signals m (at s a b) (use_of T o)) uris
+            → foldl (after t d) (after_use d.rows d.parent d.inner d.signals (at s a b) (use_of T o)) uris
             ≡ at (foldl f s (used_of (o ∷ taken_as t uris))) (a + used_count (o ∷ taken_as t uris)) (b + skipped_count (o ∷ taken_as t uris))
         go none e ih =
             let q : b + 1 + skipped_count (taken_as t uris) ≡ b + suc (skipped_count (taken_as t uris)) = omega arith in
@@ -68,6 +68,6 @@ module _ (t : List ℕ) (T : Table) (d : Decoded) (h : Reads t T d) (m : Machine
         go (some u) e ih =
             let w = h.used uri u e in
             let q : a + 1 + used_count (taken_as t uris) ≡ a + suc (used_count (taken_as t uris)) = omega arith in
-            ap (λ x. foldl (after t d m) (record { current = x; used = a + 1; skipped = b }) uris) (steps.moves s u v w)
+            ap (λ x. foldl (after t d) (record { current = x; used = a + 1; skipped = b }) uris) (steps.moves s u v w)
             ∙ ih (f s u) (a + 1) b (steps.stays s u v w)
             ∙ ap (λ n. at (foldl f (f s u) (used_of (taken_as t uris))) n (b + skipped_count (taken_as t uris))) q

@@ -1,130 +1,117 @@
 // Answers: a refusal number, or the signal at the end of a value.
 ghost use Rattle.std.specs.Prelude.{◌≡◌, cond, ◌+◌, ◌≤◌, suc, eqb};
 ghost use Rattle.base_numbers.specs.Numbers.{most_value_bytes};
+ghost use Rattle.base_numbers.specs.Refusals.{refusal_number};
 ghost use Rattle.value_reader.specs.Value.{refusal_of};
 ghost use Rattle.resolve_run.specs.Answers.{refused as refused_with};
-ghost use Rattle.resolve_run.specs.Run.{signal_now, unwalked, answer_of, ended_from};
+ghost use Rattle.resolve_run.specs.declared.run.Current.TheVariants.{Direct};
+ghost use Rattle.resolve_run.specs.Run.{start_now, signal_now, answer_of, ended_from};
 
 use crate::Resolution;
-use crate::run::{Current, Outcome, begin_at, run};
-use base_numbers::{
-    MOST_ENTRIES, MOST_VALUE_BYTES, TOO_MANY_ENTRIES, VALUE_MISFIT, VALUE_TOO_LONG,
-};
+use crate::run::{Current, Point, begin_at, run, start};
+use base_numbers::{MOST_ENTRIES, MOST_VALUE_BYTES, Refusal};
 use table_decode::Decoded;
 
 // Where a resolver ends: its answer, and where it is.
 #[derive(Clone, Copy)]
-pub struct Ended {
+pub struct Ended<'a> {
     pub answer: Resolution,
-    pub last: Current,
+    pub last: Current<'a>,
 }
 
 // Refused: all zero but the number.
-pub fn refused(k: u8) -> Resolution
-    ensures { result ≡ refused_with k }
+pub fn refused(r: Refusal) -> Resolution
+    ensures { result ≡ refused_with (refusal_number r) }
+{
+    numbered(u8::from(r))
+}
+
+// Refused with that number.
+fn numbered(n: u8) -> Resolution
+    ensures { result ≡ refused_with n }
 {
     Resolution {
-        refusal: k,
+        refusal: n,
         signal: 0,
         used: 0,
         skipped: 0,
     }
 }
 
-// The value's number if it is refused, else this one.
-pub fn first_number(v: &[u8], k: u8) -> u8
-    ensures { result ≡ cond (eqb (refusal_of v.now) 0) k (refusal_of v.now) }
+// The value's number if it is refused, else that of r.
+pub fn first_number(v: &[u8], r: Refusal) -> u8
+    ensures { result ≡ cond (eqb (refusal_of v.now) 0) (refusal_number r) (refusal_of v.now) }
 {
     let n = value_reader::refusal(v);
-    if n == 0 {
-        return k;
-    }
-    n
+    if n == 0 { u8::from(r) } else { n }
 }
 
 // Refused with that number.
-pub fn value_first(v: &[u8], k: u8) -> Resolution
-    ensures { result ≡ refused_with (cond (eqb (refusal_of v.now) 0) k (refusal_of v.now)) }
+pub fn value_first(v: &[u8], r: Refusal) -> Resolution
+    ensures { result ≡ refused_with (cond (eqb (refusal_of v.now) 0) (refusal_number r) (refusal_of v.now)) }
 {
-    refused(first_number(v, k))
+    numbered(first_number(v, r))
 }
 
 // The signal where a resolver is.
-fn signal_in(categories: usize, image: &[u8], current: Current) -> u8
-    ensures { result ≡ signal_now categories image.now current }
+#[tactic(auto, unfolding(crate::specs::Run::signal_now))]
+fn signal_at(x: Current) -> u8
+    ensures { result ≡ signal_now x.entry }
 {
-    if current.walks {
-        return machine_check::image::signal(image, categories, current.number);
+    match x {
+        Current::Direct { state, tries: _ } => state.signal,
+        Current::Walking(walk, j) => walk.signal(j),
     }
-    let st = current.state;
-    st.signal
 }
 
 // The answer at the end of a value.
-fn answer(o: Outcome, signal: u8) -> Resolution
-    requires { o.point.used + o.point.skipped ≤ suc most_value_bytes }
-    ensures { result ≡ answer_of o signal }
+#[tactic(auto, unfolding(crate::specs::Run::answer_of, base_numbers::specs::Refusals::refusal_number))]
+fn answer(p: Point) -> Resolution
+    requires { p.used + p.skipped ≤ suc most_value_bytes }
+    ensures { result ≡ answer_of p.entry (signal_now p.entry.current) }
 {
-    if !o.fits {
-        return refused(VALUE_MISFIT);
-    }
-    let used = o.point.used;
-    let skipped = o.point.skipped;
-    if MOST_ENTRIES < used + skipped {
-        return refused(TOO_MANY_ENTRIES);
+    if MOST_ENTRIES < p.used + p.skipped {
+        return refused(Refusal::TooManyEntries);
     }
     Resolution {
         refusal: 0,
-        signal,
-        used: used as u8,
-        skipped: skipped as u8,
+        signal: signal_at(p.current),
+        used: p.used as u8,
+        skipped: p.skipped as u8,
     }
 }
 
-// A whole value, from where a resolver begins; no candidate is tried yet. The states of the image have a byte for each of so many
-// categories: the table's, or none in a small image.
-pub fn resolved(
-    t: &[u8],
-    d: Decoded,
-    index: &[u8],
-    symbols: &[u8],
-    count: usize,
-    categories: usize,
-    image: &[u8],
-    from: Current,
-    v: &[u8],
-) -> Ended
-    ensures { result ≡ ended_from t.now d (record { index = index.entry.now; symbols = symbols.now; count = count; categories = categories; image = image.now }) from v.now }
+// A whole value, from where a resolver begins; no candidate is tried yet.
+#[tactic(auto, unfolding(crate::specs::Run::ended_from, base_numbers::specs::Refusals::refusal_number))]
+pub fn resolved<'a>(t: &[u8], d: &Decoded, from: Current<'a>, v: &[u8]) -> Ended<'a>
+    ensures { result ≡ ended_from t.now d.now from.entry v.now }
 {
     if MOST_VALUE_BYTES < v.len() {
         return Ended {
-            answer: refused(VALUE_TOO_LONG),
+            answer: refused(Refusal::ValueTooLong),
             last: from,
         };
     }
-    let o = run(
-        t,
-        d,
-        index,
-        symbols,
-        count,
-        categories,
-        image,
-        begin_at(from),
-        v,
-    );
-    let p = o.point;
-    let last = p.current;
-    let signal = signal_in(categories, image, last);
-    let answer = answer(o, signal);
-    Ended { answer, last }
+    let first = begin_at(from);
+    match run(t, d, first, v) {
+        Some(p) => Ended {
+            answer: answer(p),
+            last: p.current,
+        },
+        None => Ended {
+            answer: refused(Refusal::ValueMisfit),
+            last: first.current,
+        },
+    }
 }
 
-// The same by direct resolution, which needs no image: all that a walk goes by is empty.
-pub fn direct(t: &[u8], d: Decoded, from: Current, v: &[u8]) -> Ended
-    ensures { result ≡ ended_from t.now d unwalked from v.now }
+// The same by direct resolution, from signal 0 with every category open.
+pub fn direct<'a>(t: &[u8], d: &Decoded, v: &[u8]) -> Ended<'a>
+    ensures { result ≡ ended_from t.now d.now (Direct start_now 0) v.now }
 {
-    let z = 0;
-    let empty = &t[z..z];
-    resolved(t, d, empty, empty, 0, 0, empty, from, v)
+    let from = Current::Direct {
+        state: start(),
+        tries: 0,
+    };
+    resolved(t, d, from, v)
 }

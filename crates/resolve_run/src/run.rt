@@ -1,106 +1,96 @@
 // Going through a value from entry to entry, with the state after those passed.
-ghost use Rattle.std.specs.Prelude.{◌≡◌, ◌+◌, ◌*◌, ◌≤◌, suc, length};
-ghost use Rattle.base_numbers.specs.Numbers.{most_value_bytes};
-ghost use Rattle.resolve_run.specs.Run.{start_now, Direct, Walk, walked_to, begin, moved, after_use, run_from};
+ghost use Rattle.std.specs.Prelude.{◌≡◌, ◌+◌, ◌*◌, ◌≤◌, suc, min, length, IfSome};
+ghost use Rattle.base_numbers.specs.Numbers.{most_categories, most_value_bytes};
+ghost use Rattle.machine_image.specs.Image.{signal_in};
+ghost use Rattle.resolve_run.specs.Run.{start_now, target_now, state_of, tries_of, begin, moved, after_use, run_from};
 
 use crate::entry::entry_at;
-use base_numbers::{MOST_CATEGORIES, MOST_NODES, MOST_SIGNALS};
-use node_search::uses::{Use, uses};
-use node_step::{Progress, State, Status};
+use base_numbers::MOST_CATEGORIES;
+use machine_symbols::Symbols;
+use node_search::uses::{Used, uses};
+use node_step::{State, Status};
 use table_decode::Decoded;
 
-// Where a resolver is: a state of direct resolution, with the candidates tried so far, or, if it walks, a state's number in an
-// image.
+// What a walk goes by: a table's symbols, and an image whose states have a byte for each of so many categories:
+// the table's, or none in a small image.
 #[derive(Clone, Copy)]
-pub struct Current {
-    pub walks: bool,
-    pub number: u8,
-    pub state: State,
-    pub tries: u16,
+pub struct Walk<'a> {
+    pub symbols: &'a Symbols,
+    pub categories: usize,
+    pub image: &'a [u8],
+}
+
+impl Walk<'_> {
+    // The target that the row of state j holds for the symbol of a used URN.
+    fn target(&self, d: &Decoded, j: u8, c: u8, k: u8, whole: bool) -> u8
+        ensures { result ≡ target_now d.now.inner self.now j c k whole }
+    {
+        let n = self.symbols.number(d, c, k, whole);
+        machine_check::image::target(self.image, self.categories, j, n)
+    }
+
+    // The signal of state j.
+    pub(crate) fn signal(&self, j: u8) -> u8
+        ensures { result ≡ signal_in (min self.now.categories most_categories) self.now.image.now j }
+    {
+        machine_check::image::signal(self.image, self.categories, j)
+    }
+}
+
+// Where a resolver is: at a state of direct resolution, with the candidates tried so far, or at a state of the image that it walks.
+#[derive(Clone, Copy)]
+pub enum Current<'a> {
+    Direct { state: State, tries: u16 },
+    Walking(Walk<'a>, u8),
+}
+
+impl Current<'_> {
+    // The state of direct resolution: the start for a walk.
+    pub fn state(&self) -> State
+        ensures { result ≡ state_of self.now }
+    {
+        match self {
+            Current::Direct { state, tries: _ } => *state,
+            Current::Walking(_, _) => start(),
+        }
+    }
+
+    // The candidates tried: none by a walk.
+    pub fn tries(&self) -> u16
+        ensures { result ≡ tries_of self.now }
+    {
+        match self {
+            Current::Direct { state: _, tries } => *tries,
+            Current::Walking(_, _) => 0,
+        }
+    }
 }
 
 // Where a resolver is after some entries, with the numbers of used and skipped ones.
 #[derive(Clone, Copy)]
-pub struct Point {
-    pub current: Current,
+pub struct Point<'a> {
+    pub current: Current<'a>,
     pub used: usize,
     pub skipped: usize,
 }
 
-// A whole value: whether it fits the grammar, and where the resolver is at its end.
-#[derive(Clone, Copy)]
-pub struct Outcome {
-    pub fits: bool,
-    pub point: Point,
-}
-
 // Signal 0, and every category open.
-fn start() -> State
+pub(crate) fn start() -> State
     ensures { result ≡ start_now }
 {
-    let open = Progress {
-        status: Status::Open,
-    };
     State {
         signal: 0,
-        categories: [open; MOST_CATEGORIES],
-    }
-}
-
-// At a state of direct resolution, after so many tries.
-pub fn at_state(state: State, tries: u16) -> Current
-    ensures { result ≡ Direct state tries }
-{
-    Current {
-        walks: false,
-        number: 0,
-        state,
-        tries,
-    }
-}
-
-// At the start of direct resolution.
-pub fn at_start() -> Current
-    ensures { result ≡ Direct start_now 0 }
-{
-    at_state(start(), 0)
-}
-
-// At a state of an image.
-pub fn at_number(number: u8) -> Current
-    ensures { result ≡ Walk number }
-{
-    Current {
-        walks: true,
-        number,
-        state: start(),
-        tries: 0,
-    }
-}
-
-// A walk at another state of its image.
-fn walked_to(x: Current, number: u8) -> Current
-    ensures { result ≡ walked_to x number }
-{
-    let state = x.state;
-    Current {
-        walks: true,
-        number,
-        state,
-        tries: x.tries,
+        categories: [Status::Open; MOST_CATEGORIES],
     }
 }
 
 // No entry read yet, and no candidate tried.
 pub(crate) fn begin_at(x: Current) -> Point
-    ensures { result ≡ begin x }
+    ensures { result ≡ begin x.entry }
 {
-    let state = x.state;
-    let current = Current {
-        walks: x.walks,
-        number: x.number,
-        state,
-        tries: 0,
+    let current = match x {
+        Current::Direct { state, tries: _ } => Current::Direct { state, tries: 0 },
+        Current::Walking(walk, j) => Current::Walking(walk, j),
     };
     Point {
         current,
@@ -109,131 +99,62 @@ pub(crate) fn begin_at(x: Current) -> Point
     }
 }
 
-fn ended(fits: bool, point: Point) -> Outcome
-    ensures { result ≡ record { fits = fits; point = point } }
-{
-    Outcome { fits, point }
-}
-
 // A used URN takes direct resolution one step on, or the walk to the target that the state's row holds for its symbol.
-fn moved_by<'a>(
-    rows: &'a [u64; MOST_SIGNALS],
-    parent: &'a [u8; MOST_NODES],
-    inner: &'a [bool; MOST_NODES],
-    signals: usize,
-    index: &[u8],
-    symbols: &[u8],
-    count: usize,
-    categories: usize,
-    image: &[u8],
-    current: Current,
-    c: u8,
-    k: u8,
-    w: bool,
-) -> Current
-    requires { current.tries ≤ 40960 }
-    ensures { result ≡ moved rows.now parent.now inner.now signals
-        (record { index = index.entry.now; symbols = symbols.now; count = count; categories = categories; image = image.now }) current c k w }
+#[tactic(auto, unfolding(crate::specs::Run::moved))]
+fn moved_by<'a>(d: &Decoded, current: Current<'a>, c: u8, k: u8, whole: bool) -> Current<'a>
+    requires { tries_of current ≤ 40960 }
+    ensures { result ≡ moved d.now.rows d.now.parent d.now.inner d.now.signals current.entry c k whole }
 {
-    if current.walks {
-        let n = machine_symbols::number(index, symbols, count, inner, c, k, w);
-        let number = machine_check::image::target(image, categories, current.number, n);
-        return walked_to(current, number);
+    match current {
+        Current::Direct { state, tries } => {
+            let counted = node_step::tries::step(d, state, usize::from(c), k, whole);
+            Current::Direct {
+                state: counted.state,
+                tries: tries + u16::from(counted.tries),
+            }
+        }
+        Current::Walking(walk, j) => Current::Walking(walk, walk.target(d, j, c, k, whole)),
     }
-    let category = c as usize;
-    let st = current.state;
-    let counted = node_step::tries::step(rows, parent, inner, signals, st, category, k, w);
-    let tries = current.tries + counted.tries as u16;
-    at_state(counted.state, tries)
 }
 
 // One URI more, by what it is to the table.
-fn taken<'a>(
-    rows: &'a [u64; MOST_SIGNALS],
-    parent: &'a [u8; MOST_NODES],
-    inner: &'a [bool; MOST_NODES],
-    signals: usize,
-    index: &[u8],
-    symbols: &[u8],
-    count: usize,
-    categories: usize,
-    image: &[u8],
-    p: Point,
-    u: Use,
-) -> Point
-    requires { (p.used + p.skipped ≤ most_value_bytes) × (p.current.tries ≤ 10 * p.used) }
-    ensures { result ≡ after_use rows.now parent.now inner.now signals
-        (record { index = index.entry.now; symbols = symbols.now; count = count; categories = categories; image = image.now }) p u }
+fn taken<'a>(d: &Decoded, p: Point<'a>, found: Option<Used>) -> Point<'a>
+    requires { (p.used + p.skipped ≤ most_value_bytes) × (tries_of p.current ≤ 10 * p.used) }
+    ensures { result ≡ after_use d.now.rows d.now.parent d.now.inner d.now.signals p.entry found }
 {
-    let current = p.current;
-    match u {
-        Use::Skipped => Point {
-            current,
+    match found {
+        Some(u) => Point {
+            current: moved_by(d, p.current, u.category, u.node, u.whole),
+            used: p.used + 1,
+            skipped: p.skipped,
+        },
+        None => Point {
+            current: p.current,
             used: p.used,
             skipped: p.skipped + 1,
         },
-        Use::Used {
-            category: c,
-            node: k,
-            whole: w,
-            compared: _,
-        } => {
-            let next = moved_by(
-                rows, parent, inner, signals, index, symbols, count, categories, image, current, c,
-                k, w,
-            );
-            Point {
-                current: next,
-                used: p.used + 1,
-                skipped: p.skipped,
-            }
-        }
     }
 }
 
-// From entry to entry through the value.
-pub(crate) fn run(
-    t: &[u8],
-    d: Decoded,
-    index: &[u8],
-    symbols: &[u8],
-    count: usize,
-    categories: usize,
-    image: &[u8],
-    from: Point,
-    v: &[u8],
-) -> Outcome
-    requires { (length v.now ≤ most_value_bytes) × (from.used + from.skipped ≡ 0) × (from.current.tries ≡ 0) }
-    ensures ends { result ≡ run_from t.now d (record { index = index.entry.now; symbols = symbols.now; count = count; categories = categories; image = image.now }) v.now from 0 }
-    ensures few { result.point.used + result.point.skipped ≤ suc most_value_bytes }
+// From entry to entry through the value: where the resolver is at its end, unless it does not fit the grammar.
+pub(crate) fn run<'a>(t: &[u8], d: &Decoded, from: Point<'a>, v: &[u8]) -> Option<Point<'a>>
+    requires { (length v.now ≤ most_value_bytes) × (from.used + from.skipped ≡ 0) × (tries_of from.current ≡ 0) }
+    ensures ends { result ≡ run_from t.now d.now v.now from.entry 0 }
+    ensures few { IfSome result (λ p. p.used + p.skipped ≤ suc most_value_bytes) }
 {
     let mut at = 0;
     let mut p = from;
     loop {
         let e = entry_at(v, at);
         if !e.fits {
-            return ended(false, from);
+            return None;
         }
         let start = e.span.start;
         let end = start + e.span.len;
-        let u = uses(
-            t,
-            &d.name_at,
-            &d.name_len,
-            d.categories,
-            &d.category,
-            &d.at,
-            &d.len,
-            &d.shared,
-            &d.inner,
-            d.nodes,
-            &v[start..end],
-        );
-        p = taken(
-            &d.rows, &d.parent, &d.inner, d.signals, index, symbols, count, categories, image, p, u,
-        );
+        let u = uses(t, d, &v[start..end]);
+        p = taken(d, p, u);
         if e.last {
-            return ended(true, p);
+            return Some(p);
         }
         at = e.next;
     }

@@ -6,6 +6,9 @@ use mathlib.Core.List.{List}
 use lib.Dec.{eqb}
 use borrow.Author.Tests.{eq-eqb}
 use Rattle.base_numbers.specs.Numbers.{most_nodes, most_symbols}
+use Rattle.base_numbers.specs.declared.refusal.Refusal.{Refusal}
+use Rattle.base_numbers.specs.declared.refusal.Refusal.TheVariants.{ImageBadForm}
+use Rattle.base_numbers.specs.Refusals.{refusal_number}
 use Rattle.base_lists.proofs.Numbers.{min-le}
 use Rattle.base_lists.proofs.Bools.{by_test}
 use Rattle.value_reader.specs.Value.{refusal_of, uris_of}
@@ -13,15 +16,18 @@ use Rattle.theory_resolution.proofs.Claim.{run-used}
 use Rattle.machine_image.specs.Image.{signal_in, target_in}
 use Rattle.node_step.specs.StatusByte.{fits_by}
 use Rattle.table_decode.specs.Tables.{table_refusal, table_of}
-use Rattle.table_decode.specs.Decoded.{Holds, Means}
+use Rattle.table_decode.specs.Decoded.{DecodedAs}
 use Rattle.node_search.specs.declared.decoded.Decoded.{Decoded}
 use Rattle.machine_symbols.specs.Listed.{SymbolsIn, triple_lists, symbols_of, index_from}
+use Rattle.machine_symbols.proofs.SymbolLaws.{lists-indexed}
 use Rattle.machine_symbols.specs.declared.Symbols.{Symbols}
 use Rattle.machine_symbols.proofs.NumberRight.{number-right}
 use Rattle.machine_check.specs.Checks.{form_by}
 use Rattle.machine_library.proofs.TableRight.{table-symbols}
 use Rattle.resolve_run.specs.Answers.{taken_as, refused, answered, unless_refused}
-use Rattle.resolve_run.specs.Run.{Walk, Machine, moved, signal_now, ended_from}
+use Rattle.resolve_run.specs.declared.run.Walk.{Walk}
+use Rattle.resolve_run.specs.declared.run.Current.TheVariants.{Walking}
+use Rattle.resolve_run.specs.Run.{moved, signal_now, ended_from}
 use Rattle.resolve_run.specs.declared.run.Current.{Current}
 use Rattle.resolve_run.specs.declared.answer.Ended.{Ended}
 use Rattle.resolve_run.proofs.FoldLaws.{Steps, holds-reads}
@@ -36,13 +42,14 @@ use Rattle.resolve_run.specs.declared.Resolution.{Resolution}
 
 -- the answers by their tests
 module _ (n : ℕ) (t im v : List ℕ) where
-  pub over-table : {k : ℕ} → k ≡ table_refusal t → (k ≡ 0 → ⊥) → refused (cond (eqb (refusal_of v) 0) k (refusal_of v)) ≡ resolved_over n t im v
+  pub over-table : (k : Refusal) → refusal_number k ≡ table_refusal t → refused (cond (eqb (refusal_of v) 0) (refusal_number k) (refusal_of v)) ≡ resolved_over n t im v
   unfolding resolved_over
-  over-table e q = refused-first t v _ e q
+  over-table k e = refused-first t v _ k e
 
   -- 15 comes after the value's and the table's numbers
-  over-form : table_refusal t ≡ 0 → form_over n (table_of t) im ≡ false → refused (cond (eqb (refusal_of v) 0) 15 (refusal_of v)) ≡ resolved_over n t im v
-  unfolding resolved_over
+  over-form : table_refusal t ≡ 0 → form_over n (table_of t) im ≡ false
+      → refused (cond (eqb (refusal_of v) 0) (refusal_number ImageBadForm) (refusal_of v)) ≡ resolved_over n t im v
+  unfolding resolved_over refusal_number
   over-form z e = by_test (eqb (refusal_of v) 0) (λ q. simp (q, eq-eqb (table_refusal t) 0 z, e)) (λ q. simp q)
 
 -- the same number of categories, said otherwise
@@ -50,56 +57,61 @@ pub over-same : (t im v : List ℕ) {n k : ℕ} {r : Resolution} → r ≡ resol
 over-same t im v e q = e ∙ ap (λ n. resolved_over n t im v) q
 
 -- a decoded table and its listed symbols
-module _ (t : List ℕ) (d : Decoded) (means : Means t d) (z : d.refusal ≡ 0) (n : ℕ) (within : n ≤ d.categories) {s : Symbols}
+module _ (t : List ℕ) (d : Decoded) (means : DecodedAs t d) (n : ℕ) (within : n ≤ d.categories) {s : Symbols}
     (listed : s ≡ symbols_of (triple_lists d.category d.inner (min d.nodes most_nodes) (min d.categories 8))) where
-  accepts : table_refusal t ≡ 0
-  accepts = sym means.refusal ∙ z
-
-  held : Holds t (table_of t) d
-  held = means.holds accepts
-
   symbols-listed : SymbolsIn (table_of t) s.bytes s.count
-  symbols-listed = table-symbols t d means z s listed
+  symbols-listed = table-symbols t d means s listed
 
   form-listed : (im : List ℕ) {f : Bool}
       → f ≡ form_by (fits_by d.rows d.parent d.inner d.category d.nodes) s.bytes s.count d.signals n im → f ≡ form_over n (table_of t) im
   form-listed im e =
+      let held = means.holds in
       e
-      ∙ form-over t d.category d.at d.len d.nodes (table_of t) held.nodes held.well-formed (accepted t accepts).rows
+      ∙ form-over t d.category d.at d.len d.nodes (table_of t) held.nodes held.well-formed (accepted t means.refusal).rows
       d.rows d.parent d.signals held.numbers
       d.inner held.inner s.bytes s.count symbols-listed im n (omega (arith, within, held.categories))
 
   -- an image of wrong form
   pub unformed : (im v : List ℕ) {f : Bool}
       → f ≡ form_by (fits_by d.rows d.parent d.inner d.category d.nodes) s.bytes s.count d.signals n im → f ≡ false
-      → refused (cond (eqb (refusal_of v) 0) 15 (refusal_of v)) ≡ resolved_over n t im v
-  unformed im v e q = over-form n t im v accepts (sym (form-listed im e) ∙ q)
+      → refused (cond (eqb (refusal_of v) 0) (refusal_number ImageBadForm) (refusal_of v)) ≡ resolved_over n t im v
+  unformed im v e q = over-form n t im v means.refusal (sym (form-listed im e) ∙ q)
 
-  -- one of right form, walked from state 0
-  module _ (ix im : List ℕ) (indexed : ix ≡ index_from s.bytes 0 (min s.count most_symbols)) where
-    abbrev m : Machine
-    m = record { index = ix; symbols = s.bytes; count = s.count; categories = n; image = im }
+-- an image of right form, walked from state 0
+module _ (t : List ℕ) (d : Decoded) (means : DecodedAs t d) (w : Walk) (within : w.categories ≤ d.categories)
+    (listed : w.symbols.now ≡ symbols_of (triple_lists d.category d.inner (min d.nodes most_nodes) (min d.categories 8))) where
+  abbrev n : ℕ
+  n = w.categories
 
-    few : min n 8 ≡ n
-    few = sym (min-le n 8 (omega (arith, within, held.categories, held.numbers.few-cats)))
+  abbrev im : List ℕ
+  im = w.image.now
 
-    walk_steps : Steps t (table_of t) d (holds-reads t (table_of t) d held) m (λ j. Unit) (step_over n (table_of t) im) Walk
-    unfolding moved
-    walk_steps =
-        record {
-          moves = λ j u v w. ap₂ (λ a k. Walk (target_in a im j k)) few
-              (number-right t d.category d.at d.len d.nodes (table_of t) held.nodes d.rows d.parent d.signals
-              held.numbers d.inner held.inner
-              held.well-formed s.bytes s.count symbols-listed ix indexed u);
-          stays = λ j u v w. tt;
-        }
+  abbrev symbols : Symbols
+  symbols = w.symbols.now
 
-    pub walked : {x : Current} → x ≡ Walk 0 → (v : List ℕ) {e : Ended} → e ≡ ended_from t d m x v → {f : Bool}
-        → f ≡ form_by (fits_by d.rows d.parent d.inner d.category d.nodes) s.bytes s.count d.signals n im → f ≡ true
-        → e.answer ≡ resolved_over n t im v
-    unfolding resolved_over signal_now
-    walked g v q formed right =
-        end-answer t v m _ _ accepts (value-ends t (table_of t) d (holds-reads t (table_of t) d held) m v (λ j. Unit)
-        (step_over n (table_of t) im) Walk walk_steps 0 tt refl g q)
-        ∙ ap₂ (λ a j. unless_refused t v (answered t (uris_of v) (signal_in a im j))) few (sym (run-used (step_over n (table_of t) im) 0 (taken_as t (uris_of v))))
-        ∙ ap (λ b. unless_refused t v (cond b (answered t (uris_of v) (walked_over n t im (uris_of v))) (refused 15))) (sym (sym (form-listed im formed) ∙ right))
+  few : min n 8 ≡ n
+  few = sym (min-le n 8 (omega (arith, within, means.holds.categories, means.holds.numbers.few-cats)))
+
+  walk_steps : Steps t (table_of t) d (holds-reads t (table_of t) d means.holds) (λ j. Unit) (step_over n (table_of t) im) (Walking w)
+  unfolding moved
+  walk_steps =
+      let held = means.holds in
+      record {
+        moves = λ j u v x. ap₂ (λ a k. Walking w (target_in a im j k)) few
+            (number-right t d.category d.at d.len d.nodes (table_of t) held.nodes d.rows d.parent d.signals
+            held.numbers d.inner held.inner
+            held.well-formed symbols.bytes symbols.count (symbols-listed t d means n within listed) symbols.index
+            (lists-indexed _ listed) u);
+        stays = λ j u v x. tt;
+      }
+
+  pub walked : (v : List ℕ) {e : Ended} → e ≡ ended_from t d (Walking w 0) v → {f : Bool}
+      → f ≡ form_by (fits_by d.rows d.parent d.inner d.category d.nodes) symbols.bytes symbols.count d.signals n im → f ≡ true
+      → e.answer ≡ resolved_over n t im v
+  unfolding resolved_over signal_now
+  walked v q formed right =
+      end-answer t v _ _ means.refusal (value-ends t (table_of t) d (holds-reads t (table_of t) d means.holds) v (λ j. Unit)
+      (step_over n (table_of t) im) (Walking w) walk_steps 0 tt refl refl q)
+      ∙ ap₂ (λ a j. unless_refused t v (answered t (uris_of v) (signal_in a im j))) few (sym (run-used (step_over n (table_of t) im) 0 (taken_as t (uris_of v))))
+      ∙ ap (λ b. unless_refused t v (cond b (answered t (uris_of v) (walked_over n t im (uris_of v))) (refused 15)))
+      (sym (sym (form-listed t d means n within listed im formed) ∙ right))

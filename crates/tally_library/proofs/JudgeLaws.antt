@@ -8,7 +8,13 @@ use lib.Dec.{ltb, eqb}
 use lib.ListN.{length, get_or, set}
 use borrow.Author.Tests.{lt-ltb, le-ltb, eq-eqb, ne_eqb, eqb-true, eqb-false}
 use Rattle.table_decode.specs.Tables.{table_refusal, table_of}
-use Rattle.table_decode.specs.Decoded.{Means}
+use Rattle.table_decode.specs.Decoded.{DecodedAs}
+use Rattle.std.specs.Prelude.{Option, Some, None}
+use Rattle.base_numbers.specs.declared.refusal.Refusal.{Refusal}
+use Rattle.base_numbers.specs.Refusals.{refusal_number}
+use Rattle.base_numbers.proofs.Refusals.{refusal-some}
+use Rattle.value_reader.specs.Value.{refusal_of}
+use Rattle.resolve_run.proofs.AnswerLaws.{refused-first}
 use Rattle.node_search.specs.declared.decoded.Decoded.{Decoded}
 use Rattle.resolve_run.specs.declared.Resolution.{Resolution}
 use Rattle.resolve_library.specs.Resolve.{refused, plain_of}
@@ -25,18 +31,18 @@ module _ (c : List ℕ) (r : Resolution) where
   counts-accepted e = let z = eq-eqb r.refusal 0 e in (simp z, simp z)
 
   module _ (some : r.refusal ≡ 0 → ⊥) where
-    pub counts-full : (a : Resolution) → a ≡ refused 20 → get_or c (r.refusal - 1) 0 ≡ most → Counts c r a c
+    pub counts-full : (a : Resolution) → a ≡ refused 20 → most < get_or c (r.refusal - 1) 0 + 1 → Counts c r a c
     unfolding full_count count_to
     counts-full a e f =
         let z = ne_eqb r.refusal 0 some in
-        let h = lt-ltb most (get_or c (r.refusal - 1) 0 + 1) (omega (arith, f)) in
+        let h = lt-ltb most (get_or c (r.refusal - 1) 0 + 1) f in
         (e ∙ simp (z, h), simp (z, h))
 
-    pub counts-one : get_or c (r.refusal - 1) 0 < most → Counts c r r (set c (r.refusal - 1) (get_or c (r.refusal - 1) 0 + 1))
+    pub counts-one : get_or c (r.refusal - 1) 0 + 1 ≤ most → Counts c r r (set c (r.refusal - 1) (get_or c (r.refusal - 1) 0 + 1))
     unfolding full_count count_to
     counts-one f =
         let z = ne_eqb r.refusal 0 some in
-        let h = le-ltb most (get_or c (r.refusal - 1) 0 + 1) (omega (arith, f)) in
+        let h = le-ltb most (get_or c (r.refusal - 1) 0 + 1) f in
         (simp (z, h), simp (z, h))
 
 -- fewer than 12 counts
@@ -44,25 +50,54 @@ pub few-counts : (t : List ℕ) (n m : ℕ) → m < 12 → too_few t n m ≡ tru
 unfolding too_few
 few-counts t n m h = simp (lt-ltb m 12 h)
 
--- a decoded table has as many signals as it needs records
-pub needed-is : (t : List ℕ) (d : Decoded) → Means t d → d.signals ≡ needed t
+-- a decoded table has as many signals as it needs records, and a refused one needs none
+pub needed-is : (t : List ℕ) (d : Decoded) → DecodedAs t d → d.signals ≡ needed t
 unfolding needed
-needed-is t d e = by-table (eqb (table_refusal t) 0) refl
-  where
-    by-table : (b : Bool) → eqb (table_refusal t) 0 ≡ b → d.signals ≡ cond b (length (table_of t).signals) 0
-    by-table true q = sym (e.holds (eqb-true (table_refusal t) 0 q)).numbers.all-signals
-    by-table false q = ap (λ (x : Decoded). x.signals) (e.refused (eqb-false (table_refusal t) 0 q))
+needed-is t d m = sym (m.holds.numbers.all-signals) ∙ sym (ap (λ b. cond b (length (table_of t).signals) 0) (eq-eqb (table_refusal t) 0 m.refusal))
 
-module _ (t : List ℕ) (d : Decoded) (e : Means t d) (n m : ℕ) (enough : 12 ≤ m) where
-  few-is : too_few t n m ≡ ltb n d.signals
-  unfolding too_few
-  few-is = simp (le-ltb m 12 enough) (ap (ltb n) (sym (needed-is t d e)))
+pub needs-none : (t : List ℕ) (k : Refusal) → refusal_number k ≡ table_refusal t → needed t ≡ 0
+unfolding needed
+needs-none t k e = ap (λ b. cond b (length (table_of t).signals) 0) (ne_eqb (table_refusal t) 0 (λ z. omega (arith, refusal-some k, e, z)))
 
-  pub few-records : n < d.signals → too_few t n m ≡ true
-  few-records h = few-is ∙ lt-ltb n d.signals h
+-- the resolution, if there are records enough
+module _ (t : List ℕ) (n : ℕ) (v : List ℕ) where
+  abbrev resolved : ℕ → Option Resolution
+  resolved m = cond (ltb n m) None (Some (plain_of t v))
 
-  pub enough-records : d.signals ≤ n → too_few t n m ≡ false
-  enough-records h = few-is ∙ le-ltb n d.signals h
+  module _ (d : Decoded) (m : DecodedAs t d) where
+    pub resolved-few : n < d.signals → None ≡ resolved (needed t)
+    resolved-few h = ap (λ (b : Bool). cond b None (Some (plain_of t v))) (sym (lt-ltb n d.signals h)) ∙ ap resolved (needed-is t d m)
+
+    pub resolved-plain : d.signals ≤ n → {r : Resolution} → r ≡ plain_of t v → Some r ≡ resolved (needed t)
+    resolved-plain h e =
+        ap (λ (r : Resolution). Some r) e
+        ∙ ap (λ (b : Bool). cond b None (Some (plain_of t v))) (sym (le-ltb n d.signals h)) ∙ ap resolved (needed-is t d m)
+
+  pub resolved-refused : (k : Refusal) → refusal_number k ≡ table_refusal t → {r : Resolution}
+      → r ≡ refused (cond (eqb (refusal_of v) 0) (refusal_number k) (refusal_of v)) → Some r ≡ resolved (needed t)
+  unfolding plain_of
+  resolved-refused k e f =
+      ap (λ (r : Resolution). Some r) (f ∙ refused-first t v _ k e)
+      ∙ ap (λ (b : Bool). cond b None (Some (plain_of t v))) (sym (le-ltb n 0 (omega arith))) ∙ ap resolved (sym (needs-none t k e))
+
+  -- and the other way round
+  pub some-resolved : {r : Resolution} → Some r ≡ resolved (needed t) → (ltb n (needed t) ≡ false) × (r ≡ plain_of t v)
+  some-resolved {r} e = go (ltb n (needed t)) refl e
+    where
+      go : (b : Bool) → ltb n (needed t) ≡ b → Some r ≡ cond b None (Some (plain_of t v)) → (ltb n (needed t) ≡ false) × (r ≡ plain_of t v)
+      go true f q = absurd (let z : ◌≡◌ {A = ℕ} 0 1 = cc in omega (arith, z))
+      go false f q = (f, cc)
+
+  pub none-resolved : None ≡ resolved (needed t) → ltb n (needed t) ≡ true
+  none-resolved e = go (ltb n (needed t)) refl e
+    where
+      go : (b : Bool) → ltb n (needed t) ≡ b → None ≡ cond b None (Some (plain_of t v)) → ltb n (needed t) ≡ true
+      go true f q = f
+      go false f q = absurd (let z : ◌≡◌ {A = ℕ} 0 1 = cc in omega (arith, z))
+
+pub too-few-is : (t : List ℕ) (n m : ℕ) → 12 ≤ m → {b : Bool} → ltb n (needed t) ≡ b → too_few t n m ≡ b
+unfolding too_few
+too-few-is t n m enough e = simp (le-ltb m 12 enough) e
 
 -- what `judge` answers and leaves
 abbrev pub Judges : List ℕ → ℕ → List ℕ → List ℕ → Resolution → List ℕ → Type 0

@@ -14,10 +14,9 @@ use Rattle.table_decode.specs.Tables.{table_refusal, table_of}
 use Rattle.resolve_run.specs.declared.Resolution.{Resolution}
 use Rattle.resolve_library.specs.Resolve.{refused, plain_of}
 use Rattle.tally_library.specs.declared.Tally.{Tally}
-use Rattle.tally_library.specs.declared.records.Added.{Added}
 use Rattle.tally_library.specs.Tally.{none, most, accepted, plus, fits, add_to, count_to, needed, too_few, full, gives20, answer_of, records_of}
 use Rattle.tally_library.specs.Tally.{counts_of, Tallied, Stays, StaysLaw}
-use Rattle.tally_library.specs.Steps.{full_count, judged_of, judged_counts, place_of, added_of, answer_at, records_at}
+use Rattle.tally_library.specs.Steps.{full_count, judged_of, judged_counts, place_of, told_of, kept_of, answer_at, records_at}
 use Rattle.tally_library.proofs.PlusLaws.{place-accepted, place-refused, add-past, add-within}
 use Rattle.tally_library.proofs.PlainLaws.{plain-accepted, plain-few}
 use Rattle.tally_library.proofs.JudgeLaws.{Judges}
@@ -101,11 +100,11 @@ module _ (t : List ℕ) (l : List Tally) (c v : List ℕ) where
   put_refused r h = add-past l (place_of r (length l)) r (subst (λ (s : ℕ). length l ≤ s) (place-refused r (length l) h) (omega arith))
 
   put-accepted : (r : Resolution) → r.refusal ≡ 0 → r.signal < length l
-      → Put r (added_of (get_or l r.signal none) r).answer (set l r.signal (added_of (get_or l r.signal none) r).after)
+      → Put r (told_of (get_or l r.signal none) r) (set l r.signal (kept_of (get_or l r.signal none) r))
   put-accepted r e h =
-      subst (λ (s : ℕ). ((added_of (get_or l r.signal none) r).answer ≡ answer_at l s r)
-      × (set l r.signal (added_of (get_or l r.signal none) r).after ≡ records_at l s r))
-      (place-accepted r (length l) e) (add-within l r.signal r h (added_of (get_or l r.signal none) r) refl)
+      subst (λ (s : ℕ). (told_of (get_or l r.signal none) r ≡ answer_at l s r)
+      × (set l r.signal (kept_of (get_or l r.signal none) r) ≡ records_at l s r))
+      (place-accepted r (length l) e) (add-within l r.signal r h)
 
   -- from what is known of a judged resolution to the three answers
   finish : (r x a b : Resolution) (l' m : List Tally) (c' d : List ℕ) → r ≡ x → c' ≡ d → Put x b m → Tallied t l c v b m d → Put r a l'
@@ -174,37 +173,6 @@ pub tallied-at : (t : List ℕ) (l : List Tally) (c v : List ℕ) (j : Resolutio
     → Judges t (length l) c v j c' → s ≡ place_of j (length l)
     → (a ≡ answer_at l s j) × (l' ≡ records_at l s j) → Tallied t l c v a l' c'
 tallied-at t l c v j s a l' c' d e put = tallied t l c v j a l' c' d (subst (λ (z : ℕ). (a ≡ answer_at l z j) × (l' ≡ records_at l z j)) e put)
-
--- the same on the first n of 32 records
-module _ (t : List ℕ) (xs : List Tally) (n : ℕ) (c v : List ℕ) (r : Resolution) (c' : List ℕ) (k s : ℕ) (wide : length xs ≡ most_signals)
-    (e : k ≡ min n most_signals) (d : Judges t k c v r c')
-    (f : s ≡ place_of r k) where
-  few-of : k ≡ length (take n xs)
-  few-of = e ∙ sym (length-take n xs ∙ ap (min n) wide)
-
-  judged-on : Judges t (length (take n xs)) c v r c'
-  judged-on = subst (λ (m : ℕ). Judges t m c v r c') few-of d
-
-  placed_on : s ≡ place_of r (length (take n xs))
-  placed_on = subst (λ (m : ℕ). s ≡ place_of r m) few-of f
-
-  pub first_past : k ≤ s → Tallied t (take n xs) c v r (take n xs) c' × (drop n xs ≡ drop n xs)
-  first_past h = (on-first, refl)
-    where
-      on-first : Tallied t (take n xs) c v r (take n xs) c'
-      on-first = tallied-at t (take n xs) c v r s r (take n xs) c' judged-on placed_on (add-past (take n xs) s r (subst (λ (m : ℕ). m ≤ s) few-of h))
-
-  pub first-within : s < k → (a : Added) → a ≡ added_of (get_or xs s none) r
-      → Tallied t (take n xs) c v a.answer (take n (set xs s a.after)) c' × (drop n (set xs s a.after) ≡ drop n xs)
-  first-within h a g =
-      let below : s < n = omega (arith, h, e) in
-      let put = add-within (take n xs) s r (subst (λ (m : ℕ). s < m) few-of h) a (g ∙ ap (λ (x : Tally). added_of x r) (sym (get_or-take n xs s none below))) in (
-        tallied-at t (take n xs) c v r s a.answer (take n (set xs s a.after)) c' judged-on placed_on (
-          put.0,
-          take-set-lt n xs s a.after below ∙ put.1,
-        ),
-        drop-set-lt n xs s a.after below,
-      )
 
 -- what stays
 module _ (t : List ℕ) (l : List Tally) (c v : List ℕ) where

@@ -1,41 +1,47 @@
 // A value's resolution, with a refusal counted.
-ghost use Rattle.std.specs.Prelude.{◌≡◌, cond, ◌≤◌, length};
+ghost use Rattle.std.specs.Prelude.{◌≡◌, cond, ◌≤◌, length, ltb, Some, None};
 ghost use Rattle.base_numbers.specs.Numbers.{not_counted, tally_counts};
-ghost use Rattle.resolve_library.specs.Resolve.{refused};
-ghost use Rattle.tally_library.specs.Tally.{count_to};
+ghost use Rattle.resolve_library.specs.Resolve.{refused as refused_with, plain_of};
+ghost use Rattle.tally_library.specs.Tally.{count_to, needed};
 ghost use Rattle.tally_library.specs.Steps.{full_count, judged_of, judged_counts};
 
-use base_numbers::{MOST_COUNT, NOT_COUNTED, TALLY_COUNTS};
+use base_numbers::{Refusal, TALLY_COUNTS};
 use resolve_run::Resolution;
-
-// The answer where nothing is counted.
-pub(crate) fn uncounted() -> Resolution
-    ensures { result ≡ refused not_counted }
-{
-    Resolution {
-        refusal: NOT_COUNTED,
-        signal: 0,
-        used: 0,
-        skipped: 0,
-    }
-}
+use resolve_run::answer::{refused, value_first};
 
 // A resolution is counted if it is refused: the answer is itself, or 20 if its count is full.
 fn counted(refusals: &mut [u32], r: Resolution) -> Resolution
     requires { (r.refusal ≤ tally_counts) × (tally_counts ≤ length refusals.old) }
-    ensures { (result ≡ cond (full_count refusals.old r) (refused not_counted) r)
+    ensures { (result ≡ cond (full_count refusals.old r) (refused_with not_counted) r)
         × (refusals.new ≡ cond (full_count refusals.old r) refusals.old (count_to refusals.old r)) }
 {
     if r.refusal == 0 {
         return r;
     }
-    let place = r.refusal as usize - 1;
-    let before = refusals[place];
-    if before == MOST_COUNT {
-        return uncounted();
+    let place = usize::from(r.refusal) - 1;
+    match refusals[place].checked_add(1) {
+        Some(n) => {
+            refusals[place] = n;
+            r
+        }
+        None => refused(Refusal::NotCounted),
     }
-    refusals[place] = before + 1;
-    r
+}
+
+// The plain resolution of the value v with the table t, unless it is well-formed and has more than n signals.
+fn resolved(t: &[u8], n: usize, v: &[u8]) -> Option<Resolution>
+    ensures { result ≡ cond (ltb n (needed t.now)) None (Some (plain_of t.now v.now)) }
+{
+    match table_decode::decode(t) {
+        Ok(d) => {
+            if n < d.signals {
+                None
+            } else {
+                Some(resolve_library::by::plain(t, &d, v))
+            }
+        }
+        Err(r) => Some(value_first(v, r)),
+    }
 }
 
 // The plain resolution of the value v with the table t, counted if it is refused. 20 comes first: with too few counts, or
@@ -45,12 +51,10 @@ pub(crate) fn judge(t: &[u8], n: usize, refusals: &mut [u32], v: &[u8]) -> Resol
         × (refusals.new ≡ judged_counts t.now n refusals.old v.now) }
 {
     if refusals.len() < TALLY_COUNTS {
-        return uncounted();
+        return refused(Refusal::NotCounted);
     }
-    let d = table_decode::decode(t);
-    if n < d.signals {
-        return uncounted();
+    match resolved(t, n, v) {
+        Some(r) => counted(refusals, r),
+        None => refused(Refusal::NotCounted),
     }
-    let r = resolve_library::by::plain(t, d, v);
-    counted(refusals, r)
 }

@@ -2,7 +2,7 @@
 ghost use Rattle.std.specs.Prelude.{◌≡◌, take, drop};
 ghost use Rattle.tally_library.specs.Tally.{needed as needed_of, Tallied};
 
-use crate::{Tally, judge, records};
+use crate::{Tally, tally_value};
 use base_numbers::MOST_SIGNALS;
 use resolve_run::Resolution;
 
@@ -17,8 +17,10 @@ pub struct Counted {
 pub fn needed(t: &[u8]) -> usize
     ensures { result ≡ needed_of t.now }
 {
-    let d = table_decode::decode(t);
-    d.signals
+    match table_decode::decode(t) {
+        Ok(d) => d.signals,
+        Err(_) => 0,
+    }
 }
 
 // The value v on the first n records: answer, records and counts are those of `tally_value`, and the records past them stay.
@@ -32,17 +34,8 @@ pub fn value(
     ensures { Tallied t.now (take n records) refusals.old v.now result.answer (take n result.records) refusals.new
         × (drop n result.records ≡ drop n records) }
 {
-    let k = base_bytes::numbers::at_most(n, MOST_SIGNALS);
-    let r = judge::judge(t, k, refusals, v);
-    let s = records::place(r, k);
-    if k <= s {
-        return Counted { answer: r, records };
-    }
-    let next = records::plus(records[s], r);
-    let record = next.after;
-    let answer = next.answer;
     let mut after = records;
-    after[s] = record;
+    let answer = tally_value(t, &mut after[..n.min(MOST_SIGNALS)], refusals, v);
     Counted {
         answer,
         records: after,

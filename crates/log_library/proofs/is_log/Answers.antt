@@ -1,4 +1,6 @@
 use Prim.Native.Nat.{◌-◌}
+use mathlib.Core.Path.{◌≡◌, ◌∙◌}
+use Prim.Native.Nat.{◌+◌}
 use native.Mathlib.Omega.{arith}
 use Rattle.log_library.proofs.ReadLaws.{log-long, log-start, log-on, log-cut, log-end}
 use Rattle.log_library.proofs.is_log.Goals as goal
@@ -6,38 +8,38 @@ use Rattle.log_library.proofs.is_log.Goals as goal
 pub returns-then-n-gt-MOST_LOG_BYTES : goal.returns-then-n-gt-MOST_LOG_BYTES
 returns-then-n-gt-MOST_LOG_BYTES c = log-long c.args.log.now (omega (arith, c.if-n-gt-MOST_LOG_BYTES.true))
 
-pub loop-left-init : goal.loop-left-init
-loop-left-init c = (log-start c.args.log.now (omega (arith, c.if-n-gt-MOST_LOG_BYTES.false)) c.word-left.ensures.0, omega arith)
+pub loop-_call-init : goal.loop-_call-init
+loop-_call-init c =
+    let z : c.word-calls.result - 0 ≡ c.word-calls.result = omega arith in
+    (log-start c.args.log.now (omega (arith, c.if-n-gt-MOST_LOG_BYTES.false)) (z ∙ c.word-calls.ensures.0), omega arith)
 
 pub overflow_add-end : goal.overflow_add-end
-overflow_add-end c = omega (arith, c.loop-left.invariant.1)
+overflow_add-end c = omega (arith, c.loop-_call.invariant.1)
 
 pub word-requires : goal.word-requires
-word-requires c = omega (arith, c.loop-left.invariant.1)
+word-requires c = omega (arith, c.loop-_call.invariant.1)
 
-pub overflow_add-end-in-loop-left : goal.overflow_add-end-in-loop-left
-overflow_add-end-in-loop-left c = omega (arith, c.loop-left.invariant.1, c.word.ensures.1)
+pub overflow_add-end-in-loop-_call : goal.overflow_add-end-in-loop-_call
+overflow_add-end-in-loop-_call c = omega (arith, c.loop-_call.invariant.1, c.word.ensures.1)
 
 pub overflow_add-next : goal.overflow_add-next
-overflow_add-next c = omega (arith, c.loop-left.invariant.1, c.word.ensures.1)
+overflow_add-next c = omega (arith, c.loop-_call.invariant.1, c.word.ensures.1)
 
 pub returns-then-n-next : goal.returns-then-n-next
-returns-then-n-next c = let at = c.loop-left.at in let inv = c.loop-left.invariant in
-    let left = c.loop-left.left in
-    let log = c.args.log.now in
-    log-cut log left at inv.0 (left - 1) (omega (arith, c.loop-left-test.true)) c.word.ensures.0 (omega (arith, c.if-n-next.true))
+returns-then-n-next c =
+    let l = c.loop-_call in
+    log-cut c.args.log.now (c.word-calls.result - l._call) l.at l.invariant.0 (c.word-calls.result - (l._call + 1))
+    (omega (arith, c.loop-_call-test.true)) c.word.ensures.0 (omega (arith, c.if-n-next.true))
 
-pub loop-left-smaller : goal.loop-left-smaller
-loop-left-smaller c = omega (arith, c.loop-left-test.true)
-
-pub loop-left-preserved : goal.loop-left-preserved
-loop-left-preserved c = let at = c.loop-left.at in let inv = c.loop-left.invariant in
-    let left = c.loop-left.left in let if1 = c.if-n-gt-MOST_LOG_BYTES.false in
-    let log = c.args.log.now in (
-      log-on log left at inv.0 (left - 1) (omega (arith, c.loop-left-test.true)) c.word.ensures.0,
-      omega (arith, c.if-n-next.false, if1),
+pub loop-_call-preserved : goal.loop-_call-preserved
+loop-_call-preserved c =
+    let l = c.loop-_call in (
+      log-on c.args.log.now (c.word-calls.result - l._call) l.at l.invariant.0 (c.word-calls.result - (l._call + 1))
+          (omega (arith, c.loop-_call-test.true)) c.word.ensures.0,
+      omega (arith, c.if-n-next.false, c.if-n-gt-MOST_LOG_BYTES.false),
     )
 
 pub returns : goal.returns
-returns c = let log = c.args.log.now in
-    log-end log c.loop-left.left c.loop-left.at c.loop-left.invariant.0 (omega (arith, c.loop-left-test.false))
+returns c =
+    let l = c.loop-_call in
+    log-end c.args.log.now (c.word-calls.result - l._call) l.at l.invariant.0 (omega (arith, c.loop-_call-test.false))

@@ -1,4 +1,9 @@
+use mathlib.Core.Path.{◌∙◌}
+use Rattle.resolve_available.proofs.AnswerLaws.{available-table}
 use Rattle.resolve_available.proofs.resolve.Goals as goal
 
-pub returns : goal.returns
-returns c = c.by.ensures c.decode.ensures
+pub returns-in-Ok : goal.returns-in-Ok
+returns-in-Ok c = c.by.ensures c.in-Ok.ensures
+
+pub returns-in-Err : goal.returns-in-Err
+returns-in-Err c = c.value_first.ensures ∙ available-table _ _ _ _ c.in-Err.ensures

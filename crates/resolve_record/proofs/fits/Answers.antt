@@ -1,16 +1,11 @@
-use Rattle.resolve_record.proofs.FitLaws.{fits-signal, fits-values, fits-rest}
-use borrow.Author.Rules.{rules}
+use Rattle.std.proofs.Common.{arith}
+use Rattle.base_lists.proofs.Chains.{all_below-is}
+use Rattle.resolve_record.specs.Coded.{fits_by}
 use Rattle.resolve_record.proofs.fits.Goals as goal
+use Rattle.resolve_record.proofs.fits.Goals.{then-from-d, else-from-d}
 
-pub returns-then-signals-signal : goal.returns-then-signals-signal
-returns-then-signals-signal c = record { says = fits-signal _ _ _ _ _ _ _ c.args.carried c.if-signals-signal.true; wide = search rules }
-
-pub returns-then-carried-gt-MOST_VALUES : goal.returns-then-carried-gt-MOST_VALUES
-returns-then-carried-gt-MOST_VALUES c = record { says = fits-values _ _ _ _ _ _ _ c.args.carried c.if-signals-signal.false c.if-carried-gt-MOST_VALUES.true; wide = search rules }
-
-pub returns : goal.returns
-returns c = record {
-  says = fits-rest _ _ _ _ _ _ _ c.args.carried
-      c.if-signals-signal.false c.if-carried-gt-MOST_VALUES.false c.statuses_fit.ensures;
-  wide = search rules;
-}
+pub returns-then-carried-le-MOST_VALUES-clause-says : goal.returns-then-carried-le-MOST_VALUES-clause-says
+unfolding fits_by
+returns-then-carried-le-MOST_VALUES-clause-says c =
+    let e = all_below-is c.statuses_fit.result 8 _ c.statuses_fit.ensures in
+    elim c.if-from-d.branch [ then-from-d w ↦ grind (arith, e) | else-from-d w ↦ grind (arith, e) ]

@@ -3,11 +3,11 @@ use native.Mathlib.Omega.{arith}
 use Rattle.resolve_small.proofs.WalkLaws.{over-table}
 use Rattle.resolve_small.proofs.resolve.Goals as goal
 
-pub returns-then-d-ne0 : goal.returns-then-d-ne0
-returns-then-d-ne0 c = c.value_first.ensures ∙ over-table _ _ _ _ c.decode-d.ensures.refusal c.if-d-ne0.true
-
 pub walk-requires : goal.walk-requires
-walk-requires c = (c.decode-d.ensures, c.if-d-ne0.false, omega arith)
+walk-requires c = (c.in-Ok.ensures, omega arith)
 
-pub returns : goal.returns
-returns c = c.walk.ensures
+pub returns-in-Ok : goal.returns-in-Ok
+returns-in-Ok c = c.walk.ensures
+
+pub returns-in-Err : goal.returns-in-Err
+returns-in-Err c = c.value_first.ensures ∙ over-table _ _ _ _ _ c.in-Err.ensures

@@ -3,13 +3,8 @@ use Rattle.resolve_small.proofs.WalkLaws.{unformed, walked}
 use Rattle.resolve_small.proofs.walk.Goals as goal
 
 pub returns-then-not-formed : goal.returns-then-not-formed
-returns-then-not-formed c = c.value_first.ensures ∙ unformed _ _ c.requires.0 c.requires.1 _ c.requires.2
-    c.list-s.ensures _ _
-    c.formed.ensures c.if-not-formed.true
+returns-then-not-formed c = c.value_first.ensures ∙ unformed _ _ c.requires.0 _ c.requires.1
+    c.list-symbols.ensures _ _ c.formed.ensures c.if-not-formed.true
 
 pub returns : goal.returns
-returns c = walked _ _ c.requires.0 c.requires.1 _ c.requires.2
-    c.list-s.ensures _ _ c.index-index.ensures
-    c.at_number.ensures _ c.resolved-e.ensures
-    c.formed.ensures
-    c.if-not-formed.false
+returns c = walked _ _ c.requires.0 _ c.requires.1 c.list-symbols.ensures _ c.resolved.ensures c.formed.ensures c.if-not-formed.false

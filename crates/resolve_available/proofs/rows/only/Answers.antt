@@ -6,12 +6,8 @@ use Rattle.resolve_available.proofs.rows.only.Goals as goal
 pub loop-s-init : goal.loop-s-init
 loop-s-init c = record { wide = refl; so_far = λ k h. absurd (omega arith) }
 
-pub loop-s-smaller : goal.loop-s-smaller
-loop-s-smaller c = omega (arith, c.loop-s-test.true)
-
 pub loop-s-preserved : goal.loop-s-preserved
-loop-s-preserved c = fill-row _ _ _ _ c.loop-s.invariant c.loop-s-test.true
-    c.counts_in.ensures c.row_if-row.ensures
+loop-s-preserved c = fill-row _ _ _ _ c.loop-s.invariant c.loop-s-test.true c.row_if.ensures
 
 pub returns : goal.returns
-returns c = filled _ _ _ c.loop-s.s c.loop-s.invariant c.loop-s-test.false
+returns c = filled _ _ _ _ c.loop-s.invariant c.loop-s-test.false

@@ -1,34 +1,31 @@
-use mathlib.Core.Path.{◌∙◌}
+use mathlib.Core.Path.{refl, ap, ◌∙◌}
+use Rattle.std.specs.Prelude.{Some}
+use Rattle.resolve_early.specs.declared.run.Reached.{Reached}
 use native.Mathlib.Omega.{arith}
 use borrow.Author.Tests.{not-true, not-false}
 use Rattle.resolve_run.proofs.RunLaws.{met}
 use Rattle.resolve_early.specs.SettledBy.{settled_by}
 use Rattle.resolve_early.proofs.SettledLaws.{same-settled}
-use Rattle.resolve_early.proofs.RunLaws.{run-start, after-uri, run_settled, run-full, run_more, run-last, run_none}
+use Rattle.resolve_early.proofs.RunLaws.{after-uri, run_settled, run-full, run_more, run-last, run_none}
 use Rattle.resolve_early.proofs.run.run.Goals as goal
-use Rattle.resolve_early.proofs.run.run.Goals.{then-not-same, else-not-same}
+use Rattle.resolve_early.proofs.run.run.Goals.{then-ne, else-ne}
 
 pub loop-ends-init : goal.loop-ends-init
-loop-ends-init c = (run-start _ _ _ _ _ c.begin-st.ensures, c.settled-ends.ensures, omega arith, omega arith)
+loop-ends-init c = (refl, c.settled-ends.ensures, omega arith, omega arith)
 
-pub ended-requires : goal.ended-requires
-ended-requires c = c.loop-ends.invariant.2
+pub signal_at-requires : goal.signal_at-requires
+signal_at-requires c = c.loop-ends.invariant.2
 
 pub returns-then-ends : goal.returns-then-ends
-returns-then-ends c = c.ended.ensures ∙ run_settled _ _ _ _ _ _ _ c.loop-ends.invariant.0 _ c.loop-ends.invariant.1 c.if-ends.true
-
-pub ended-requires-then-n-ge-MOST_ENTRIES : goal.ended-requires-then-n-ge-MOST_ENTRIES
-ended-requires-then-n-ge-MOST_ENTRIES c = c.loop-ends.invariant.2
+returns-then-ends c = ap (λ (r : Reached). Some r) c.signal_at.ensures
+    ∙ run_settled _ _ _ _ _ _ _ c.loop-ends.invariant.0 _ c.loop-ends.invariant.1 c.if-ends.true
 
 pub returns-then-n-ge-MOST_ENTRIES : goal.returns-then-n-ge-MOST_ENTRIES
-returns-then-n-ge-MOST_ENTRIES c = c.ended-then-n-ge-MOST_ENTRIES.ensures ∙ run-full _ _ _ _ _ _ _ c.loop-ends.invariant.0 _
+returns-then-n-ge-MOST_ENTRIES c = run-full _ _ _ _ _ _ _ c.loop-ends.invariant.0 _
     c.loop-ends.invariant.1 c.if-ends.false c.if-n-ge-MOST_ENTRIES.true
 
-pub ended-requires-then-not-e : goal.ended-requires-then-not-e
-ended-requires-then-not-e c = c.loop-ends.invariant.2
-
 pub returns-then-not-e : goal.returns-then-not-e
-returns-then-not-e c = c.ended-then-not-e.ensures ∙ run_none _ _ _ _ _ _ _ c.loop-ends.invariant.0 _
+returns-then-not-e c = run_none _ _ _ _ _ _ _ c.loop-ends.invariant.0 _
     c.loop-ends.invariant.1
     c.if-ends.false c.if-n-ge-MOST_ENTRIES.false
     c.entry_at-e.ensures (not-true _ c.if-not-e.true)
@@ -45,17 +42,14 @@ overflow_add-n c = omega (
   c.if-n-ge-MOST_ENTRIES.false,
 )
 
-pub ended-requires-then-e : goal.ended-requires-then-e
-ended-requires-then-e c = omega (
-  arith,
-  c.if-n-ge-MOST_ENTRIES.false,
-)
+pub signal_at-requires-then-e : goal.signal_at-requires-then-e
+signal_at-requires-then-e c = omega (arith, c.if-n-ge-MOST_ENTRIES.false)
 
 pub returns-then-e : goal.returns-then-e
 returns-then-e c = let l = c.loop-ends.invariant in
     let u = after-uri _ _ _ _ c.entry_at-e.result.span
     c.uses-u.ensures c.taken-next.ensures in
-    c.ended-then-e.ensures ∙ run-last _ _ _ _ _ _ _ l.0 _ l.1
+    ap (λ (r : Reached). Some r) c.signal_at-then-e.ensures ∙ run-last _ _ _ _ _ _ _ l.0 _ l.1
     c.if-ends.false
     c.if-n-ge-MOST_ENTRIES.false
     c.entry_at-e.ensures
@@ -84,9 +78,9 @@ loop-ends-preserved c = let l = c.loop-ends.invariant in
           c.if-ends.false
           c.if-n-ge-MOST_ENTRIES.false
           c.entry_at-e.ensures fits c.if-e.false u,
-      elim c.if-not-same.branch [
-        | then-not-same w ↦ w.ends-is ∙ w.settled-ends-then-not-same.ensures
-        | else-not-same w ↦ w.ends-is ∙ same-settled (settled_by _ _ _ _ _) _ _ l.1 c.same.ensures w.if-not-same.false
+      elim c.if-ne.branch [
+        | then-ne w ↦ w.ends-is ∙ w.settled-ends-then-ne.ensures
+        | else-ne w ↦ w.ends-is ∙ same-settled (settled_by _ _ _ _ _) _ _ l.1 c.ne.ensures w.if-ne.false
       ],
       omega (
         arith,

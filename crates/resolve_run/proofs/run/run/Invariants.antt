@@ -2,13 +2,12 @@ use mathlib.Core.Path.{◌≡◌}
 use Prim.Native.Nat.{◌+◌, ◌-◌, ◌*◌, ◌≤◌}
 use lib.ListN.{length}
 use Rattle.value_cursor.specs.Reading.{reading_from}
-use Rattle.resolve_run.specs.Run.{after, over, run_of, run_from}
+use Rattle.resolve_run.specs.Run.{after, over, run_from, tries_of}
 use Rattle.resolve_run.proofs.run.run.Given as goal
 
-abbrev pub invariant-loop-d : goal.invariant-loop-d
-invariant-loop-d l = (run_from l.t l.d (record { index = l.index; symbols = l.symbols; count = l.count; categories = l.categories; image = l.image }) l.v l.from 0
-    ≡ run_of l.from (over l.v (after l.t l.d (record { index = l.index; symbols = l.symbols; count = l.count; categories = l.categories; image = l.image })) l.p
-    (reading_from l.v l.at))) × (l.p.used + l.p.skipped ≤ l.at) × (l.at ≤ length l.v) × (l.p.current.tries ≤ 10 * l.p.used)
+abbrev pub invariant-loop-p : goal.invariant-loop-p
+invariant-loop-p l = (run_from l.t l.d l.v l.from 0 ≡ over l.v (after l.t l.d) l.p (reading_from l.v l.at))
+    × (l.p.used + l.p.skipped ≤ l.at) × (l.at ≤ length l.v) × (tries_of l.p.current ≤ 10 * l.p.used)
 
-abbrev pub decreases-loop-d : goal.decreases-loop-d
-decreases-loop-d l = length l.v - l.at
+abbrev pub decreases-loop-p : goal.decreases-loop-p
+decreases-loop-p l = length l.v - l.at

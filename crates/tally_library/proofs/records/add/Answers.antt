@@ -1,8 +1,13 @@
-use Rattle.tally_library.proofs.PlusLaws.{add-past, add-within}
+use Rattle.base_numbers.specs.Refusals.{refusal_number}
+use Rattle.tally_library.proofs.PlusLaws.{add-past, add-some, add-none}
 use Rattle.tally_library.proofs.records.add.Goals as goal
 
 pub returns-then-records-s : goal.returns-then-records-s
 returns-then-records-s c = add-past c.args.records.now c.args.s c.args.r c.if-records-s.true
 
-pub returns : goal.returns
-returns c = add-within c.args.records.now c.args.s c.args.r c.if-records-s.false c.plus-next.result c.plus-next.ensures
+pub returns-in-Some : goal.returns-in-Some
+returns-in-Some c = add-some c.args.records.now c.args.s c.args.r c.if-records-s.false c.in-Some.ensures
+
+pub returns-in-None : goal.returns-in-None
+unfolding refusal_number
+returns-in-None c = add-none c.args.records.now c.args.s c.args.r c.if-records-s.false c.refused.ensures c.in-None.ensures

@@ -1,0 +1,13 @@
+use mathlib.Core.Path.{◌∙◌}
+use Rattle.resolve_library.proofs.ByTableLaws.{plain-means}
+use Rattle.tally_library.proofs.JudgeLaws.{resolved-few, resolved-plain, resolved-refused}
+use Rattle.tally_library.proofs.judge.resolved.Goals as goal
+
+pub returns-then-n-d : goal.returns-then-n-d
+returns-then-n-d c = resolved-few _ _ _ _ c.in-Ok.ensures c.if-n-d.true
+
+pub returns-else-n-d : goal.returns-else-n-d
+returns-else-n-d c = resolved-plain _ _ _ _ c.in-Ok.ensures c.if-n-d.false (c.plain.ensures ∙ plain-means _ _ _ c.in-Ok.ensures)
+
+pub returns-in-Err : goal.returns-in-Err
+returns-in-Err c = resolved-refused _ _ _ _ c.in-Err.ensures c.value_first.ensures
