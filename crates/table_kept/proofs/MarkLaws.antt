@@ -14,7 +14,8 @@ use Rattle.base_numbers.specs.Numbers.{most_nodes, most_signals}
 use Rattle.node_step.specs.declared.State.{State}
 use Rattle.node_step.specs.Step.{place_in, row_at, reaches, extends, step_numbers}
 use Rattle.std.specs.Option.{unwrap_or}
-use Rattle.table_kept.specs.Marks.{found_at, with_node, found_or, after_node, precedes, next_by, next_in, open_state, rings_at}
+use Rattle.node_step.specs.Step.{found_at, with_place, find_row}
+use Rattle.table_kept.specs.Marks.{with_node, found_or, after_node, precedes, next_by, next_in, open_state, rings_at}
 
 -- the signal after a node, by what was found
 module _ (rows ps : List ℕ) (n s c d : ℕ) where
@@ -38,6 +39,10 @@ module _ (rows ps : List ℕ) (n s c d : ℕ) where
       or-signal : (i : ℕ) (b : Bool) → ltb i most_signals ≡ b → unwrap_or (found_at i) s ≡ found_or s i
       or-signal i true h = rw h
       or-signal i false h = rw h
+
+-- a row with another place, and the signal that has it
+pub key-is : (rows : List ℕ) (n s c d : ℕ) {row key : ℕ} → row ≡ row_at rows s → key ≡ with_place row c d → find_row rows key 0 n ≡ with_node rows n s c d
+key-is rows n s c d e f = ap (λ z. find_row rows z 0 n) (f ∙ ap (λ z. with_place z c d) e)
 
 -- whether a node may be given before another
 pub precedes-at : (ps cats : List ℕ) (c d k : ℕ) {r : Bool} → r ≡ cond (eqb (get_or cats k 0) c) (reaches ps (k + 1) 9 d) true → r ≡ precedes ps cats c d k

@@ -22,7 +22,8 @@ use Rattle.theory_kept.specs.Way.{first_below}
 use Rattle.theory_kept.proofs.Way.{first-le, first_passes, first-least}
 use Rattle.table_kept.specs.declared.found.Found.{Found}
 use Rattle.table_kept.specs.Held.{signals_in}
-use Rattle.table_kept.specs.Marks.{with_node, loss_at, found_at}
+use Rattle.node_step.specs.Step.{found_at}
+use Rattle.table_kept.specs.Marks.{with_node, loss_at}
 
 module _ (h : Found) where
   pub in-length : length (signals_in h) ≡ h.count

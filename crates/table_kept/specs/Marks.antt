@@ -1,5 +1,5 @@
 -- Marks given from signal to signal, over arrays of numbers (Rows of node_step says what they must hold to stand for a table).
-use Rattle.std.specs.Prelude.{ℕ, suc, ◌+◌, ◌*◌, Bool, true, false, cond, not, List, map, eqb, ltb, get_or, length, replicate, Option, Some, None}
+use Rattle.std.specs.Prelude.{ℕ, suc, ◌+◌, ◌*◌, Bool, true, false, cond, not, List, map, eqb, ltb, get_or, length, replicate}
 use Rattle.base_numbers.specs.Numbers.{most_categories, most_nodes, most_signals}
 use Rattle.theory_resolution.specs.Table.{Urn, Table}
 use Rattle.theory_resolution.specs.Nodes.{nodes, number}
@@ -11,10 +11,6 @@ use Rattle.node_step.specs.Step.{place_in, with_place, row_at, reaches, find_row
 -- the signal with node d for its place in category c and the places of signal s in every other, of n signals; or 32
 abbrev pub with_node : List ℕ → ℕ → ℕ → ℕ → ℕ → ℕ
 with_node rows n s c d = find_row rows (with_place (row_at rows s) c d) 0 n
-
--- the signal found, if any
-abbrev pub found_at : ℕ → Option ℕ
-found_at i = cond (ltb i most_signals) (Some i) None
 
 -- the signal found, or s
 abbrev pub found_or : ℕ → ℕ → ℕ
@@ -42,7 +38,7 @@ loss_at rows n l c d = first_below (λ j. not (ltb (with_node rows n (get_or l j
 
 -- signal s, with every category open
 abbrev pub open_state : ℕ → State
-open_state s = record { signal = s; categories = replicate most_categories (record { status = Open }) }
+open_state s = record { signal = s; categories = replicate most_categories Open }
 
 -- the signal of direct resolution after node d of category c, given at signal s with every category open
 unfoldable pub rings_at : List ℕ → List ℕ → List Bool → ℕ → ℕ → ℕ → ℕ → ℕ

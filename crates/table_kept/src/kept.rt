@@ -6,14 +6,14 @@ ghost use Rattle.table_kept.specs.Held.{nodes_in};
 ghost use Rattle.table_decode.specs.Tables.{table_refusal, table_of};
 ghost use Rattle.table_decode.specs.Decoded.{Holds};
 ghost use Rattle.resolve_available.specs.Available.{has_bit};
-ghost use Rattle.table_kept.specs.Ready.{Ready};
+ghost use Rattle.table_kept.specs.Ready.{Ready, told_kept};
 ghost use Rattle.table_kept.specs.Answers.{refused_kept, kept_answer, lost_answer, kept_in, kept_answer_of};
 
 use crate::marks::{before, rings, store_targets};
 use crate::passed::Way;
 use crate::search::{discover, first_loss};
 use crate::way::way_to;
-use base_numbers::{MOST_SIGNALS, UNKNOWN_AVAILABLE, UNKNOWN_NODE};
+use base_numbers::{MOST_SIGNALS, Refusal};
 use resolve_available::{among, is_known};
 use table_decode::Decoded;
 
@@ -88,24 +88,27 @@ fn search(d: Decoded, set: u32, node: u8) -> Kept
     }
 }
 
+// The answer for a node's number, or why the question is refused.
+fn answer(t: &[u8], set: u32, node: u8) -> Result<Kept, Refusal>
+    ensures { told_kept result ≡ kept_answer_of t.now set node }
+{
+    let d = table_decode::decode(t)?;
+    if !is_known(set, d.signals) {
+        return Err(Refusal::UnknownAvailable);
+    }
+    if node == 0 || d.nodes < usize::from(node) {
+        return Err(Refusal::UnknownNode);
+    }
+    Ok(search(d, set, node))
+}
+
 // Whether the table keeps the mark with this node's number while the signals of the set are available, and if not, a shortest list
 // that shows it.
 pub fn keeps(t: &[u8], set: u32, node: u8) -> Kept
     ensures { result ≡ kept_answer_of t.now set node }
 {
-    let d = table_decode::decode(t);
-    let k = d.refusal;
-    if k != 0 {
-        return refused(k);
+    match answer(t, set, node) {
+        Ok(x) => x,
+        Err(r) => refused(u8::from(r)),
     }
-    if !is_known(set, d.signals) {
-        return refused(UNKNOWN_AVAILABLE);
-    }
-    if node == 0 {
-        return refused(UNKNOWN_NODE);
-    }
-    if d.nodes < usize::from(node) {
-        return refused(UNKNOWN_NODE);
-    }
-    search(d, set, node)
 }

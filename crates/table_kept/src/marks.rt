@@ -1,12 +1,12 @@
 // Which nodes may be given, and the signal after a node that is given at a signal.
 ghost use Rattle.std.specs.Prelude.{◌≡◌, true, false, cond, ℕ, ◌/◌, ◌%◌, ◌*◌, ◌≤◌, ◌<◌, eqb, get_or, length};
 ghost use Rattle.base_numbers.specs.Numbers.{most_nodes, most_signals};
-ghost use Rattle.node_step.specs.Step.{reaches};
-ghost use Rattle.table_kept.specs.Marks.{found_at, with_node, after_node, precedes as precedes_at, next_by, next_in, open_state, rings_at};
+ghost use Rattle.node_step.specs.Step.{reaches, found_at};
+ghost use Rattle.table_kept.specs.Marks.{with_node, after_node, precedes as precedes_at, next_by, next_in, open_state, rings_at};
 
-use base_numbers::{MOST_CATEGORIES, MOST_NODES, MOST_SIGNALS};
+use base_numbers::{MOST_CATEGORIES, MOST_NODES};
 use node_step::rows::{place_in, with_place};
-use node_step::{Progress, State, Status, extends_of, find_signal, reaches_of, row_at, step};
+use node_step::{State, Status, extends_of, find_signal, reaches_of, row_at, step};
 use table_decode::Decoded;
 
 // The signal with this node for its place in category c and the places of signal s in every other.
@@ -15,12 +15,7 @@ pub(crate) fn with_node(d: &Decoded, s: u8, c: usize, node: u8) -> Option<u8>
     ensures { result ≡ found_at (with_node d.now.rows d.now.signals s c node) }
 {
     let row = row_at(&d.rows, s);
-    let i = find_signal(&d.rows, d.signals, with_place(row, c, node));
-    if i < MOST_SIGNALS {
-        Some(i as u8)
-    } else {
-        None
-    }
+    find_signal(&d.rows, d.signals, with_place(row, c, node))
 }
 
 // The signal after a node of category c, given at signal s.
@@ -89,12 +84,9 @@ pub(crate) fn target(all: &[u8; 2048], s: u8, k: usize) -> u8
 fn open_at(s: u8) -> State
     ensures { result ≡ open_state s }
 {
-    let open = Progress {
-        status: Status::Open,
-    };
     State {
         signal: s,
-        categories: [open; MOST_CATEGORIES],
+        categories: [Status::Open; MOST_CATEGORIES],
     }
 }
 
@@ -102,15 +94,5 @@ fn open_at(s: u8) -> State
 pub(crate) fn rings(d: &Decoded, s: u8, c: usize, node: u8) -> u8
     ensures { result ≡ rings_at d.now.rows d.now.parent d.now.inner d.now.signals s c node }
 {
-    let st = step(
-        &d.rows,
-        &d.parent,
-        &d.inner,
-        d.signals,
-        open_at(s),
-        c,
-        node,
-        true,
-    );
-    st.signal
+    step(d, open_at(s), c, node, true).signal
 }

@@ -4,14 +4,14 @@ ghost use Rattle.table_kept.specs.Held.{nodes_in};
 ghost use Rattle.table_decode.specs.Tables.{table_refusal, table_of};
 ghost use Rattle.table_decode.specs.Decoded.{Holds};
 ghost use Rattle.resolve_available.specs.Available.{has_bit};
-ghost use Rattle.table_kept.specs.Ready.{Ready};
+ghost use Rattle.table_kept.specs.Ready.{Ready, told_rung};
 ghost use Rattle.table_kept.specs.Answers.{refused_rung, rung_answer, rung_in, rung_of};
 
 use crate::marks::{before, store_targets};
 use crate::passed::Way;
 use crate::search::discover;
 use crate::way::way_to;
-use base_numbers::{MOST_SIGNALS, UNKNOWN_AVAILABLE, UNKNOWN_SIGNAL};
+use base_numbers::{MOST_SIGNALS, Refusal};
 use resolve_available::{among, is_known};
 use table_decode::Decoded;
 
@@ -67,20 +67,26 @@ fn search(d: Decoded, set: u32, signal: u8) -> Rung
     }
 }
 
+// The answer for a signal's number, or why the question is refused.
+fn answer(t: &[u8], set: u32, signal: u8) -> Result<Rung, Refusal>
+    ensures { told_rung result ≡ rung_of t.now set signal }
+{
+    let d = table_decode::decode(t)?;
+    if !is_known(set, d.signals) {
+        return Err(Refusal::UnknownAvailable);
+    }
+    if d.signals <= usize::from(signal) {
+        return Err(Refusal::UnknownSignal);
+    }
+    Ok(search(d, set, signal))
+}
+
 // Whether some list rings the signal while the signals of the set are available, and if so, a shortest one.
 pub fn rings(t: &[u8], set: u32, signal: u8) -> Rung
     ensures { result ≡ rung_of t.now set signal }
 {
-    let d = table_decode::decode(t);
-    let k = d.refusal;
-    if k != 0 {
-        return refused(k);
+    match answer(t, set, signal) {
+        Ok(x) => x,
+        Err(r) => refused(u8::from(r)),
     }
-    if !is_known(set, d.signals) {
-        return refused(UNKNOWN_AVAILABLE);
-    }
-    if d.signals <= usize::from(signal) {
-        return refused(UNKNOWN_SIGNAL);
-    }
-    search(d, set, signal)
 }
