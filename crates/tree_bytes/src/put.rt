@@ -15,8 +15,8 @@ pub struct Writer<'a> {
 }
 
 impl Writer<'_> {
-    // One byte, if its position is in the buffer; then the position after it, or the same where it is past the buffer's end and the
-    // farthest.
+    // One byte, if its position is in the buffer; then the position after it, or the same where it is past the buffer's end and
+    // the farthest.
     pub fn byte(&mut self, v: u8)
         ensures same_reference { self.new.buf.ghost_name ≡ self.old.buf.ghost_name }
         ensures wrote { Wrote self.old.buf.now self.new.buf.now self.old.at (v ∷ []) self.new.at }

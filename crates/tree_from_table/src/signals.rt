@@ -12,7 +12,7 @@ use base_numbers::MOST_TABLE_URNS;
 use tree_bytes::put::Writer;
 use tree_bytes::sections::count_of;
 
-// The numbers of signal s. The arrays come one by one, as `count_of` takes them: those of a decoded tree are fields of its sections.
+// The numbers of signal s. The arrays come one by one, as `count_of` takes them: a decoded tree has them in its sections.
 fn put_numbers(
     m: usize,
     signal: &[u8; MOST_TABLE_URNS],
