@@ -6,31 +6,20 @@ ghost use Rattle.base_lists.specs.Lists.{laid};
 pub fn byte(s: &[u8], i: usize) -> u8
     ensures { result ≡ get_or s.now i 0 }
 {
-    if i < s.len() {
-        return s[i];
-    }
-    0
+    s.get(i).copied().unwrap_or(0)
 }
 
 // All bytes 0.
 pub fn clear(part: &mut [u8])
     ensures { part.new ≡ replicate (length part.old) 0 }
 {
-    let mut i = 0;
-    while i < part.len() {
-        part[i] = 0;
-        i += 1;
-    }
+    part.fill(0);
 }
 
 // The bytes over the front of the part, as far as it goes.
 pub fn copy(bytes: &[u8], part: &mut [u8])
     ensures { part.new ≡ laid bytes.now part.old }
 {
-    let n = crate::numbers::at_most(bytes.len(), part.len());
-    let mut i = 0;
-    while i < n {
-        part[i] = bytes[i];
-        i += 1;
-    }
+    let n = bytes.len().min(part.len());
+    part[..n].copy_from_slice(&bytes[..n]);
 }

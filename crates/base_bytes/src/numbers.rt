@@ -6,14 +6,14 @@ ghost use Rattle.base_lists.specs.Numbers.{within};
 pub fn wide(x: u8) -> usize
     ensures { (result ≡ x) × (result < 256) }
 {
-    x as usize
+    usize::from(x)
 }
 
 // Two bytes as an index.
 pub fn wider(x: u16) -> usize
     ensures { (result ≡ x) × (result < 65536) }
 {
-    x as usize
+    usize::from(x)
 }
 
 // A number in its last byte.
@@ -34,18 +34,12 @@ pub fn short(x: usize) -> u16
 pub fn at_most(n: usize, m: usize) -> usize
     ensures { (result ≡ min n m) × (result ≤ m) }
 {
-    if n <= m {
-        return n;
-    }
-    m
+    n.min(m)
 }
 
 // lo ≤ x ≤ hi
 pub fn in_range(x: u8, lo: u8, hi: u8) -> bool
     ensures { result ≡ within lo hi x }
 {
-    if x < lo {
-        return false;
-    }
-    x <= hi
+    (lo..=hi).contains(&x)
 }

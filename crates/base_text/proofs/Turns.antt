@@ -1,8 +1,8 @@
 -- Laws of the text definitions at a turn of a loop: one byte further.
-use Prim.Native.Nat.{ℕ, suc, zero, ◌+◌, ◌*◌, ◌-◌, ◌≤◌, ◌<◌, min}
-use mathlib.Core.Path.{◌≡◌, refl, ap, ap₂, sym, ◌∙◌}
+use Prim.Native.Nat.{ℕ, suc, zero, ◌+◌, ◌-◌, ◌≤◌, ◌<◌, min}
+use mathlib.Core.Path.{◌≡◌, refl, ap, sym, ◌∙◌}
 use mathlib.Core.Bool.{Bool, true, false, cond, not, ◌&&◌, and-false, and-eq-true_iff, false≢true}
-use mathlib.Core.List.{List, [], ◌∷◌}
+use mathlib.Core.List.{List, [], ◌∷◌, map}
 use native.Mathlib.Numerals.{add-one}
 use native.Mathlib.Omega.{arith}
 use native.Mathlib.Nat.{zero-add, add-zero}
@@ -11,56 +11,30 @@ use lib.ListN.{length, get_or, drop, drop_of_length-le}
 use lib.Seq.{drop-cons}
 use lib.Dec.{eqb, ltb}
 use borrow.Author.Tests.{eq-eqb, ne_eqb, eqb-true, eqb-false, lt-ltb, le-ltb, ltb-true, ltb-false, not-true}
+use Rattle.std.proofs.lemmas.Bool.Decides.{nat_tests}
+use Rattle.std.proofs.lemmas.List.{map-id, get_or-map}
 use Rattle.base_lists.proofs.Bools.{by_test}
 use Rattle.base_lists.specs.Numbers.{word_of}
 use Rattle.theory_resolution.specs.Names.{same_name}
 use Rattle.theory_resolution.proofs.Names.{name-exact}
 use Rattle.base_text.specs.Text.{covers, common}
-use Rattle.base_text.specs.Words.{common_next, differ_at, ends_differ, ends_at}
+use Rattle.base_text.specs.Words.{as_is, common_next, differ_at, ends_differ, ends_at}
 use Rattle.base_text.proofs.Fields.{covers_bytes, covers-fields}
 
--- two texts, one byte further
-module _ (a b : List ℕ) (i : ℕ) {x : Bool} (v : x ≡ same_name (drop i a) (drop i b)) where
-  pub same_more : i < length a → i < length b → get_or a i 0 ≡ get_or b i 0 → x ≡ same_name (drop (i + 1) a) (drop (i + 1) b)
-  same_more h k e = v ∙ rw (add-one, drop-cons a i 0 h, drop-cons b i 0 k, eq-eqb (get_or a i 0) (get_or b i 0) e)
+-- a byte of a text as its bytes are taken
+pub taken-at : (f : ℕ → ℕ) (s : List ℕ) (i : ℕ) → i < length s → get_or (map f s) i 0 ≡ f (get_or s i 0)
+taken-at f s i h = get_or-map f s i 0 0 h
 
-  pub same-less : i < length a → i < length b → (get_or a i 0 ≡ get_or b i 0 → ⊥) → false ≡ x
-  same-less h k e = sym (v ∙ rw (drop-cons a i 0 h, drop-cons b i 0 k, ne_eqb (get_or a i 0) (get_or b i 0) e))
+pub taken-bytes : (f : ℕ → ℕ) (s : List ℕ) → ((x : ℕ) → x < 256 → f x < 256) → ((k : ℕ) → get_or s k 0 < 256) → (k : ℕ) → get_or (map f s) k 0 < 256
+taken-bytes f [] b h k = omega arith
+taken-bytes f (x ∷ s) b h zero = b x (h 0)
+taken-bytes f (x ∷ s) b h (suc k) = taken-bytes f s b (λ j. h (suc j)) k
 
-  pub same_end : length a ≤ i → length b ≤ i → true ≡ x
-  same_end h k = sym (v ∙ rw (drop_of_length-le a {i = i} h, drop_of_length-le b {i = i} k))
+pub as_is-word : (s : List ℕ) (i : ℕ) → word_of s i 8 ≡ word_of (map as_is s) i 8
+as_is-word s i = ap (λ (l : List ℕ). word_of l i 8) (sym (map-id s))
 
 pub same-lengths : (a b : List ℕ) → (length a ≡ length b → ⊥) → false ≡ same_name a b
 same-lengths a b n = by_test (same_name a b) (λ e. absurd (n (ap length (name-exact.to a b e)))) (λ e. sym e)
-
--- eight bytes at once
-pub word_bytes : (s : List ℕ) (i : ℕ) {a b c d e f g h : ℕ} → a ≡ get_or s i 0 → b ≡ get_or s (i + 1) 0 → c ≡ get_or s (i + 2) 0 → d ≡ get_or s (i + 3) 0
-    → e ≡ get_or s (i + 4) 0 → f ≡ get_or s (i + 5) 0 → g ≡ get_or s (i + 6) 0 → h ≡ get_or s (i + 7) 0
-    → a + 256 * (b + 256 * (c + 256 * (d + 256 * (e + 256 * (f + 256 * (g + 256 * h)))))) ≡ word_of s i 8
-word_bytes s i e₀ e₁ e₂ e₃ e₄ e₅ e₆ e₇ =
-    let k₂ : i + 2 ≡ i + 1 + 1 = omega arith in
-    let k₃ : i + 3 ≡ i + 1 + 1 + 1 = omega arith in
-    let k₄ : i + 4 ≡ i + 1 + 1 + 1 + 1 = omega arith in
-    let k₅ : i + 5 ≡ i + 1 + 1 + 1 + 1 + 1 = omega arith in
-    let k₆ : i + 6 ≡ i + 1 + 1 + 1 + 1 + 1 + 1 = omega arith in
-    let k₇ : i + 7 ≡ i + 1 + 1 + 1 + 1 + 1 + 1 + 1 = omega arith in
-    let at : ℕ → ℕ = λ k. get_or s k 0 in
-    omega (arith, e₀, e₁, e₂ ∙ ap at k₂, e₃ ∙ ap at k₃, e₄ ∙ ap at k₄, e₅ ∙ ap at k₅, e₆ ∙ ap at k₆, e₇ ∙ ap at k₇)
-
-pub words_more : (a b : List ℕ) (n i : ℕ) {x : Bool} → ((k : ℕ) → get_or a k 0 < 256) → ((k : ℕ) → get_or b k 0 < 256) → x ≡ same_name (drop i a) (drop i b)
-    → i + n ≤ length a → i + n ≤ length b → word_of a i n ≡ word_of b i n → x ≡ same_name (drop (i + n) a) (drop (i + n) b)
-words_more a b zero i p q v h k e = let z : i + 0 ≡ i = omega arith in rw z v
-words_more a b (suc n) i p q v h k e =
-    let x = p i in
-    let y = q i in
-    let first : get_or a i 0 ≡ get_or b i 0 = omega arith in
-    let rest : word_of a (i + 1) n ≡ word_of b (i + 1) n = omega arith in
-    let z : i + suc n ≡ i + 1 + n = omega arith in
-    rw z (words_more a b n (i + 1) p q (same_more a b i v (omega arith) (omega arith) first) (omega arith) (omega arith) rest)
-
-pub words-less : (a b : List ℕ) (i n : ℕ) {x y : ℕ} → x ≡ word_of a i n → y ≡ word_of b i n → (x ≡ y → ⊥) → false ≡ same_name a b
-words-less a b i n e f m =
-    by_test (same_name a b) (λ t. absurd (m (e ∙ ap (λ (s : List ℕ). word_of s i n) (name-exact.to a b t) ∙ sym f))) (λ t. sym t)
 
 -- a text does not differ from itself at its end
 ends-alike : (a : List ℕ) → ends_differ a a ≡ false
@@ -79,26 +53,6 @@ ends-alike a =
 pub ends-other : (a b : List ℕ) → ends_differ a b ≡ true → false ≡ same_name a b
 ends-other a b e =
     by_test (same_name a b) (λ t. absurd (false≢true (sym (ends-alike a) ∙ ap (ends_differ a) (name-exact.to a b t) ∙ e))) (λ t. sym t)
-
--- the test, as the code makes it
-module _ (a b : List ℕ) where
-  pub ends-length : (length a ≡ length b → ⊥) → true ≡ ends_differ a b
-  unfolding ends_differ
-  ends-length h = sym (rw (ne_eqb (length a) (length b) h))
-
-  module _ (e : length a ≡ length b) where
-    pub ends-none : length a ≡ 0 → false ≡ ends_differ a b
-    unfolding ends_differ
-    ends-none h = sym (rw (eq-eqb (length a) (length b) e, eq-eqb (length a) 0 h))
-
-    module _ (h : length a ≡ 0 → ⊥) where
-      pub ends_last : length a < 8 → not (eqb (get_or a (length a - 1) 0) (get_or b (length a - 1) 0)) ≡ ends_differ a b
-      unfolding ends_differ
-      ends_last l = sym (rw (eq-eqb (length a) (length b) e, ne_eqb (length a) 0 h, lt-ltb (length a) 8 l))
-
-      pub ends_words : 8 ≤ length a → {x y : ℕ} → x ≡ word_of a (length a - 8) 8 → y ≡ word_of b (length a - 8) 8 → not (eqb x y) ≡ ends_differ a b
-      unfolding ends_differ
-      ends_words l p q = ap₂ (λ x y. not (eqb x y)) p q ∙ sym (rw (eq-eqb (length a) (length b) e, ne_eqb (length a) 0 h, le-ltb (length a) 8 l))
 
 -- what two texts have in common, one byte or some bytes further
 module _ (a b : List ℕ) (i : ℕ) {x : ℕ} (v : x ≡ i + common (drop i a) (drop i b)) where
@@ -124,6 +78,14 @@ module _ (a b : List ℕ) (i : ℕ) {x : ℕ} (v : x ≡ i + common (drop i a) (
       go : Dec (length a ≤ i) → i + common (drop i a) (drop i b) ≡ i
       go (yes p) = rw (drop_of_length-le a {i = i} p) (add-zero i)
       go (no p) = rw (drop_of_length-le b {i = i} (omega arith), short (drop i a)) (add-zero i)
+
+-- past where one of two texts ends: at the byte r, which is i if it is past the byte from which on they were compared
+pub common-past : (a b : List ℕ) (from i : ℕ) {r : ℕ} → (from < r → i ≡ r) → from ≤ r → min (length a) (length b) ≤ r
+    → from + common (drop from a) (drop from b) ≡ i + common (drop i a) (drop i b) → r ≡ from + common (drop from a) (drop from b)
+common-past a b from i {r} e h k v = elim (dec_le r from) [
+  | yes p ↦ let q : r ≡ from = omega arith in common-end a b r (ap (λ (j : ℕ). j + common (drop j a) (drop j b)) (sym q)) k
+  | no p ↦ common-end a b r (v ∙ ap (λ (j : ℕ). j + common (drop j a) (drop j b)) (e (omega arith))) k
+]
 
 pub commons-more : (a b : List ℕ) (n i : ℕ) {x : ℕ} → ((k : ℕ) → get_or a k 0 < 256) → ((k : ℕ) → get_or b k 0 < 256) → x ≡ i + common (drop i a) (drop i b)
     → i + n ≤ length a → i + n ≤ length b → word_of a i n ≡ word_of b i n → x ≡ i + n + common (drop (i + n) a) (drop (i + n) b)
@@ -200,14 +162,6 @@ common-le [] w = omega arith
 common-le (x ∷ p) [] = omega arith
 common-le (x ∷ p) (y ∷ w) = by_test (eqb x y) (λ e. rw e (omega (arith, common-le p w))) (λ e. rw e (omega arith))
 
-pub ends-inside : (w : List ℕ) (n : ℕ) → n < length w → eqb (get_or w n 0) 58 ≡ ends_at w n
-unfolding ends_at
-ends-inside w n h = sym (rw (lt-ltb n (length w) h))
-
-pub ends-over : (w : List ℕ) (n : ℕ) → length w ≤ n → true ≡ ends_at w n
-unfolding ends_at
-ends-over w n h = sym (rw (le-ltb n (length w) h))
-
 -- p covers w exactly where all of p is at the beginning of w, and a part of w ends there
 covers_less : (p w : List ℕ) → common p w < length p → covers_bytes p w ≡ false
 unfolding covers_bytes common
@@ -260,3 +214,6 @@ module _ (p w : List ℕ) {k : ℕ} (e : k ≡ common p w) where
 
   pub covers-ends : length p ≤ k → covers p w ≡ ends_at w (length p)
   covers-ends h = covers-fields p w ∙ covers-whole p w (omega arith)
+
+-- what a test of two ends needs
+pub ruleset at_ends = (nat_tests, map-id)

@@ -1,7 +1,17 @@
 -- How the code compares texts: from a byte on up to which they are known to agree, eight bytes at once, and at their ends first.
 use Rattle.std.specs.Prelude.{ℕ, ◌+◌, ◌-◌, min, Bool, true, false, cond, not, ◌&&◌, List, length, get_or, drop, ltb, eqb}
 use Rattle.base_lists.specs.Numbers.{word_of}
-use Rattle.base_text.specs.Text.{common}
+use Rattle.base_text.specs.Text.{common, lower}
+use Rattle.std.proofs.Common.{◌<◌, arith}
+use Rattle.std.proofs.lemmas.Bool.Decides.{nat_tests}
+
+-- each byte as it is
+abbrev pub as_is : ℕ → ℕ
+as_is x = x
+
+-- a small letter is a byte
+pub lower_byte : (x : ℕ) → x < 256 → lower x < 256
+lower_byte x h = grind (arith, nat_tests)
 
 -- how many bytes p and w have in common, where another text has k in common with w and l with p
 unfoldable pub common_next : List ℕ → List ℕ → ℕ → ℕ → ℕ

@@ -33,17 +33,16 @@ fn span(out: &impl Print, p: Span) -> io::Result<()> {
 
 // The entry at the cursor, and the cursor after it.
 fn entry_at(out: &impl Print, v: &[u8], c: Cursor) -> io::Result<Cursor> {
-    let found = c.entry(v);
-    match found {
-        Found::More(p, next) => {
+    match c.entry(v) {
+        Some(Found::More(p, next)) => {
             span(out, p)?;
             Ok(next)
         }
-        Found::Last(p) => {
+        Some(Found::Last(p)) => {
             span(out, p)?;
             Ok(c)
         }
-        Found::None => Ok(c),
+        None => Ok(c),
     }
 }
 

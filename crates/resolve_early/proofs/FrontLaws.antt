@@ -12,7 +12,7 @@ use Rattle.value_cursor.specs.Reading.{Reading, unfit, spans, add, reading_from}
 use Rattle.value_cursor.specs.declared.cursor.Cursor.{Cursor}
 use Rattle.value_cursor.specs.declared.alert_param.Span.{Span}
 use Rattle.value_cursor.specs.declared.alert_param.Found.{Found}
-use Rattle.value_cursor.specs.declared.alert_param.Found.TheVariants.{Last, More, None}
+use Rattle.value_cursor.specs.declared.alert_param.Found.TheVariants.{Last, More}
 use Rattle.value_cursor.proofs.WalkLaws.{walk-halt, walk-move, walk-ind}
 use Rattle.value_cursor.proofs.Lands.{Inner, FoundLands, entry-lands}
 use Rattle.value_cursor.proofs.ReadingLaws.{reading-start, reading-last, reading-more, reading-none}
@@ -22,14 +22,15 @@ use Rattle.value_reader.proofs.Sound.{FoundReads, entry-reads}
 use Rattle.value_reader.proofs.Complete.{placed, entry-to}
 use Rattle.value_reader.proofs.Agree.{agree}
 use Rattle.resolve_early.specs.FirstEntries.{Front, nothing, only, before, front_move, front_step, front_from, uris_in, Begins, start, comma, FrontClaims}
+use Rattle.std.specs.Prelude.{Option, Some, None}
 
 -- f is what stands at a position
-module _ (s : List ℕ) (at : ℕ) (f : Found) (is : f ≡ entry_at s at) where
-  pub front-last : (p : Span) → f ≡ Last p → front_from s at ≡ only p
+module _ (s : List ℕ) (at : ℕ) (f : Option Found) (is : f ≡ entry_at s at) where
+  pub front-last : (p : Span) → f ≡ Some (Last p) → front_from s at ≡ only p
   unfolding front_from front_step
   front-last p e = walk-halt (front_step s) nothing s at (only p) (ap front_move (sym is ∙ e))
 
-  pub front-more : (p : Span) (c : Cursor) → f ≡ More p c → (front_from s at ≡ before p (front_from s c.at)) × (at < c.at) × (c.at ≤ length s)
+  pub front-more : (p : Span) (c : Cursor) → f ≡ Some (More p c) → (front_from s at ≡ before p (front_from s c.at)) × (at < c.at) × (c.at ≤ length s)
   unfolding front_from front_step
   front-more p c e =
       let l = subst (FoundLands s at) (sym is ∙ e) (entry-lands s at) in
@@ -40,22 +41,22 @@ module _ (s : List ℕ) (at : ℕ) (f : Found) (is : f ≡ entry_at s at) where
   front-none e = walk-halt (front_step s) nothing s at nothing (ap front_move (sym is ∙ e))
 
 module _ (s : List ℕ) where
-  found_ok : (at : ℕ) (i : Found) → FoundLands s at i → (g : Front → Front) (n : ℕ) → front_move i ≡ move g n → Inner s at n
-  found_ok at (Last p) l g n q = absurd (let z : ◌≡◌ {A = ℕ} 0 1 = cc in omega arith)
-  found_ok at (More p c) l g n q = let z : c.at ≡ n = cc in omega arith
+  found_ok : (at : ℕ) (i : Option Found) → FoundLands s at i → (g : Front → Front) (n : ℕ) → front_move i ≡ move g n → Inner s at n
+  found_ok at (Some (Last p)) l g n q = absurd (let z : ◌≡◌ {A = ℕ} 0 1 = cc in omega arith)
+  found_ok at (Some (More p c)) l g n q = let z : c.at ≡ n = cc in omega arith
   found_ok at None l g n q = absurd (let z : ◌≡◌ {A = ℕ} 0 1 = cc in omega arith)
 
   -- what holds at an entry that is the last or none, and is carried back over each entry before others, holds of what is read
-  module _ (P : ℕ → Front → Type 0) (last : (at : ℕ) (p : Span) → entry_at s at ≡ Last p → P at (only p)) (none : (at : ℕ) → entry_at s at ≡ None → P at nothing)
-      (more : (at : ℕ) (p : Span) (c : Cursor) (f : Front) → entry_at s at ≡ More p c → P c.at f → P at (before p f)) where
-    halted : (at : ℕ) (i : Found) → entry_at s at ≡ i → (r : Front) → front_move i ≡ halt r → P at r
-    halted at (Last p) e r q = let z : only p ≡ r = cc in subst (P at) z (last at p e)
-    halted at (More p c) e r q = absurd (let z : ◌≡◌ {A = ℕ} 0 1 = cc in omega arith)
+  module _ (P : ℕ → Front → Type 0) (last : (at : ℕ) (p : Span) → entry_at s at ≡ Some (Last p) → P at (only p)) (none : (at : ℕ) → entry_at s at ≡ None → P at nothing)
+      (more : (at : ℕ) (p : Span) (c : Cursor) (f : Front) → entry_at s at ≡ Some (More p c) → P c.at f → P at (before p f)) where
+    halted : (at : ℕ) (i : Option Found) → entry_at s at ≡ i → (r : Front) → front_move i ≡ halt r → P at r
+    halted at (Some (Last p)) e r q = let z : only p ≡ r = cc in subst (P at) z (last at p e)
+    halted at (Some (More p c)) e r q = absurd (let z : ◌≡◌ {A = ℕ} 0 1 = cc in omega arith)
     halted at None e r q = let z : nothing ≡ r = cc in subst (P at) z (none at e)
 
-    moved : (at : ℕ) (i : Found) → entry_at s at ≡ i → (g : Front → Front) (n : ℕ) (x : Front) → front_move i ≡ move g n → P n x → P at (g x)
-    moved at (Last p) e g n x q l = absurd (let z : ◌≡◌ {A = ℕ} 0 1 = cc in omega arith)
-    moved at (More p c) e g n x q l =
+    moved : (at : ℕ) (i : Option Found) → entry_at s at ≡ i → (g : Front → Front) (n : ℕ) (x : Front) → front_move i ≡ move g n → P n x → P at (g x)
+    moved at (Some (Last p)) e g n x q l = absurd (let z : ◌≡◌ {A = ℕ} 0 1 = cc in omega arith)
+    moved at (Some (More p c)) e g n x q l =
         let z : before p ≡ g = cc in
         let y : n ≡ c.at = cc in
         subst (λ (k : Front → Front). P at (k x)) z (more at p c x e (subst (λ (m : ℕ). P m x) y l))
@@ -82,9 +83,9 @@ module _ (s : List ℕ) where
   pub front-reading : (at : ℕ) → reading_from s at ≡ as_reading (front_from s at)
   front-reading =
       front-ind (λ at f. reading_from s at ≡ as_reading f)
-      (λ at p e. (reading-last s at (Last p) (sym e) p refl).0)
+      (λ at p e. (reading-last s at (Some (Last p)) (sym e) p refl).0)
       (λ at e. reading-none s at None (sym e) refl)
-      (λ at p c f e ih. (reading-more s at (More p c) (sym e) p c refl).0 ∙ ap (add p) ih ∙ add-before p f)
+      (λ at p c f e ih. (reading-more s at (Some (More p c)) (sym e) p c refl).0 ∙ ap (add p) ih ∙ add-before p f)
 
   -- some entry is the last
   pub ended_some : (at : ℕ) → (front_from s at).ended ≡ true → (front_from s at).parts ≡ [] → ⊥
@@ -129,7 +130,7 @@ module _ (s : List ℕ) where
   read-begins : (at : ℕ) → Stands at (front_from s at)
   read-begins = front-ind Stands ends stops goes
     where
-      ends : (at : ℕ) (p : Span) → entry_at s at ≡ Last p → Stands at (only p)
+      ends : (at : ℕ) (p : Span) → entry_at s at ≡ Some (Last p) → Stands at (only p)
       ends at p e zero h = ([], drop at s, start, refl)
       ends at p e (suc k) (inl h) = absurd (omega arith)
       ends at p e (suc k) (inr h) = absurd (true≢false h.1)
@@ -144,7 +145,7 @@ module _ (s : List ℕ) where
       less f p k (inl h) = inl (omega arith)
       less f p k (inr h) = inr (let z = h.0 in omega arith, h.1)
 
-      goes : (at : ℕ) (p : Span) (c : Cursor) (f : Front) → entry_at s at ≡ More p c → Stands c.at f → Stands at (before p f)
+      goes : (at : ℕ) (p : Span) (c : Cursor) (f : Front) → entry_at s at ≡ Some (More p c) → Stands c.at f → Stands at (before p f)
       goes at p c f e ih zero h = ([], drop at s, start, refl)
       goes at p c f e ih (suc k) h =
           let l = subst (FoundReads s at) e (entry-reads s at) in

@@ -12,7 +12,7 @@ use Rattle.base_numbers.specs.Numbers.{most_entries}
 use Rattle.value_cursor.specs.Parts.{entry_at}
 use Rattle.value_cursor.specs.declared.alert_param.Span.{Span}
 use Rattle.value_cursor.specs.declared.alert_param.Found.{Found}
-use Rattle.value_cursor.specs.declared.alert_param.Found.TheVariants.{Last, More, None}
+use Rattle.value_cursor.specs.declared.alert_param.Found.TheVariants.{Last, More}
 use Rattle.value_reader.specs.Value.{part_of}
 use Rattle.node_step.specs.StatusByte.{step_packed}
 use Rattle.node_step.specs.declared.stored.Packed.{Packed}
@@ -26,6 +26,7 @@ use Rattle.resolve_early.proofs.FrontLaws.{front-last, front-more, front-none, e
 use Rattle.resolve_run.specs.Run.{entry_of}
 use Rattle.resolve_run.proofs.RunLaws.{whole_part}
 use Rattle.resolve_run.specs.declared.entry.Entry.{Entry}
+use Rattle.std.specs.Prelude.{Option, Some, None}
 
 module _ (rows ps : List ℕ) (inner : List Bool) (n : ℕ) (st : Packed) (u : Use) where
   pub after-skipped : u ≡ Skipped → st ≡ after_use rows ps inner n st u
@@ -119,14 +120,14 @@ module _ (t : List ℕ) (d : Decoded) (v : List ℕ) (st : Packed) (n at : ℕ) 
             → all ≡ run_from t d v next (n + 1) e.next) (sym stands)
             (go (entry_at v at) refl)
           where
-            go : (f : Found) → f ≡ entry_at v at → (entry_of f).fits ≡ true → (entry_of f).last ≡ false → next ≡ after_uri t d st (part_of v (entry_of f).span)
+            go : (f : Option Found) → f ≡ entry_at v at → (entry_of f).fits ≡ true → (entry_of f).last ≡ false → next ≡ after_uri t d st (part_of v (entry_of f).span)
                 → all ≡ run_from t d v next (n + 1) (entry_of f).next
-            go (More p c) here a b q =
-                inv ∙ ap (λ x. over st n (first_of (most_entries - n) x)) (front-more v at (More p c) here p c refl).0
+            go (Some (More p c)) here a b q =
+                inv ∙ ap (λ x. over st n (first_of (most_entries - n) x)) (front-more v at (Some (More p c)) here p c refl).0
                 ∙ ap (over st n) (first_more p (front_from v c.at))
                 ∙ one_more p (first_of (most_entries - (n + 1)) (front_from v c.at)).parts (first_of (most_entries - (n + 1)) (front_from v c.at)).ended
                 ∙ ap (λ s. over s (n + 1) (first_of (most_entries - (n + 1)) (front_from v c.at))) (sym q)
-            go (Last p) here a b q = absurd (true≢false b)
+            go (Some (Last p)) here a b q = absurd (true≢false b)
             go None here a b q = absurd (true≢false (sym a))
 
         pub run-last : {next : Packed} → e.fits ≡ true → e.last ≡ true → next ≡ after_uri t d st (part_of v e.span) → reached_at true next (n + 1) ≡ all
@@ -136,11 +137,11 @@ module _ (t : List ℕ) (d : Decoded) (v : List ℕ) (st : Packed) (n at : ℕ) 
             → reached_at true next (n + 1) ≡ all) (sym stands)
             (go (entry_at v at) refl)
           where
-            go : (f : Found) → f ≡ entry_at v at → (entry_of f).fits ≡ true → (entry_of f).last ≡ true
+            go : (f : Option Found) → f ≡ entry_at v at → (entry_of f).fits ≡ true → (entry_of f).last ≡ true
                 → next ≡ after_uri t d st (part_of v (entry_of f).span) → reached_at true next (n + 1) ≡ all
-            go (More p c) here a b q = absurd (true≢false (sym b))
-            go (Last p) here a b q =
-                sym (inv ∙ ap (λ x. over st n (first_of (most_entries - n) x)) (front-last v at (Last p) here p refl)
+            go (Some (More p c)) here a b q = absurd (true≢false (sym b))
+            go (Some (Last p)) here a b q =
+                sym (inv ∙ ap (λ x. over st n (first_of (most_entries - n) x)) (front-last v at (Some (Last p)) here p refl)
                 ∙ ap (over st n) (first-only p) ∙ one_more p [] true
                 ∙ ap (λ s. reached_at true s (n + 1)) (sym q))
             go None here a b q = absurd (true≢false (sym a))
@@ -149,9 +150,9 @@ module _ (t : List ℕ) (d : Decoded) (v : List ℕ) (st : Packed) (n at : ℕ) 
         unfolding run_from
         run_none = subst (λ (e : Entry). e.fits ≡ false → reached_at false st n ≡ all) (sym stands) (go (entry_at v at) refl)
           where
-            go : (f : Found) → f ≡ entry_at v at → (entry_of f).fits ≡ false → reached_at false st n ≡ all
-            go (More p c) here a = absurd (true≢false a)
-            go (Last p) here a = absurd (true≢false a)
+            go : (f : Option Found) → f ≡ entry_at v at → (entry_of f).fits ≡ false → reached_at false st n ≡ all
+            go (Some (More p c)) here a = absurd (true≢false a)
+            go (Some (Last p)) here a = absurd (true≢false a)
             go None here a =
                 sym (inv ∙ ap (λ x. over st n (first_of (most_entries - n) x)) (front-none v at None here refl)
                 ∙ ap (over st n) (first-nothing (most_entries - n)) ∙ no_more)

@@ -1,12 +1,12 @@
 -- The entries of a value that are read one by one: up to its end, or up to where it does not fit. The comma
 -- behind an entry, or the value's end, is read with it.
-use Rattle.std.specs.Prelude.{ℕ, ◌<◌, ◌≡◌, ◌↔◌, ◌⊎◌, Bool, true, false, ◌&&◌, List, [], ◌∷◌, ◌++◌, map, leb, length, take}
+use Rattle.std.specs.Prelude.{ℕ, ◌<◌, ◌≡◌, ◌↔◌, ◌⊎◌, Bool, true, false, ◌&&◌, List, [], ◌∷◌, ◌++◌, map, leb, length, take, Option, Some, None}
 use Prim.Native.Char.{code}
 use Rattle.value_cursor.specs.Walk.{Move, halt, move, walk_at}
 use Rattle.value_cursor.specs.Parts.{entry_at}
 use Rattle.value_cursor.specs.declared.alert_param.Span.{Span}
 use Rattle.value_cursor.specs.declared.alert_param.Found.{Found}
-use Rattle.value_cursor.specs.declared.alert_param.Found.TheVariants.{Last, More, None}
+use Rattle.value_cursor.specs.declared.alert_param.Found.TheVariants.{Last, More}
 use Rattle.value_reader.specs.Value.{part_of}
 use Rattle.value_reader.specs.Grammar.{White, Entry, Value}
 
@@ -26,9 +26,9 @@ abbrev pub before : Span → Front → Front
 before p f = record { parts = p ∷ f.parts; ended = f.ended }
 
 -- what is read at a position, by what the reader finds there
-abbrev pub front_move : Found → Move Front
-front_move (Last p) = halt (only p)
-front_move (More p c) = move (before p) c.at
+abbrev pub front_move : Option Found → Move Front
+front_move (Some (Last p)) = halt (only p)
+front_move (Some (More p c)) = move (before p) c.at
 front_move None = halt nothing
 
 unfoldable pub front_step : List ℕ → ℕ → Move Front

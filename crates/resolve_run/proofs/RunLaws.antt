@@ -9,7 +9,7 @@ use Rattle.value_cursor.specs.Parts.{entry_at}
 use Rattle.value_cursor.specs.Reading.{Reading, unfit, spans, add, reading_from}
 use Rattle.value_cursor.specs.declared.alert_param.Span.{Span}
 use Rattle.value_cursor.specs.declared.alert_param.Found.{Found}
-use Rattle.value_cursor.specs.declared.alert_param.Found.TheVariants.{Last, More, None}
+use Rattle.value_cursor.specs.declared.alert_param.Found.TheVariants.{Last, More}
 use Rattle.value_cursor.proofs.ReadingLaws.{reading-last, reading-more, reading-none}
 use Rattle.value_reader.specs.Value.{part_of}
 use Rattle.node_step.specs.Step.{step_numbers}
@@ -26,6 +26,7 @@ use Rattle.machine_symbols.specs.Listed.{symbol_number}
 use Rattle.resolve_run.specs.Run.{Direct, walked_to, Machine, use_in, target_now, moved, signal_now, after_use, after, entry_of, over, run_of}
 use Rattle.resolve_run.specs.declared.run.Outcome.{Outcome}
 use Rattle.resolve_run.specs.declared.entry.Entry.{Entry}
+use Rattle.std.specs.Prelude.{Option, Some, None}
 
 module _ (rows parent : List ℕ) (inner : List Bool) (signals : ℕ) (m : Machine) (x : Current) (c k : ℕ) (w : Bool) {y : Current} where
   pub moved_walk : {r n : ℕ} → x.walks ≡ true → n ≡ symbol_number m.index m.symbols m.count inner c k w
@@ -109,12 +110,12 @@ pub record Met (v : List ℕ) (at : ℕ) (e : Entry) : Type 0 where
 pub met : (v : List ℕ) (at : ℕ) {e : Entry} → e ≡ entry_of (entry_at v at) → Met v at e
 met v at is = subst (Met v at) (sym is) (go (entry_at v at) refl)
   where
-    go : (f : Found) → f ≡ entry_at v at → Met v at (entry_of f)
-    go (More p c) q =
-        let m = reading-more v at (More p c) q p c refl in
+    go : (f : Option Found) → f ≡ entry_at v at → Met v at (entry_of f)
+    go (Some (More p c)) q =
+        let m = reading-more v at (Some (More p c)) q p c refl in
         record { none = λ z. absurd (true≢false z); last = λ _ z. absurd (true≢false (sym z)); more = λ _ _. (m.0, m.1, m.2); inside = m.3 }
-    go (Last p) q =
-        let m = reading-last v at (Last p) q p refl in
+    go (Some (Last p)) q =
+        let m = reading-last v at (Some (Last p)) q p refl in
         record { none = λ z. absurd (true≢false z); last = λ _ _. m.0; more = λ _ z. absurd (true≢false z); inside = m.1 }
     go None q =
         record {

@@ -1,11 +1,12 @@
 -- How a value is gone through: from entry to entry, each taken as it is met.
-use Rattle.std.specs.Prelude.{ℕ, ◌+◌, min, Bool, true, false, cond, length, replicate, ltb}
+use Rattle.std.specs.Prelude.{ℕ, ◌+◌, min, Bool, true, false, cond, length, replicate, ltb, Some, None}
+use Rattle.std.specs.Prelude as std
 use Rattle.std.proofs.Math.Option.{Option, none, some}
 use mathlib.Core.List.{List, [], map, foldl}
 use Rattle.base_numbers.specs.Numbers.{most_categories, most_entries, most_value_bytes, too_many_entries, value_misfit, value_too_long}
 use Rattle.value_cursor.specs.Reading.{Reading, unfit, spans, reading_from}
 use Rattle.value_cursor.specs.declared.alert_param.Found.{Found}
-use Rattle.value_cursor.specs.declared.alert_param.Found.TheVariants.{Last, More, None}
+use Rattle.value_cursor.specs.declared.alert_param.Found.TheVariants.{Last, More}
 use Rattle.value_reader.specs.Value.{part_of}
 use Rattle.node_step.specs.Step.{step_numbers}
 use Rattle.node_step.specs.Tries.{tries_numbers}
@@ -77,9 +78,9 @@ unfoldable pub after : List ℕ → Decoded → Machine → Point → List ℕ �
 after t d m p uri = after_use d.rows d.parent d.inner d.signals m p (use_in t d uri)
 
 -- what stands at a place of a value: an entry with the place of the next, the last entry, or no entry
-abbrev pub entry_of : Found → Entry
-entry_of (More p c) = record { fits = true; last = false; span = p; next = c.at }
-entry_of (Last p) = record { fits = true; last = true; span = p; next = 0 }
+abbrev pub entry_of : std.Option Found → Entry
+entry_of (Some (More p c)) = record { fits = true; last = false; span = p; next = c.at }
+entry_of (Some (Last p)) = record { fits = true; last = true; span = p; next = 0 }
 entry_of None = record { fits = false; last = true; span = record { start = 0; len = 0 }; next = 0 }
 
 -- the whole run over a reading of v, none where the value does not fit

@@ -18,8 +18,14 @@ pub struct Entry {
 pub fn entry_at(v: &[u8], at: usize) -> Entry
     ensures { result ≡ entry_of (entry_at v.now at) }
 {
-    let c = Cursor { at };
-    let found = c.entry(v);
+    let Some(found) = (Cursor { at }).entry(v) else {
+        return Entry {
+            fits: false,
+            last: true,
+            span: Span { start: 0, len: 0 },
+            next: 0,
+        };
+    };
     match found {
         Found::More(span, next) => Entry {
             fits: true,
@@ -31,12 +37,6 @@ pub fn entry_at(v: &[u8], at: usize) -> Entry
             fits: true,
             last: true,
             span,
-            next: 0,
-        },
-        Found::None => Entry {
-            fits: false,
-            last: true,
-            span: Span { start: 0, len: 0 },
             next: 0,
         },
     }

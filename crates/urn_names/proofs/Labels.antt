@@ -18,7 +18,8 @@ use Rattle.base_lists.specs.Numbers.{within}
 use Rattle.base_text.specs.Text.{on_first, fields}
 use Rattle.urn_names.specs.Names.{label_byte, label_ok, name_ok}
 use Rattle.base_text.proofs.Fields.{fields-more}
-use Rattle.urn_names.proofs.Runs.{other_byte, at_byte}
+use Rattle.urn_names.specs.Labels.{at_no_label}
+use Rattle.urn_names.proofs.Runs.{other_byte}
 
 -- what the form of a label says of its length and its bytes
 pub label-length : (l : List ℕ) → label_ok l ≡ true → (1 ≤ length l) × (length l ≤ most_label_bytes)
@@ -43,7 +44,7 @@ unfolding fields all on_first
 whole-label [] h = refl
 whole-label (x ∷ l) h =
     let p = (and-eq-true_iff (label_byte x) (all label_byte l)).0 h in
-    rw (other_byte 64 x at_byte p.0, whole-label l p.1)
+    rw (other_byte label_byte 64 x at_no_label p.0, whole-label l p.1)
 
 pub name-labels : (x : List ℕ) → name_ok x ≡ true → (l : List ℕ) → Memᴰ l (fields 64 x) → label_ok l ≡ true
 unfolding name_ok

@@ -1,5 +1,5 @@
 -- Labels and names, as bytes.
-use Rattle.std.specs.Prelude.{ℕ, ◌-◌, Bool, cond, not, ◌&&◌, ◌||◌, List, length, get_or, eqb}
+use Rattle.std.specs.Prelude.{ℕ, ◌-◌, Bool, cond, not, ◌&&◌, ◌||◌, List, Option, Some, None, length, get_or, eqb}
 use Rattle.base_numbers.specs.Numbers.{most_label_bytes}
 use Rattle.base_lists.specs.Cuts.{up_to, past}
 use Rattle.base_lists.specs.Tests.{all}
@@ -19,6 +19,6 @@ label_ok s =
 unfoldable pub name_ok : List ℕ → Bool
 name_ok s = label_ok s || (label_ok (up_to 64 s) && label_ok (past 64 s))
 
--- how long the name up to the first colon or the end is, or 0 if it does not pass the test
-unfoldable pub length_by : (List ℕ → Bool) → List ℕ → ℕ
-length_by ok s = cond (ok (up_to 58 s)) (length (up_to 58 s)) 0
+-- how long the name up to the first colon or the end is, if it passes the test
+unfoldable pub length_by : (List ℕ → Bool) → List ℕ → Option ℕ
+length_by ok s = cond (ok (up_to 58 s)) (Some (length (up_to 58 s))) None

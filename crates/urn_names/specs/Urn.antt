@@ -1,5 +1,5 @@
 -- Alert URNs: in a value with `urn:alert:` before them, in a stored table without it.
-use Rattle.std.specs.Prelude.{ℕ, Bool, true, false, cond, not, ◌&&◌, List, [], ◌∷◌, length, drop, eqb, leb}
+use Rattle.std.specs.Prelude.{ℕ, Bool, true, false, cond, not, ◌&&◌, List, [], ◌∷◌, Option, Some, None, length, drop, eqb, leb}
 use Rattle.base_numbers.specs.Numbers.{most_urn_names}
 use Rattle.base_lists.specs.Cuts.{up_to, past}
 use Rattle.base_lists.specs.Tests.{all}
@@ -49,6 +49,10 @@ path_of = past 58
 -- how many names stand between the colons, or 0 if one of them does not pass the test
 unfoldable pub names_by : (List ℕ → Bool) → List ℕ → ℕ
 names_by ok s = cond (all ok (fields 58 s)) (length (fields 58 s)) 0
+
+-- how many names stand between the colons, if all of them pass the test
+unfoldable pub count_by : (List ℕ → Bool) → List ℕ → Option ℕ
+count_by ok s = cond (all ok (fields 58 s)) (Some (length (fields 58 s))) None
 
 -- a byte that may stand in a label of a stored name
 unfoldable pub stored_byte : ℕ → Bool

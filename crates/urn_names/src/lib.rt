@@ -2,11 +2,9 @@
 //
 // In: the bytes of a URI, of a name or of a URN of a table. Out: whether they have their form.
 //
-//   names.rt   labels and names
-//   urn.rt     alert URNs in a value, without regard to letter case
-//   stored.rt  names and URNs as a table stores them
+//   names.rt  labels and names, over which bytes may stand in them
+//   urn.rt    alert URNs in a value, without regard to letter case, and what a table stores
 #![tactic(auto)]
 
 mod names;
-mod stored;
 pub mod urn;

@@ -10,25 +10,21 @@ use Rattle.value_cursor.specs.Reading.{Reading, unfit, spans, add}
 use Rattle.value_cursor.specs.Pass.{noted, note_all, summary}
 use Rattle.value_cursor.specs.declared.alert_param.Span.{Span}
 use Rattle.value_cursor.specs.declared.pass.Scan.{Scan}
+use Rattle.std.specs.Prelude.{Option, Some}
 
 summary-add : (k : ℕ) (t : Scan) (p : Span) (r : Reading) → summary k t (add p r) ≡ summary k (noted k t p) r
 unfolding note_all
 summary-add k t p unfit = refl
 summary-add k t p (spans ps) = refl
 
-pub summary-last : (k : ℕ) (t : Scan) (p : Span) → summary k t (spans (p ∷ [])) ≡ noted k t p
+pub summary-last : (k : ℕ) (t : Scan) (p : Span) → summary k t (spans (p ∷ [])) ≡ Some (noted k t p)
 unfolding note_all
 summary-last k t p = refl
 
 -- a turn of the loop over entries
-pub scan-more : (k : ℕ) (t u : Scan) (p : Span) (x : Scan) (q r : Reading) → x ≡ summary k t q → q ≡ add p r
+pub scan-more : (k : ℕ) (t u : Scan) (p : Span) (x : Option Scan) (q r : Reading) → x ≡ summary k t q → q ≡ add p r
     → u ≡ noted k t p → x ≡ summary k u r
 scan-more k t u p x q r e f g = e ∙ ap (summary k t) f ∙ summary-add k t p r ∙ ap (λ (y : Scan). summary k y r) (sym g)
-
-pub all-fits : (k : ℕ) (t : Scan) (ps : List Span) → (note_all k t ps).fits ≡ t.fits
-unfolding note_all
-all-fits k t [] = refl
-all-fits k t (p ∷ ps) = all-fits k (noted k t p) ps
 
 pub all-entries : (k : ℕ) (t : Scan) (ps : List Span) → (note_all k t ps).entries ≡ t.entries + length ps
 unfolding note_all

@@ -67,16 +67,14 @@ pub(crate) fn has(classes: &[u8; 256], b: u8, class: u8) -> bool
     requires { (class < 5) × Classes classes.now }
     ensures { result ≡ in_class class b }
 {
-    let i = b as usize;
-    (classes[i] >> class) % 2 == 1
+    (classes[usize::from(b)] >> class) % 2 == 1
 }
 
 // The classes of byte b.
 fn of(classes: &[u8; 256], b: u8) -> u8
     ensures { result ≡ get_or classes.now b 0 }
 {
-    let i = b as usize;
-    classes[i]
+    classes[usize::from(b)]
 }
 
 // Four bytes are all in a class: one test for the four.

@@ -12,19 +12,11 @@ pub struct Cursor {
     pub at: usize,
 }
 
-// What passing a token, a quoted string or a parameter gives.
-#[derive(Clone, Copy)]
-pub enum Passed {
-    Next(Cursor),
-    Refused,
-}
-
-// What passing text of a quoted string gives: its closing quote is passed, or an escaped byte, or neither follows.
+// What stands after text of a quoted string: its closing quote, or an escaped byte. The cursor is after it.
 #[derive(Clone, Copy)]
 pub enum Quote {
     Closed(Cursor),
     Escaped(Cursor),
-    Unclosed,
 }
 
 impl Cursor {
@@ -32,8 +24,7 @@ impl Cursor {
     pub(crate) fn peek(self, s: &[u8]) -> u8
         ensures { result ≡ get_or s.now self.at 0 }
     {
-        let at = self.at;
-        if at < s.len() { s[at] } else { 0 }
+        s.get(self.at).copied().unwrap_or(0)
     }
 
     // The four bytes from here on are all in a class.
@@ -41,8 +32,14 @@ impl Cursor {
         requires { (class < 5) × Classes classes.now × (self.at + 4 ≤ length s.now) }
         ensures { result ≡ four_at (in_class class) s.now self.at }
     {
-        let at = self.at;
-        have(classes, s[at], s[at + 1], s[at + 2], s[at + 3], class)
+        have(
+            classes,
+            s[self.at],
+            s[self.at + 1],
+            s[self.at + 2],
+            s[self.at + 3],
+            class,
+        )
     }
 
     // Past the bytes of a class, four at a time: a quicker way through the most of them.
@@ -50,19 +47,12 @@ impl Cursor {
         requires { (class < 5) × Classes classes.now }
         ensures { run_at (in_class class) s.now self.at ≡ run_at (in_class class) s.now result.at }
     {
-        let end = s.len();
-        let mut at = self.at;
-        while at < end {
-            let c = Cursor { at };
-            if end - at < 4 {
-                return c;
-            }
-            if !c.four(classes, s, class) {
-                return c;
-            }
-            at += 4;
+        // The cursor itself goes on: it may stand past the end, where no slice begins for a chain to go over.
+        let mut c = self;
+        while c.at < s.len() && 4 <= s.len() - c.at && c.four(classes, s, class) {
+            c.at += 4;
         }
-        Cursor { at }
+        c
     }
 
     // Past all bytes of a class.
@@ -70,15 +60,11 @@ impl Cursor {
         requires { (class < 5) × Classes classes.now }
         ensures { result.at ≡ run_at (in_class class) s.now self.at }
     {
-        let c = self.run_fours(classes, s, class);
-        let mut at = c.at;
-        while at < s.len() {
-            if !has(classes, s[at], class) {
-                return Cursor { at };
-            }
-            at += 1;
+        let mut c = self.run_fours(classes, s, class);
+        while c.at < s.len() && has(classes, s[c.at], class) {
+            c.at += 1;
         }
-        Cursor { at }
+        c
     }
 
     // How long the fold at a CR is: 3 if LF and then a space or a tab follow it, else 0.
@@ -86,14 +72,17 @@ impl Cursor {
         requires { Classes classes.now × (get_or s.now self.at 0 ≡ 13) }
         ensures { result ≡ fold_length s.now self.at }
     {
-        let at = self.at;
-        if s.len() - at < 3 {
+        if s.len() - self.at < 3 {
             return 0;
         }
-        if s[at + 1] != b'\n' {
+        if s[self.at + 1] != b'\n' {
             return 0;
         }
-        if has(classes, s[at + 2], BLANK) { 3 } else { 0 }
+        if has(classes, s[self.at + 2], BLANK) {
+            3
+        } else {
+            0
+        }
     }
 
     // Past white space that may begin here.
@@ -101,30 +90,29 @@ impl Cursor {
         requires { Classes classes.now }
         ensures { result.at ≡ white_at s.now self.at }
     {
-        let mut at = self.at;
-        while at < s.len() {
-            let c = Cursor { at };
-            if s[at] == b' ' {
-                at += 1;
+        let mut c = self;
+        while c.at < s.len() {
+            if s[c.at] == b' ' {
+                c.at += 1;
                 continue;
             }
-            if b' ' < s[at] {
+            if b' ' < s[c.at] {
                 return c;
             }
-            if s[at] == b'\t' {
-                at += 1;
+            if s[c.at] == b'\t' {
+                c.at += 1;
                 continue;
             }
-            if s[at] != b'\r' {
+            if s[c.at] != b'\r' {
                 return c;
             }
             let n = c.fold(classes, s);
             if n == 0 {
                 return c;
             }
-            at += n;
+            c.at += n;
         }
-        Cursor { at }
+        c
     }
 
     // Past white space, also where there is none, which is the usual case: one comparison tells it.
@@ -132,88 +120,65 @@ impl Cursor {
         requires { Classes classes.now }
         ensures { result.at ≡ white_at s.now self.at }
     {
-        let at = self.at;
-        if at < s.len() {
-            if b' ' < s[at] {
-                return self;
-            }
+        if self.at < s.len() && b' ' < s[self.at] {
+            return self;
         }
         self.blanks(classes, s)
     }
 
     // Past a token.
-    pub(crate) fn token(self, classes: &[u8; 256], s: &[u8]) -> Passed
+    pub(crate) fn token(self, classes: &[u8; 256], s: &[u8]) -> Option<Cursor>
         requires { Classes classes.now }
         ensures { result ≡ token_at s.now self.at }
     {
         let c = self.run(classes, s, TOKEN);
-        if self.at == c.at {
-            Passed::Refused
-        } else {
-            Passed::Next(c)
-        }
+        if self.at == c.at { None } else { Some(c) }
     }
 
     // From after a backslash in a quoted string: past the byte that it escapes.
-    fn escaped(self, classes: &[u8; 256], s: &[u8]) -> Quote
+    fn escaped(self, classes: &[u8; 256], s: &[u8]) -> Option<Quote>
         requires { Classes classes.now }
         ensures { result ≡ escape_byte s.now self.at }
     {
-        let at = self.at;
-        if s.len() <= at {
-            return Quote::Unclosed;
+        if s.len() <= self.at || !has(classes, s[self.at], ESCAPABLE) {
+            return None;
         }
-        if !has(classes, s[at], ESCAPABLE) {
-            return Quote::Unclosed;
-        }
-        let next = at + 1;
-        Quote::Escaped(Cursor { at: next })
+        Some(Quote::Escaped(Cursor { at: self.at + 1 }))
     }
 
     // Past text of a quoted string and the closing quote or escaped byte after it. Between two escaped bytes there often
     // is no text, so a backslash is looked for first.
-    fn quoted_text(self, classes: &[u8; 256], s: &[u8]) -> Quote
+    fn quoted_text(self, classes: &[u8; 256], s: &[u8]) -> Option<Quote>
         requires { Classes classes.now }
         ensures { result ≡ quote_at s.now self.at }
     {
         if self.peek(s) == b'\\' {
-            let next = self.at + 1;
-            let f = Cursor { at: next };
-            return f.escaped(classes, s);
+            return Cursor { at: self.at + 1 }.escaped(classes, s);
         }
         let t = self.run(classes, s, TEXT);
         let b = t.peek(s);
-        let end = t.at;
         if b == b'"' {
-            let after = end + 1;
-            return Quote::Closed(Cursor { at: after });
+            return Some(Quote::Closed(Cursor { at: t.at + 1 }));
         }
         if b != b'\\' {
-            return Quote::Unclosed;
+            return None;
         }
-        let next = end + 1;
-        let e = Cursor { at: next };
-        e.escaped(classes, s)
+        Cursor { at: t.at + 1 }.escaped(classes, s)
     }
 
     // Past a quoted string.
-    pub(crate) fn quoted(self, classes: &[u8; 256], s: &[u8]) -> Passed
+    pub(crate) fn quoted(self, classes: &[u8; 256], s: &[u8]) -> Option<Cursor>
         requires { Classes classes.now }
         ensures { result ≡ quoted_at s.now self.at }
     {
         if self.peek(s) != b'"' {
-            return Passed::Refused;
+            return None;
         }
-        let mut at = self.at + 1;
+        let mut c = Cursor { at: self.at + 1 };
         loop {
-            let c = Cursor { at };
-            let q = c.quoted_text(classes, s);
-            match q {
-                Quote::Escaped(n) => {
-                    at = n.at;
-                }
-                Quote::Closed(n) => return Passed::Next(n),
-                Quote::Unclosed => return Passed::Refused,
+            match c.quoted_text(classes, s)? {
+                Quote::Escaped(n) => c = n,
+                Quote::Closed(n) => return Some(n),
             }
         }
     }

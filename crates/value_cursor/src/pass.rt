@@ -7,68 +7,51 @@ use crate::alert_param::{Found, Span};
 use crate::classes::table;
 use crate::cursor::Cursor;
 
-// A pass over a value: whether it fits, its entries so far, and where the URI of entry k lies (0 and 0 before it is met).
+// A pass over a value: its entries so far, and where the URI of entry k lies (0 and 0 before it is met).
 #[derive(Clone, Copy)]
 pub struct Scan {
-    pub fits: bool,
     pub entries: usize,
     pub span: Span,
 }
 
-// One entry more. Its URI's place is kept if it is entry k.
-fn note(t: Scan, k: usize, span: Span) -> Scan
-    requires { t.entries < 18446744073709551615 }
-    ensures { result ≡ noted k t span }
-{
-    let entries = t.entries + 1;
-    if t.entries == k {
-        return Scan {
-            fits: t.fits,
-            entries,
-            span,
-        };
-    }
-    let kept = t.span;
-    Scan {
-        fits: t.fits,
-        entries,
-        span: kept,
+impl Scan {
+    // One entry more. Its URI's place is kept if it is entry k.
+    fn note(self, k: usize, span: Span) -> Scan
+        requires { self.entries < 18446744073709551615 }
+        ensures { result ≡ noted k self span }
+    {
+        Scan {
+            entries: self.entries + 1,
+            span: if self.entries == k { span } else { self.span },
+        }
     }
 }
 
-// From entry to entry through the value.
-fn scan_with(classes: &[u8; 256], v: &[u8], k: usize) -> Scan
+// From entry to entry through the value, if it fits.
+fn scan_with(classes: &[u8; 256], v: &[u8], k: usize) -> Option<Scan>
     requires { Classes classes.now }
     ensures { result ≡ scan_of v.now k }
 {
-    let mut at = 0;
+    let mut c = Cursor { at: 0 };
     let mut t = Scan {
-        fits: true,
         entries: 0,
         span: Span { start: 0, len: 0 },
     };
     loop {
-        let c = Cursor { at };
-        let found = c.entry_with(classes, v);
+        let found = c.entry_with(classes, v)?;
         match found {
             Found::More(span, next) => {
-                t = note(t, k, span);
-                at = next.at;
+                t = t.note(k, span);
+                c = next;
             }
-            Found::Last(span) => return note(t, k, span),
-            Found::None => return Scan {
-                fits: false,
-                entries: 0,
-                span: Span { start: 0, len: 0 },
-            },
+            Found::Last(span) => return Some(t.note(k, span)),
         }
     }
 }
 
 // A pass over any bytes, by one table.
-pub fn scan_value(v: &[u8], k: usize) -> Scan
+pub fn scan_value(v: &[u8], k: usize) -> Option<Scan>
     ensures { result ≡ scan_of v.now k }
 {
-    let classes = table();
-    scan_with(&classes, v, k)
+    scan_with(&table(), v, k)
 }

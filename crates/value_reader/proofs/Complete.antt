@@ -21,8 +21,6 @@ use Rattle.value_cursor.specs.Reading.{spans, add, reading_from, reading_of}
 use Rattle.value_cursor.specs.Pass.{nowhere}
 use Rattle.value_cursor.specs.declared.cursor.Cursor.{Cursor}
 use Rattle.value_cursor.specs.declared.cursor.Quote.TheVariants.{Closed}
-use Rattle.value_cursor.specs.declared.cursor.Passed.{Passed}
-use Rattle.value_cursor.specs.declared.cursor.Passed.TheVariants.{Next}
 use Rattle.value_cursor.specs.declared.alert_param.Span.{Span}
 use Rattle.value_cursor.specs.declared.alert_param.Following.TheVariants as following
 use Rattle.value_cursor.specs.declared.alert_param.Ending.{Ending}
@@ -42,6 +40,8 @@ use Rattle.value_reader.specs.Value.{part_of}
 use Rattle.value_reader.specs.Grammar.{Any, Some, White, Token, Text, Setting, Param, Params, Entry, Value}
 use Rattle.value_reader.specs.Grammar.{Before}
 use Rattle.value_reader.specs.Grammar as G
+use Rattle.std.specs.Prelude.{Option}
+use Rattle.std.specs.declared.option.Option.TheVariants as option
 
 to-true : (b : Bool) → T b → b ≡ true
 to-true true t = refl
@@ -123,8 +123,8 @@ pub white-past : (s : List ℕ) (at : ℕ) (w r : List ℕ) → drop at s ≡ w 
 white-past s at w r e a h = white-go s r h a at e
 
 -- a part is passed, and what is left is r
-abbrev PassedTo : List ℕ → List ℕ → Passed → Type 0
-PassedTo s r p = (c : Cursor) × (Next c ≡ p) × (drop c.at s ≡ r)
+abbrev PassedTo : List ℕ → List ℕ → Option Cursor → Type 0
+PassedTo s r p = (c : Cursor) × (option.Some c ≡ p) × (drop c.at s ≡ r)
 
 token-to : (s : List ℕ) (at : ℕ) {t : List ℕ} (r : List ℕ) → drop at s ≡ t ++ r → Token t → Stops is_token r
     → PassedTo s r (token_at s at)
@@ -143,7 +143,7 @@ module _ (s : List ℕ) (r : List ℕ) where
       let n = run-stop is_text s at (front-in s at 34 r e) (ap is_text b) in
       let c : Cursor = record { at = at + 1 } in
       let q = quote-closed s at at (sym n) (get_or s at 0) refl b in
-      (c, sym (quoted-halt s at (quote_at s at) (Closed c) (Next c) refl (sym q) refl), front_rest s at 34 r e)
+      (c, sym (quoted-halt s at (quote_at s at) (option.Some (Closed c)) (option.Some c) refl (sym q) refl), front_rest s at 34 r e)
   text-to (G.plain {b = b} {l = l} t x) at e =
       let n = text-to x (at + 1) (front_rest s at b (l ++ (34 ∷ r)) e) in
       let f = ap is_text (front-byte s at b (l ++ (34 ∷ r)) e) ∙ to-true (is_text b) t in
@@ -164,12 +164,12 @@ module _ (s : List ℕ) (r : List ℕ) where
   setting-to (G.token (G.some {b = b} {l = l} t a)) at e h =
       let n = token-to s at r e (G.some t a) h in
       let m : get_or s at 0 ≡ 34 → ⊥ = λ q. subst (λ (x : ℕ). T (is_token x)) (sym (front-byte s at b (l ++ r) e) ∙ q) t in
-      (n.0, setting-token s at (get_or s at 0) (Next n.0) refl m n.1, n.2)
+      (n.0, setting-token s at (get_or s at 0) (option.Some n.0) refl m n.1, n.2)
   setting-to (G.quoted {t = t} x) at e h =
       let f : drop at s ≡ 34 ∷ (t ++ (34 ∷ r)) = e ∙ ap (λ (l : List ℕ). 34 ∷ l) (append_assoc t (34 ∷ []) r) in
       let q = front-byte s at 34 (t ++ (34 ∷ r)) f in
       let n = text-to x (at + 1) (front_rest s at 34 (t ++ (34 ∷ r)) f) in
-      (n.0, setting-quoted s at (get_or s at 0) (Next n.0) refl q (n.1 ∙ sym (opened s at q)), n.2)
+      (n.0, setting-quoted s at (get_or s at 0) (option.Some n.0) refl q (n.1 ∙ sym (opened s at q)), n.2)
 
 -- white space and other classes
 white-cases : (b : ℕ) → T (is_blank b) → (b ≡ 32) ⊎ (b ≡ 9)
@@ -267,7 +267,7 @@ module _ (s : List ℕ) where
       let m = setting-to s r kv (white_at s (d + 1)) k (follows-token r f) in (
         m.0,
         param-set s at w refl (token_at s w) refl n.0 (sym n.1) d refl (get_or s d 0) refl
-            (front-byte s d 61 (z ++ (v ++ r)) j) (white_at s (d + 1)) (Next m.0) refl m.1,
+            (front-byte s d 61 (z ++ (v ++ r)) j) (white_at s (d + 1)) (option.Some m.0) refl m.1,
         m.2,
       )
 
@@ -285,22 +285,22 @@ params-follow {w = w} G.done ww x h = (w, x, ww, h, refl)
 params-follow {w = w} (G.param {w = v} {p = p} {q = q} wv kp kq) ww x h =
     (v, 59 ∷ ((p ++ q) ++ (w ++ x)), wv, inr refl, append_assoc v (59 ∷ (p ++ q)) (w ++ x))
 
-abbrev EndingTo : List ℕ → List ℕ → Ending → Type 0
-EndingTo s [] t = t ≡ ValueEnd
-EndingTo s (b ∷ v) t = (c : Cursor) × (t ≡ NextEntry c) × (drop c.at s ≡ v)
+abbrev EndingTo : List ℕ → List ℕ → Option Ending → Type 0
+EndingTo s [] t = t ≡ (option.Some ValueEnd)
+EndingTo s (b ∷ v) t = (c : Cursor) × (t ≡ option.Some (NextEntry c)) × (drop c.at s ≡ v)
 
 module _ (s : List ℕ) where
   last-to : (at : ℕ) (w x : List ℕ) → White w → Closes x → drop at s ≡ w ++ x → EndingTo s x (ending_at s at)
   last-to at w [] ww h e =
       let i = white-past s at w [] e ww tt in
-      ending-halt s at (following_at s at) following.Nothing ValueEnd refl
+      ending-halt s at (following_at s at) (option.Some following.Nothing) (option.Some ValueEnd) refl
       (sym (following-stop s at (white_at s at) refl (no_front s (white_at s at) i).1)) refl
   last-to at w (b ∷ x) ww h e =
       let i = white-past s at w (b ∷ x) e ww (ends-white (b ∷ x) (inl h)) in
       let d = white_at s at in (
         record { at = d + 1 },
-        ending-halt s at (following_at s at) (following.Comma (record { at = d + 1 }))
-            (NextEntry (record { at = d + 1 })) refl
+        ending-halt s at (following_at s at) (option.Some (following.Comma (record { at = d + 1 })))
+            (option.Some (NextEntry (record { at = d + 1 }))) refl
             (sym (following-entry s at d refl (front-in s d b x i) (front-byte s d b x i ∙ h))) refl,
         front_rest s d b x i,
       )
@@ -316,7 +316,7 @@ module _ (s : List ℕ) where
       let n = param-to s kp (d + 1) l (front_rest s d 59 (p ++ l) i) (params-follow kq ww x (closes-ends x h)) in
       let b = front-byte s d 59 (p ++ l) i in
       let m : get_or s d 0 ≡ 44 → ⊥ = λ z. let y : ◌≡◌ {A = ℕ} 59 44 = sym b ∙ z in omega arith in
-      let t = following-param s at d refl (front-in s d 59 (p ++ l) i) m b (param_at s (d + 1)) (Next n.0) refl
+      let t = following-param s at d refl (front-in s d 59 (p ++ l) i) m b (param_at s (d + 1)) (option.Some n.0) refl
       (sym n.1) in
       let g = ending-more s at (following_at s at) n.0 refl (sym t) in
       subst (EndingTo s x) (sym g.0) (ending-to kq n.0.at w x ww h n.2)
@@ -325,9 +325,9 @@ module _ (s : List ℕ) where
 abbrev pub placed : ℕ → List ℕ → List ℕ → Span
 placed at w u = record { start = at + length w + 1; len = length u }
 
-abbrev pub FoundTo : List ℕ → Span → List ℕ → Found → Type 0
-FoundTo s p [] i = i ≡ Last p
-FoundTo s p (b ∷ v) i = (c : Cursor) × (i ≡ More p c) × (drop c.at s ≡ v)
+abbrev pub FoundTo : List ℕ → Span → List ℕ → Option Found → Type 0
+FoundTo s p [] i = i ≡ option.Some (Last p)
+FoundTo s p (b ∷ v) i = (c : Cursor) × (i ≡ option.Some (More p c)) × (drop c.at s ≡ v)
 
 append-nil : (l : List ℕ) → l ++ [] ≡ l
 append-nil [] = refl
@@ -355,11 +355,11 @@ first-lies {w = w} s at ww (G.entry {u = u} {p = p} ku kp) t e =
     (w ++ (60 ∷ []), 62 ∷ (p ++ t), G.bracket ww, e ∙ simp append_assoc, λ i. record { start = q i; len = length u })
 
 module _ (s : List ℕ) where
-  entry-from : (at a e : ℕ) (p : Span) (x : List ℕ) → span_to a e ≡ p → (t : Ending) → EndingTo s x t
-      → ((k : Ending) → t ≡ k → found (span_to a e) k ≡ entry_at s at) → FoundTo s p x (entry_at s at)
-  entry-from at a e p [] q t h f = sym (f ValueEnd h) ∙ ap Last q
+  entry-from : (at a e : ℕ) (p : Span) (x : List ℕ) → span_to a e ≡ p → (t : Option Ending) → EndingTo s x t
+      → ((k : Option Ending) → t ≡ k → found (span_to a e) k ≡ entry_at s at) → FoundTo s p x (entry_at s at)
+  entry-from at a e p [] q t h f = sym (f (option.Some ValueEnd) h) ∙ ap (λ (y : Span). option.Some (Last y)) q
   entry-from at a e p (b ∷ v) q t h f =
-      (h.0, sym (f (NextEntry h.0) h.1) ∙ ap (λ (y : Span). More y h.0) q, h.2)
+      (h.0, sym (f (option.Some (NextEntry h.0)) h.1) ∙ ap (λ (y : Span). option.Some (More y h.0)) q, h.2)
 
   pub entry-to : {n u : List ℕ} → Entry White n u → (at : ℕ) (w x r : List ℕ) → White w → White x → Closes r
       → at ≤ length s → drop at s ≡ w ++ (n ++ (x ++ r))

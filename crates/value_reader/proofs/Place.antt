@@ -13,25 +13,26 @@ use Rattle.value_cursor.specs.Reading.{Reading, unfit, spans, add, reading_from}
 use Rattle.value_cursor.specs.Pass.{nowhere}
 use Rattle.value_cursor.specs.declared.alert_param.Span.{Span}
 use Rattle.value_cursor.specs.declared.alert_param.Ending.{Ending}
-use Rattle.value_cursor.specs.declared.alert_param.Ending.TheVariants.{ValueEnd, NextEntry, NoEnding}
+use Rattle.value_cursor.specs.declared.alert_param.Ending.TheVariants.{ValueEnd, NextEntry}
 use Rattle.value_cursor.specs.declared.alert_param.Found.{Found}
-use Rattle.value_cursor.specs.declared.alert_param.Found.TheVariants.{Last, More, None}
+use Rattle.value_cursor.specs.declared.alert_param.Found.TheVariants.{Last, More}
 use Rattle.value_cursor.proofs.RunLaws.{by-test}
 use Rattle.value_cursor.proofs.ReadingLaws.{reading-last, reading-more, reading-none}
 use Rattle.value_reader.specs.Grammar.{White, Before}
 use Rattle.value_reader.specs.Grammar as G
 use Rattle.value_reader.proofs.Complete.{front-in, white-past, between, placed, entry-to}
+use Rattle.std.specs.Prelude.{Option, Some, None}
 
 -- the URI that is found begins right after the white space and its bracket
-abbrev StartsAt : ℕ → Found → Type 0
-StartsAt n (Last p) = p.start ≡ n
-StartsAt n (More p c) = p.start ≡ n
+abbrev StartsAt : ℕ → Option Found → Type 0
+StartsAt n (Some (Last p)) = p.start ≡ n
+StartsAt n (Some (More p c)) = p.start ≡ n
 StartsAt n None = Unit
 
-found-starts : (a e : ℕ) (t : Ending) → StartsAt a (found (span_to a e) t)
-found-starts a e ValueEnd = refl
-found-starts a e (NextEntry c) = refl
-found-starts a e NoEnding = tt
+found-starts : (a e : ℕ) (t : Option Ending) → StartsAt a (found (span_to a e) t)
+found-starts a e (Some ValueEnd) = refl
+found-starts a e (Some (NextEntry c)) = refl
+found-starts a e None = tt
 
 entry-starts : (s : List ℕ) (at : ℕ) → StartsAt (white_at s at + 1) (entry_at s at)
 unfolding entry_at
@@ -57,17 +58,17 @@ next_start p ps qs k n m e f g = ap (λ (l : List Span). (get_or l (suc k) nowhe
 
 module _ (s : List ℕ) where
   -- the first part that is read from a position begins where the entry there has it
-  first-starts : (at n : ℕ) (ps : List Span) → reading_from s at ≡ spans ps → (f : Found) → f ≡ entry_at s at
+  first-starts : (at n : ℕ) (ps : List Span) → reading_from s at ≡ spans ps → (f : Option Found) → f ≡ entry_at s at
       → StartsAt n f → (get_or ps 0 nowhere).start ≡ n
-  first-starts at n ps e (Last p) q h =
-      let r = reading-last s at (Last p) q p refl in
+  first-starts at n ps e (Some (Last p)) q h =
+      let r = reading-last s at (Some (Last p)) q p refl in
       let z : ps ≡ p ∷ [] = same (reading_from s at) ps (p ∷ []) e r.0 in
       ap (λ (l : List Span). (get_or l 0 nowhere).start) z ∙ h
     where
       same : (r : Reading) (ps qs : List Span) → r ≡ spans ps → r ≡ spans qs → ps ≡ qs
       same r ps qs i j = cc
-  first-starts at n ps e (More p c) q h =
-      let r = reading-more s at (More p c) q p c refl in
+  first-starts at n ps e (Some (More p c)) q h =
+      let r = reading-more s at (Some (More p c)) q p c refl in
       let a = added (reading_from s at) (reading_from s c.at) p ps e r.0 in
       ap (λ (l : List Span). (get_or l 0 nowhere).start) a.2 ∙ h
   first-starts at n ps e None q h =

@@ -24,16 +24,14 @@ use Rattle.value_cursor.specs.Parts.{following_move, ending_step, ending_at, spa
 use Rattle.value_cursor.specs.Reading.{Reading, unfit, spans, add, entry_move, value_step, reading_from, reading_of}
 use Rattle.value_cursor.specs.declared.cursor.Cursor.{Cursor}
 use Rattle.value_cursor.specs.declared.cursor.Quote.{Quote}
-use Rattle.value_cursor.specs.declared.cursor.Quote.TheVariants.{Closed, Escaped, Unclosed}
-use Rattle.value_cursor.specs.declared.cursor.Passed.{Passed}
-use Rattle.value_cursor.specs.declared.cursor.Passed.TheVariants.{Next, Refused}
+use Rattle.value_cursor.specs.declared.cursor.Quote.TheVariants.{Closed, Escaped}
 use Rattle.value_cursor.specs.declared.alert_param.Span.{Span}
 use Rattle.value_cursor.specs.declared.alert_param.Following.{Following}
 use Rattle.value_cursor.specs.declared.alert_param.Following.TheVariants as following
 use Rattle.value_cursor.specs.declared.alert_param.Ending.{Ending}
-use Rattle.value_cursor.specs.declared.alert_param.Ending.TheVariants.{ValueEnd, NextEntry, NoEnding}
+use Rattle.value_cursor.specs.declared.alert_param.Ending.TheVariants.{ValueEnd, NextEntry}
 use Rattle.value_cursor.specs.declared.alert_param.Found.{Found}
-use Rattle.value_cursor.specs.declared.alert_param.Found.TheVariants.{Last, More, None}
+use Rattle.value_cursor.specs.declared.alert_param.Found.TheVariants.{Last, More}
 use Rattle.value_cursor.proofs.RunLaws.{peeked, by-test}
 use Rattle.value_cursor.proofs.WhiteLaws.{white-ok, blank-in, fold-bytes}
 use Rattle.value_cursor.proofs.WalkLaws.{walk-ind}
@@ -42,6 +40,8 @@ use Rattle.value_cursor.proofs.ReadingLaws.{value-ok}
 use Rattle.value_reader.specs.Value.{part_of}
 use Rattle.value_reader.specs.Grammar.{Any, Some, White, Token, Uri, Text, Setting, Param, Params, Entry, Value}
 use Rattle.value_reader.specs.Grammar as G
+use Rattle.std.specs.Prelude.{Option}
+use Rattle.std.specs.declared.option.Option.TheVariants as option
 
 -- the list from a position is some bytes of a kind, and then the list from another position
 abbrev pub Reads : (List ℕ → Type 0) → List ℕ → ℕ → ℕ → Type 0
@@ -89,26 +89,26 @@ module _ (p : ℕ → Bool) (s : List ℕ) (at : ℕ) where
   unfolding run_at
   some-cut n = subst (Some p) cut-run (run-some p (drop at s) (λ z. n (omega arith)))
 
-abbrev pub PassedReads : (List ℕ → Type 0) → List ℕ → ℕ → Passed → Type 0
-PassedReads K s at (Next c) = Reads K s at c.at
-PassedReads K s at Refused = Unit
+abbrev pub PassedReads : (List ℕ → Type 0) → List ℕ → ℕ → Option Cursor → Type 0
+PassedReads K s at (option.Some c) = Reads K s at c.at
+PassedReads K s at option.None = Unit
 
-widen : (K L : List ℕ → Type 0) (s : List ℕ) (at : ℕ) → ((t : List ℕ) → K t → L t) → (p : Passed)
+widen : (K L : List ℕ → Type 0) (s : List ℕ) (at : ℕ) → ((t : List ℕ) → K t → L t) → (p : Option Cursor)
     → PassedReads K s at p → PassedReads L s at p
-widen K L s at f (Next c) r = (r.0, f r.0 r.1, r.2)
-widen K L s at f Refused r = tt
+widen K L s at f (option.Some c) r = (r.0, f r.0 r.1, r.2)
+widen K L s at f option.None r = tt
 
 -- text of a quoted string, and what follows it
-abbrev QuoteReads : List ℕ → ℕ → Quote → Type 0
-QuoteReads s at (Closed c) = (x : List ℕ) × Any is_text x × (drop at s ≡ x ++ (34 ∷ drop c.at s))
-QuoteReads s at (Escaped c) =
+abbrev QuoteReads : List ℕ → ℕ → Option Quote → Type 0
+QuoteReads s at (option.Some (Closed c)) = (x : List ℕ) × Any is_text x × (drop at s ≡ x ++ (34 ∷ drop c.at s))
+QuoteReads s at (option.Some (Escaped c)) =
     (x : List ℕ) × (b : ℕ) × Any is_text x × T (is_escapable b) × (drop at s ≡ x ++ (92 ∷ b ∷ drop c.at s))
-QuoteReads s at Unclosed = Unit
+QuoteReads s at option.None = Unit
 
 -- a quoted string after its opening quote
-abbrev TextReads : List ℕ → ℕ → Passed → Type 0
-TextReads s at (Next c) = (x : List ℕ) × Text x × (drop at s ≡ x ++ (34 ∷ drop c.at s))
-TextReads s at Refused = Unit
+abbrev TextReads : List ℕ → ℕ → Option Cursor → Type 0
+TextReads s at (option.Some c) = (x : List ℕ) × Text x × (drop at s ≡ x ++ (34 ∷ drop c.at s))
+TextReads s at option.None = Unit
 
 text-any : {x y : List ℕ} → Any is_text x → Text y → Text (x ++ y)
 text-any G.none k = k
@@ -123,16 +123,16 @@ module _ (s : List ℕ) where
   unfolding quote_at
   quote-reads at =
       let e = run_at is_text s at in
-      by-test (QuoteReads s at) (eqb (get_or s e 0) 34) (Closed (record { at = e + 1 })) _
+      by-test (QuoteReads s at) (eqb (get_or s e 0) 34) (option.Some (Closed (record { at = e + 1 }))) _
       (λ q. (
         cut s at e,
         any-cut is_text s at,
         run-split is_text s at
             ∙ ap (λ (l : List ℕ). cut s at e ++ l) (byte_at s e 33 (eqb-true _ _ q)),
       ))
-      (λ _. by-test (QuoteReads s at) (eqb (get_or s e 0) 92) (escape_byte s (e + 1)) Unclosed
-      (λ q. by-test (QuoteReads s at) (leb (length s) (e + 1)) Unclosed _ (λ _. tt)
-      (λ i. by-test (QuoteReads s at) (is_escapable (get_or s (e + 1) 0)) (Escaped (record { at = e + 1 + 1 })) Unclosed
+      (λ _. by-test (QuoteReads s at) (eqb (get_or s e 0) 92) (escape_byte s (e + 1)) option.None
+      (λ q. by-test (QuoteReads s at) (leb (length s) (e + 1)) option.None _ (λ _. tt)
+      (λ i. by-test (QuoteReads s at) (is_escapable (get_or s (e + 1) 0)) (option.Some (Escaped (record { at = e + 1 + 1 }))) option.None
       (λ k. (
         cut s at e,
         get_or s (e + 1) 0,
@@ -148,58 +148,58 @@ module _ (s : List ℕ) where
       byte-in : (n : ℕ) → n < length s → drop n s ≡ get_or s n 0 ∷ drop (n + 1) s
       byte-in n h = rw (drop-cons s n 0 h, add-one)
 
-  quote-halt : (at : ℕ) (q : Quote) → QuoteReads s at q → (r : Passed) → quote_move q ≡ halt r → TextReads s at r
-  quote-halt at (Closed c) l r e = let z : Next c ≡ r = cc in subst (TextReads s at) z (l.0, any-text l.1, l.2)
-  quote-halt at (Escaped c) l r e = absurd (let z : ◌≡◌ {A = ℕ} 0 1 = cc in omega arith)
-  quote-halt at Unclosed l r e = let z : Refused ≡ r = cc in subst (TextReads s at) z tt
+  quote-halt : (at : ℕ) (q : Option Quote) → QuoteReads s at q → (r : Option Cursor) → quote_move q ≡ halt r → TextReads s at r
+  quote-halt at (option.Some (Closed c)) l r e = let z : option.Some c ≡ r = cc in subst (TextReads s at) z (l.0, any-text l.1, l.2)
+  quote-halt at (option.Some (Escaped c)) l r e = absurd (let z : ◌≡◌ {A = ℕ} 0 1 = cc in omega arith)
+  quote-halt at option.None l r e = let z : option.None ≡ r = cc in subst (TextReads s at) z tt
 
   text-more : (at n : ℕ) (x : List ℕ) (b : ℕ) → Any is_text x → T (is_escapable b) → drop at s ≡ x ++ (92 ∷ b ∷ drop n s)
-      → (p : Passed) → TextReads s n p → TextReads s at p
-  text-more at n x b a t h (Next c) r = (
+      → (p : Option Cursor) → TextReads s n p → TextReads s at p
+  text-more at n x b a t h (option.Some c) r = (
     x ++ (92 ∷ b ∷ r.0),
     text-any a (G.escaped t r.1),
     h ∙ ap (λ (l : List ℕ). x ++ (92 ∷ b ∷ l)) r.2 ∙ sym (append_assoc x (92 ∷ b ∷ r.0) (34 ∷ drop c.at s)),
   )
-  text-more at n x b a t h Refused r = tt
+  text-more at n x b a t h option.None r = tt
 
-  quote-on : (at : ℕ) (q : Quote) → QuoteReads s at q → (g : Passed → Passed) (n : ℕ) (x : Passed)
+  quote-on : (at : ℕ) (q : Option Quote) → QuoteReads s at q → (g : Option Cursor → Option Cursor) (n : ℕ) (x : Option Cursor)
       → quote_move q ≡ move g n
       → TextReads s n x → TextReads s at (g x)
-  quote-on at (Closed c) l g n x e r = absurd (let z : ◌≡◌ {A = ℕ} 0 1 = cc in omega arith)
-  quote-on at (Escaped c) l g n x e r =
-      let z : ◌≡◌ {A = Passed → Passed} (λ p. p) g = cc in
+  quote-on at (option.Some (Closed c)) l g n x e r = absurd (let z : ◌≡◌ {A = ℕ} 0 1 = cc in omega arith)
+  quote-on at (option.Some (Escaped c)) l g n x e r =
+      let z : ◌≡◌ {A = (Option Cursor) → Option Cursor} (λ p. p) g = cc in
       let y : n ≡ c.at = cc in
-      subst (λ (k : Passed → Passed). TextReads s at (k x)) z
+      subst (λ (k : Option Cursor → Option Cursor). TextReads s at (k x)) z
       (text-more at c.at l.0 l.1 l.2 l.3 l.4 x (subst (λ (m : ℕ). TextReads s m x) y r))
-  quote-on at Unclosed l g n x e r = absurd (let z : ◌≡◌ {A = ℕ} 0 1 = cc in omega arith)
+  quote-on at option.None l g n x e r = absurd (let z : ◌≡◌ {A = ℕ} 0 1 = cc in omega arith)
 
   text-reads : (at : ℕ) → TextReads s at (quoted_from s at)
   unfolding quoted_from quoted_step
   text-reads at =
-      walk-ind (quoted_step s) Refused s (quoted-ok s) (TextReads s)
+      walk-ind (quoted_step s) option.None s (quoted-ok s) (TextReads s)
       (λ p r e. quote-halt p (quote_at s p) (quote-reads p) r e)
       (λ p g n x e h l. quote-on p (quote_at s p) (quote-reads p) g n x e l) at
 
-  opened : (at : ℕ) (p : Passed) → drop at s ≡ 34 ∷ drop (at + 1) s → TextReads s (at + 1) p
+  opened : (at : ℕ) (p : Option Cursor) → drop at s ≡ 34 ∷ drop (at + 1) s → TextReads s (at + 1) p
       → PassedReads Setting s at p
-  opened at (Next c) h r = (
+  opened at (option.Some c) h r = (
     34 ∷ (r.0 ++ (34 ∷ [])),
     G.quoted r.1,
     h ∙ ap (λ (x : List ℕ). 34 ∷ x) (r.2 ∙ sym (append_assoc r.0 (34 ∷ []) (drop c.at s))),
   )
-  opened at Refused h r = tt
+  opened at option.None h r = tt
 
   quoted-reads : (at : ℕ) → PassedReads Setting s at (quoted_at s at)
   unfolding quoted_at
   quoted-reads at =
-      by-test (PassedReads Setting s at) (eqb (get_or s at 0) 34) (quoted_from s (at + 1)) Refused
+      by-test (PassedReads Setting s at) (eqb (get_or s at 0) 34) (quoted_from s (at + 1)) option.None
       (λ e. opened at (quoted_from s (at + 1)) (byte_at s at 33 (eqb-true (get_or s at 0) 34 e)) (text-reads (at + 1)))
       (λ _. tt)
 
   token-reads : (at : ℕ) → PassedReads Token s at (token_at s at)
   unfolding token_at
   token-reads at =
-      by-test (PassedReads Token s at) (eqb at (run_at is_token s at)) Refused (Next (record { at = run_at is_token s at })) (λ _. tt)
+      by-test (PassedReads Token s at) (eqb at (run_at is_token s at)) option.None (option.Some (record { at = run_at is_token s at })) (λ _. tt)
       (λ e. (
         cut s at (run_at is_token s at),
         some-cut is_token s at
@@ -266,8 +266,8 @@ module _ (s : List ℕ) where
   set_reads : (at : ℕ) (t : List ℕ) (c : Cursor) (x : List ℕ) → White x → drop at s ≡ x ++ (t ++ drop c.at s)
       → Token t
       → (e : ℕ) → Reads White s c.at e → drop e s ≡ 61 ∷ drop (e + 1) s → (v : ℕ) → Reads White s (e + 1) v
-      → (p : Passed) → PassedReads Setting s v p → PassedReads (Param White) s at p
-  set_reads at t c x wx h tt' e y q v z (Next d) r = (
+      → (p : Option Cursor) → PassedReads Setting s v p → PassedReads (Param White) s at p
+  set_reads at t c x wx h tt' e y q v z (option.Some d) r = (
     x ++ (t ++ (y.0 ++ (61 ∷ (z.0 ++ r.0)))),
     G.set wx tt' y.1 z.1 r.1,
     h ∙ ap (λ (l : List ℕ). x ++ (t ++ l)) (y.2
@@ -275,14 +275,14 @@ module _ (s : List ℕ) where
         ∙ ap (λ (l : List ℕ). 61 ∷ l) (z.2 ∙ ap (λ (l : List ℕ). z.0 ++ l) r.2)))
         ∙ simp append_assoc,
   )
-  set_reads at t c x wx h tt' e y q v z Refused r = tt
+  set_reads at t c x wx h tt' e y q v z option.None r = tt
 
-  named-reads : (at : ℕ) (x : List ℕ) → White x → (from : ℕ) → drop at s ≡ x ++ drop from s → (p : Passed)
+  named-reads : (at : ℕ) (x : List ℕ) → White x → (from : ℕ) → drop at s ≡ x ++ drop from s → (p : Option Cursor)
       → PassedReads Token s from p → PassedReads (Param White) s at (named s p)
-  named-reads at x wx from h (Next c) r =
+  named-reads at x wx from h (option.Some c) r =
       let e = white_at s c.at in
       let v = white_at s (e + 1) in
-      by-test (PassedReads (Param White) s at) (eqb (get_or s e 0) 61) (setting_at s v) (Next c)
+      by-test (PassedReads (Param White) s at) (eqb (get_or s e 0) 61) (setting_at s v) (option.Some c)
       (λ i. set_reads at r.0 c x wx (h
       ∙ ap (λ (l : List ℕ). x ++ l) r.2) r.1 e (white-reads c.at) (byte_at s e 60
       (eqb-true (get_or s e 0) 61 i)) v (white-reads (e + 1)) (setting_at s v) (setting-reads v))
@@ -292,7 +292,7 @@ module _ (s : List ℕ) where
         h ∙ ap (λ (l : List ℕ). x ++ l) r.2
             ∙ sym (append_assoc x r.0 (drop c.at s)),
       ))
-  named-reads at x wx from h Refused r = tt
+  named-reads at x wx from h option.None r = tt
 
   pub param-reads : (at : ℕ) → PassedReads (Param White) s at (param_at s at)
   unfolding param_at
@@ -301,35 +301,35 @@ module _ (s : List ℕ) where
       named-reads at w.0 w.1 (white_at s at) w.2 (token_at s (white_at s at)) (token-reads (white_at s at))
 
 -- what follows an entry's URI or a parameter
-abbrev FollowingReads : List ℕ → ℕ → Following → Type 0
-FollowingReads s at following.Nothing = White (drop at s)
-FollowingReads s at (following.Comma c) = (w : List ℕ) × White w × (drop at s ≡ w ++ (44 ∷ drop c.at s))
-FollowingReads s at (following.Param c) = (w : List ℕ) × (p : List ℕ) × White w × Param White p ×
+abbrev FollowingReads : List ℕ → ℕ → Option Following → Type 0
+FollowingReads s at (option.Some following.Nothing) = White (drop at s)
+FollowingReads s at (option.Some (following.Comma c)) = (w : List ℕ) × White w × (drop at s ≡ w ++ (44 ∷ drop c.at s))
+FollowingReads s at (option.Some (following.Param c)) = (w : List ℕ) × (p : List ℕ) × White w × Param White p ×
     (drop at s ≡ w ++ (59 ∷ (p ++ drop c.at s)))
-FollowingReads s at following.Stray = Unit
+FollowingReads s at option.None = Unit
 
-abbrev EndingReads : List ℕ → ℕ → Ending → Type 0
-EndingReads s at ValueEnd = (p : List ℕ) × (w : List ℕ) × Params White p × White w × (drop at s ≡ p ++ w)
-EndingReads s at (NextEntry c) = (p : List ℕ) × (w : List ℕ) × Params White p × White w ×
+abbrev EndingReads : List ℕ → ℕ → Option Ending → Type 0
+EndingReads s at (option.Some ValueEnd) = (p : List ℕ) × (w : List ℕ) × Params White p × White w × (drop at s ≡ p ++ w)
+EndingReads s at (option.Some (NextEntry c)) = (p : List ℕ) × (w : List ℕ) × Params White p × White w ×
     (drop at s ≡ p ++ (w ++ (44 ∷ drop c.at s)))
-EndingReads s at NoEnding = Unit
+EndingReads s at option.None = Unit
 
-abbrev pub FoundReads : List ℕ → ℕ → Found → Type 0
-FoundReads s at (Last p) = (w : List ℕ) × (n : List ℕ) × (x : List ℕ) × White w × Entry White n (part_of s p) × White x ×
+abbrev pub FoundReads : List ℕ → ℕ → Option Found → Type 0
+FoundReads s at (option.Some (Last p)) = (w : List ℕ) × (n : List ℕ) × (x : List ℕ) × White w × Entry White n (part_of s p) × White x ×
     (drop at s ≡ w ++ (n ++ x))
-FoundReads s at (More p c) =
+FoundReads s at (option.Some (More p c)) =
     (w : List ℕ) × (n : List ℕ) × (x : List ℕ) × White w × Entry White n (part_of s p) × White x ×
     (drop at s ≡ w ++ (n ++ (x ++ (44 ∷ drop c.at s))))
-FoundReads s at None = Unit
+FoundReads s at option.None = Unit
 
 abbrev ReadingReads : List ℕ → ℕ → Reading → Type 0
 ReadingReads s at unfit = Unit
 ReadingReads s at (spans ps) = Value White (drop at s) (map (part_of s) ps)
 
 module _ (s : List ℕ) where
-  param_next-reads : (at w : ℕ) → Reads White s at w → drop w s ≡ 59 ∷ drop (w + 1) s → (p : Passed)
+  param_next-reads : (at w : ℕ) → Reads White s at w → drop w s ≡ 59 ∷ drop (w + 1) s → (p : Option Cursor)
       → PassedReads (Param White) s (w + 1) p → FollowingReads s at (param_next p)
-  param_next-reads at w r h (Next c) q = (
+  param_next-reads at w r h (option.Some c) q = (
     r.0,
     q.0,
     r.1,
@@ -337,7 +337,7 @@ module _ (s : List ℕ) where
     r.2
         ∙ ap (λ (l : List ℕ). r.0 ++ l) (h ∙ ap (λ (l : List ℕ). 59 ∷ l) q.2),
   )
-  param_next-reads at w r h Refused q = tt
+  param_next-reads at w r h option.None q = tt
 
   append-nil : (l : List ℕ) → l ++ [] ≡ l
   append-nil [] = refl
@@ -348,28 +348,28 @@ module _ (s : List ℕ) where
   following-reads at =
       let w = white_at s at in
       let r = white-reads s at in
-      by-test (FollowingReads s at) (leb (length s) w) following.Nothing _
+      by-test (FollowingReads s at) (leb (length s) w) (option.Some following.Nothing) _
       (λ e. subst White (sym (r.2 ∙ ap (λ (l : List ℕ). r.0 ++ l) (drop_of_length-le s (leb-true (length s) w e))
       ∙ append-nil r.0)) r.1)
-      (λ _. by-test (FollowingReads s at) (eqb (get_or s w 0) 44) (following.Comma (record { at = w + 1 })) _
+      (λ _. by-test (FollowingReads s at) (eqb (get_or s w 0) 44) (option.Some (following.Comma (record { at = w + 1 }))) _
       (λ e. (r.0, r.1, r.2 ∙ ap (λ (l : List ℕ). r.0 ++ l) (byte_at s w 43 (eqb-true (get_or s w 0) 44 e))))
-      (λ _. by-test (FollowingReads s at) (eqb (get_or s w 0) 59) (param_next (param_at s (w + 1))) following.Stray
+      (λ _. by-test (FollowingReads s at) (eqb (get_or s w 0) 59) (param_next (param_at s (w + 1))) option.None
       (λ e. param_next-reads at w r (byte_at s w 58 (eqb-true (get_or s w 0) 59 e)) (param_at s (w + 1))
       (param-reads s (w + 1)))
       (λ _. tt)))
 
-  following-halt : (at : ℕ) (t : Following) → FollowingReads s at t → (r : Ending) → following_move t ≡ halt r
+  following-halt : (at : ℕ) (t : Option Following) → FollowingReads s at t → (r : Option Ending) → following_move t ≡ halt r
       → EndingReads s at r
-  following-halt at following.Nothing l r e = let z : ValueEnd ≡ r = cc in subst (EndingReads s at) z
+  following-halt at (option.Some following.Nothing) l r e = let z : (option.Some ValueEnd) ≡ r = cc in subst (EndingReads s at) z
       ([], drop at s, G.done, l, refl)
-  following-halt at (following.Comma c) l r e = let z : NextEntry c ≡ r = cc in subst (EndingReads s at) z
+  following-halt at (option.Some (following.Comma c)) l r e = let z : option.Some (NextEntry c) ≡ r = cc in subst (EndingReads s at) z
       ([], l.0, G.done, l.1, l.2)
-  following-halt at (following.Param c) l r e = absurd (let z : ◌≡◌ {A = ℕ} 0 1 = cc in omega arith)
-  following-halt at following.Stray l r e = let z : NoEnding ≡ r = cc in subst (EndingReads s at) z tt
+  following-halt at (option.Some (following.Param c)) l r e = absurd (let z : ◌≡◌ {A = ℕ} 0 1 = cc in omega arith)
+  following-halt at option.None l r e = let z : option.None ≡ r = cc in subst (EndingReads s at) z tt
 
-  one_more : (at n : ℕ) (w p : List ℕ) → White w → Param White p → drop at s ≡ w ++ (59 ∷ (p ++ drop n s)) → (t : Ending)
+  one_more : (at n : ℕ) (w p : List ℕ) → White w → Param White p → drop at s ≡ w ++ (59 ∷ (p ++ drop n s)) → (t : Option Ending)
       → EndingReads s n t → EndingReads s at t
-  one_more at n w p ww pp h ValueEnd r = (
+  one_more at n w p ww pp h (option.Some ValueEnd) r = (
     w ++ (59 ∷ (p ++ r.0)),
     r.1,
     G.param ww pp r.2,
@@ -377,7 +377,7 @@ module _ (s : List ℕ) where
     h ∙ ap (λ (l : List ℕ). w ++ (59 ∷ (p ++ l))) r.4
         ∙ simp append_assoc,
   )
-  one_more at n w p ww pp h (NextEntry c) r = (
+  one_more at n w p ww pp h (option.Some (NextEntry c)) r = (
     w ++ (59 ∷ (p ++ r.0)),
     r.1,
     G.param ww pp r.2,
@@ -385,31 +385,31 @@ module _ (s : List ℕ) where
     h ∙ ap (λ (l : List ℕ). w ++ (59 ∷ (p ++ l))) r.4
         ∙ simp append_assoc,
   )
-  one_more at n w p ww pp h NoEnding r = tt
+  one_more at n w p ww pp h option.None r = tt
 
-  following-on : (at : ℕ) (t : Following) → FollowingReads s at t → (g : Ending → Ending) (n : ℕ) (x : Ending)
+  following-on : (at : ℕ) (t : Option Following) → FollowingReads s at t → (g : Option Ending → Option Ending) (n : ℕ) (x : Option Ending)
       → following_move t ≡ move g n → EndingReads s n x → EndingReads s at (g x)
-  following-on at following.Nothing l g n x e r = absurd (let z : ◌≡◌ {A = ℕ} 0 1 = cc in omega arith)
-  following-on at (following.Comma c) l g n x e r = absurd (let z : ◌≡◌ {A = ℕ} 0 1 = cc in omega arith)
-  following-on at (following.Param c) l g n x e r =
-      let z : ◌≡◌ {A = Ending → Ending} (λ t. t) g = cc in
+  following-on at (option.Some following.Nothing) l g n x e r = absurd (let z : ◌≡◌ {A = ℕ} 0 1 = cc in omega arith)
+  following-on at (option.Some (following.Comma c)) l g n x e r = absurd (let z : ◌≡◌ {A = ℕ} 0 1 = cc in omega arith)
+  following-on at (option.Some (following.Param c)) l g n x e r =
+      let z : ◌≡◌ {A = Option Ending → Option Ending} (λ t. t) g = cc in
       let y : n ≡ c.at = cc in
-      subst (λ (k : Ending → Ending). EndingReads s at (k x)) z
+      subst (λ (k : Option Ending → Option Ending). EndingReads s at (k x)) z
       (one_more at c.at l.0 l.1 l.2 l.3 l.4 x (subst (λ (m : ℕ). EndingReads s m x) y r))
-  following-on at following.Stray l g n x e r = absurd (let z : ◌≡◌ {A = ℕ} 0 1 = cc in omega arith)
+  following-on at option.None l g n x e r = absurd (let z : ◌≡◌ {A = ℕ} 0 1 = cc in omega arith)
 
   ending-reads : (at : ℕ) → EndingReads s at (ending_at s at)
   unfolding ending_at ending_step
   ending-reads at =
-      walk-ind (ending_step s) NoEnding s (ending-ok s) (EndingReads s)
+      walk-ind (ending_step s) option.None s (ending-ok s) (EndingReads s)
       (λ p r e. following-halt p (following_at s p) (following-reads p) r e)
       (λ p g n x e h l. following-on p (following_at s p) (following-reads p) g n x e l) at
 
   closed-reads : (at w e : ℕ) → Reads White s at w → drop w s ≡ 60 ∷ drop (w + 1) s → Uri (cut s (w + 1) e)
       → drop (w + 1) s ≡ cut s (w + 1) e ++ drop e s
-      → drop e s ≡ 62 ∷ drop (e + 1) s → (t : Ending) → EndingReads s (e + 1) t
+      → drop e s ≡ 62 ∷ drop (e + 1) s → (t : Option Ending) → EndingReads s (e + 1) t
       → FoundReads s at (found (span_to (w + 1) e) t)
-  closed-reads at w e r h u k i ValueEnd q = (
+  closed-reads at w e r h u k i (option.Some ValueEnd) q = (
     r.0,
     60 ∷ (cut s (w + 1) e ++ (62 ∷ q.0)),
     q.1,
@@ -420,7 +420,7 @@ module _ (s : List ℕ) where
         ∙ ap (λ (l : List ℕ). 60 ∷ l) (k
         ∙ ap (λ (l : List ℕ). cut s (w + 1) e ++ l) (i ∙ ap (λ (l : List ℕ). 62 ∷ l) q.4))) ∙ simp append_assoc,
   )
-  closed-reads at w e r h u k i (NextEntry c) q = (
+  closed-reads at w e r h u k i (option.Some (NextEntry c)) q = (
     r.0,
     60 ∷ (cut s (w + 1) e ++ (62 ∷ q.0)),
     q.1,
@@ -431,7 +431,7 @@ module _ (s : List ℕ) where
         ∙ ap (λ (l : List ℕ). 60 ∷ l) (k
         ∙ ap (λ (l : List ℕ). cut s (w + 1) e ++ l) (i ∙ ap (λ (l : List ℕ). 62 ∷ l) q.4))) ∙ simp append_assoc,
   )
-  closed-reads at w e r h u k i NoEnding q = tt
+  closed-reads at w e r h u k i option.None q = tt
 
   pub entry-reads : (at : ℕ) → FoundReads s at (entry_at s at)
   unfolding entry_at
@@ -439,38 +439,38 @@ module _ (s : List ℕ) where
       let w = white_at s at in
       let a = w + 1 in
       let e = run_at is_uri s a in
-      by-test (FoundReads s at) (eqb (get_or s w 0) 60) (closed_uri s a e) None
-      (λ f. by-test (FoundReads s at) (eqb a e) None _ (λ _. tt)
-      (λ n. by-test (FoundReads s at) (eqb (get_or s e 0) 62) (found (span_to a e) (ending_at s (e + 1))) None
+      by-test (FoundReads s at) (eqb (get_or s w 0) 60) (closed_uri s a e) option.None
+      (λ f. by-test (FoundReads s at) (eqb a e) option.None _ (λ _. tt)
+      (λ n. by-test (FoundReads s at) (eqb (get_or s e 0) 62) (found (span_to a e) (ending_at s (e + 1))) option.None
       (λ g. closed-reads at w e (white-reads s at) (byte_at s w 59 (eqb-true (get_or s w 0) 60 f))
       (some-cut is_uri s a (eqb-false a e n)) (run-split is_uri s a)
       (byte_at s e 61 (eqb-true (get_or s e 0) 62 g)) (ending_at s (e + 1)) (ending-reads (e + 1)))
       (λ _. tt)))
       (λ _. tt)
 
-  entry-halt : (at : ℕ) (i : Found) → FoundReads s at i → (r : Reading) → entry_move i ≡ halt r → ReadingReads s at r
-  entry-halt at (Last p) l r q =
+  entry-halt : (at : ℕ) (i : Option Found) → FoundReads s at i → (r : Reading) → entry_move i ≡ halt r → ReadingReads s at r
+  entry-halt at (option.Some (Last p)) l r q =
       let z : spans (p ∷ []) ≡ r = cc in
       subst (ReadingReads s at) z
       (subst (λ (x : List ℕ). Value White x (part_of s p ∷ [])) (sym l.6) (G.last l.3 l.4 l.5))
-  entry-halt at (More p c) l r q = absurd (let z : ◌≡◌ {A = ℕ} 0 1 = cc in omega arith)
-  entry-halt at None l r q = let z : unfit ≡ r = cc in subst (ReadingReads s at) z tt
+  entry-halt at (option.Some (More p c)) l r q = absurd (let z : ◌≡◌ {A = ℕ} 0 1 = cc in omega arith)
+  entry-halt at option.None l r q = let z : unfit ≡ r = cc in subst (ReadingReads s at) z tt
 
-  entry_more : (at : ℕ) (p : Span) (c : Cursor) → FoundReads s at (More p c) → (x : Reading) → ReadingReads s c.at x
+  entry_more : (at : ℕ) (p : Span) (c : Cursor) → FoundReads s at (option.Some (More p c)) → (x : Reading) → ReadingReads s c.at x
       → ReadingReads s at (add p x)
   entry_more at p c l unfit r = tt
   entry_more at p c l (spans ps) r =
       subst (λ (x : List ℕ). Value White x (part_of s p ∷ map (part_of s) ps)) (sym l.6) (G.comma l.3 l.4 l.5 r)
 
-  entry-on : (at : ℕ) (i : Found) → FoundReads s at i → (g : Reading → Reading) (n : ℕ) (x : Reading)
+  entry-on : (at : ℕ) (i : Option Found) → FoundReads s at i → (g : Reading → Reading) (n : ℕ) (x : Reading)
       → entry_move i ≡ move g n → ReadingReads s n x → ReadingReads s at (g x)
-  entry-on at (Last p) l g n x q r = absurd (let z : ◌≡◌ {A = ℕ} 0 1 = cc in omega arith)
-  entry-on at (More p c) l g n x q r =
+  entry-on at (option.Some (Last p)) l g n x q r = absurd (let z : ◌≡◌ {A = ℕ} 0 1 = cc in omega arith)
+  entry-on at (option.Some (More p c)) l g n x q r =
       let z : add p ≡ g = cc in
       let y : n ≡ c.at = cc in
       subst (λ (k : Reading → Reading). ReadingReads s at (k x)) z
       (entry_more at p c l x (subst (λ (m : ℕ). ReadingReads s m x) y r))
-  entry-on at None l g n x q r = absurd (let z : ◌≡◌ {A = ℕ} 0 1 = cc in omega arith)
+  entry-on at option.None l g n x q r = absurd (let z : ◌≡◌ {A = ℕ} 0 1 = cc in omega arith)
 
   value-reads : (at : ℕ) → ReadingReads s at (reading_from s at)
   unfolding reading_from value_step

@@ -2,7 +2,7 @@
 ghost use Rattle.std.specs.Prelude.{◌≡◌};
 ghost use Rattle.value_reader.specs.Value.{refusal_of, entries_of, span_of, entry_refusal_of};
 
-use crate::value::judge;
+use crate::value::place;
 use value_cursor::Span;
 
 // The value's refusal number, 0 if it is accepted.
@@ -23,8 +23,7 @@ pub fn alert_info_entries(v: &[u8]) -> usize
 pub fn alert_info_entry(v: &[u8], k: usize) -> Span
     ensures { result ≡ span_of v.now k }
 {
-    let j = judge(v, k);
-    j.span
+    place(v, k)
 }
 
 // The refusal number of entry k.

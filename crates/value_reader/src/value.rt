@@ -1,49 +1,33 @@
 // What is answered about a value.
 ghost use Rattle.std.specs.Prelude.{◌≡◌};
 ghost use Rattle.value_reader.specs.Judged.{judged_of};
+ghost use Rattle.value_reader.specs.Value.{span_of};
 
-use base_numbers::{
-    MOST_ENTRIES, MOST_VALUE_BYTES, TOO_MANY_ENTRIES, VALUE_MISFIT, VALUE_TOO_LONG,
-};
-use value_cursor::{Span, scan_value};
+use base_numbers::{MOST_ENTRIES, MOST_VALUE_BYTES, Refusal};
+use value_cursor::{Scan, Span, scan_value};
 
-// What is answered: the value's refusal number, its entries (0 if refused), and where the URI of entry k lies (0 and 0
-// where there is none).
-#[derive(Clone, Copy)]
-pub struct Judged {
-    pub refusal: u8,
-    pub entries: usize,
-    pub span: Span,
-}
-
-fn refused(number: u8) -> Judged
-    ensures { result ≡ record { refusal = number; entries = 0; span = record { start = 0; len = 0 } } }
-{
-    Judged {
-        refusal: number,
-        entries: 0,
-        span: Span { start: 0, len: 0 },
-    }
-}
-
-// The whole answer about a value and its entry k.
-pub(crate) fn judge(v: &[u8], k: usize) -> Judged
+// The whole answer about a value and its entry k: its entries, and where the URI of entry k lies (0 and 0 where there is none).
+pub(crate) fn judge(v: &[u8], k: usize) -> Result<Scan, Refusal>
     ensures { result ≡ judged_of v.now k }
 {
     if MOST_VALUE_BYTES < v.len() {
-        return refused(VALUE_TOO_LONG);
+        return Err(Refusal::ValueTooLong);
     }
-    let t = scan_value(v, k);
-    if !t.fits {
-        return refused(VALUE_MISFIT);
-    }
+    let Some(t) = scan_value(v, k) else {
+        return Err(Refusal::ValueMisfit);
+    };
     if MOST_ENTRIES < t.entries {
-        return refused(TOO_MANY_ENTRIES);
+        return Err(Refusal::TooManyEntries);
     }
-    let span = t.span;
-    Judged {
-        refusal: 0,
-        entries: t.entries,
-        span,
+    Ok(t)
+}
+
+// Where the URI of entry k lies; 0 and 0 if the value is refused or has no entry k.
+pub(crate) fn place(v: &[u8], k: usize) -> Span
+    ensures { result ≡ span_of v.now k }
+{
+    match judge(v, k) {
+        Ok(t) => t.span,
+        Err(_) => Span { start: 0, len: 0 },
     }
 }

@@ -1,15 +1,14 @@
 use mathlib.Core.Path.{refl, ap}
 use native.Mathlib.Omega.{arith}
 use Rattle.value_cursor.specs.declared.alert_param.Span.{Span}
-use Rattle.value_reader.proofs.JudgedLaws.{span_fits, span-of, entry-of}
+use Rattle.value_reader.proofs.JudgedLaws.{span_fits, entry-of}
 use Rattle.value_reader.proofs.entry.Goals as goal
 
-pub overflow_add-end : goal.overflow_add-end
-overflow_add-end c = omega (arith, span_fits c.args.v.now _ _ c.judge-j.ensures)
+pub overflow_add-result : goal.overflow_add-result
+overflow_add-result c = omega (arith, span_fits c.args.v.now c.args.k _ c.place-p.ensures)
 
 pub slice_bounds-result-end : goal.slice_bounds-result-end
-slice_bounds-result-end c = span_fits _ _ _ c.judge-j.ensures
+slice_bounds-result-end c = span_fits c.args.v.now c.args.k _ c.place-p.ensures
 
 pub returns : goal.returns
-returns c = let j = c.judge-j.ensures in
-    let place = ap (λ (p : Span). p.start) (span-of _ _ _ j) in record { result_value = entry-of _ _ _ j _ refl; ref_ptr_value = (refl, omega (arith, place)) }
+returns c = let place = ap (λ (p : Span). p.start) c.place-p.ensures in record { result_value = entry-of c.args.v.now c.args.k _ c.place-p.ensures; ref_ptr_value = (refl, omega (arith, place)) }

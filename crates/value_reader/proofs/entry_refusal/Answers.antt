@@ -1,13 +1,12 @@
+use mathlib.Core.Path.{◌∙◌}
 use Rattle.value_reader.proofs.JudgedLaws.{entry-refused, entry-there, entry-missing}
 use Rattle.value_reader.proofs.entry_refusal.Goals as goal
 
-pub returns-then-j-ne0 : goal.returns-then-j-ne0
-returns-then-j-ne0 c = entry-refused _ _ _ c.judge-j.ensures c.if-j-ne0.true
+pub returns-then-k-t : goal.returns-then-k-t
+returns-then-k-t c = entry-there _ _ _ c.in-Ok.ensures c.if-k-t.true
 
-pub returns-then-k-j : goal.returns-then-k-j
-returns-then-k-j c = entry-there _ _ _ c.judge-j.ensures c.if-j-ne0.false
-    c.if-k-j.true
+pub returns-else-k-t : goal.returns-else-k-t
+returns-else-k-t c = entry-missing _ _ _ c.in-Ok.ensures c.if-k-t.false
 
-pub returns-else-k-j : goal.returns-else-k-j
-returns-else-k-j c = entry-missing _ _ _ c.judge-j.ensures c.if-j-ne0.false
-    c.if-k-j.false
+pub returns-in-Err : goal.returns-in-Err
+returns-in-Err c = c.from.ensures ∙ entry-refused _ _ _ c.in-Err.ensures

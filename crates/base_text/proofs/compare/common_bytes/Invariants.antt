@@ -1,11 +1,10 @@
-use Prim.Native.Nat.{◌+◌, ◌-◌}
+use Prim.Native.Nat.{◌+◌}
 use mathlib.Core.Path.{◌≡◌}
-use lib.ListN.{length, drop}
+use mathlib.Core.List.{map}
+use lib.ListN.{drop}
 use Rattle.base_text.specs.Text.{common}
 use Rattle.base_text.proofs.compare.common_bytes.Given as goal
 
 abbrev pub invariant-loop-i : goal.invariant-loop-i
-invariant-loop-i l = l.from + common (drop l.from l.p) (drop l.from l.w) ≡ l.i + common (drop l.i l.p) (drop l.i l.w)
-
-abbrev pub decreases-loop-i : goal.decreases-loop-i
-decreases-loop-i l = length l.p - l.i
+invariant-loop-i g l =
+    let w = map g.T.Taking.taken l.w in l.from + common (drop l.from l.p) (drop l.from w) ≡ l.i + common (drop l.i l.p) (drop l.i w)

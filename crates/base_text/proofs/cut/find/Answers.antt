@@ -1,22 +1,17 @@
-use native.Mathlib.Omega.{arith}
-use Rattle.base_lists.proofs.Cuts.{up_to-hit, up_to-miss, up_to-end}
-use borrow.Author.Tests.{eq-eqb, ne_eqb}
+use Rattle.std.proofs.Common.{◌∙◌, not}
+use lib.Dec.{eqb}
 use borrow.Author.Rules.{rules}
+use borrow.Author.Tests.{tests}
+use Rattle.std.proofs.lemmas.Iterator.{YieldsList-from_slice}
+use Rattle.std.proofs.lemmas.Iterator.Consumers.{count_from_yields_List}
+use Rattle.std.proofs.lemmas.Iterator.Search.{YieldsList-from_take_while}
+use Rattle.std.proofs.lemmas.List.Folds.{length-prefix_len}
+use Rattle.base_lists.proofs.Chains.{up_to-prefix}
 use Rattle.base_text.proofs.cut.find.Goals as goal
 
-pub returns-then-s-i : goal.returns-then-s-i
-returns-then-s-i c = let loop = c.loop-i in
-    let a = c.args in
-    let i = loop.i in
-    omega (arith, loop.invariant.1, up_to-hit a.c a.s.now i (search rules) (eq-eqb _ _ c.if-s-i.true))
-
-pub loop-i-preserved : goal.loop-i-preserved
-loop-i-preserved c = let loop = c.loop-i in
-    let a = c.args in
-    let i = loop.i in
-    omega (arith, loop.invariant.1, up_to-miss a.c a.s.now i (search rules) (ne_eqb _ _ c.if-s-i.false))
-
 pub returns : goal.returns
-returns c = let loop = c.loop-i in
-    let a = c.args in
-    omega (arith, loop.invariant.1, up_to-end a.c a.s.now loop.i (search rules) (search rules))
+returns c =
+    let s = c.args.s.now in
+    count_from_yields_List c.take_while.result _ c.count.ensures.ran
+    (YieldsList-from_take_while _ (λ x. not (eqb x c.args.c)) (YieldsList-from_slice s cc) c.take_while.ensures.closure c.take_while.ensures.done (λ x b q k. search (rules, tests)))
+    ∙ length-prefix_len (λ x. not (eqb x c.args.c)) s ∙ up_to-prefix c.args.c s

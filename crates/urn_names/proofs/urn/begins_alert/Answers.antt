@@ -1,29 +1,19 @@
-use native.Mathlib.Omega.{arith}
-use mathlib.Core.Path.{ap}
-use Rattle.urn_names.specs.Urn.{begins}
-use Rattle.urn_names.proofs.Turns.{scheme, scheme-bytes, begins-small, begins-short, begins-more, begins-less, begins-end}
+use mathlib.Core.Path.{ap, sym, ◌∙◌}
+use mathlib.Core.List.{List}
+use Prim.Native.Nat.{ℕ}
+use Rattle.theory_resolution.specs.Names.{same_name}
+use Rattle.theory_resolution.proofs.Names.{name-exact}
+use Rattle.base_text.specs.Text.{lowered}
+use Rattle.urn_names.proofs.Turns.{scheme, begins-as_is, begins-front, same-pointwise}
 use Rattle.urn_names.proofs.urn.begins_alert.Goals as goal
 
-pub returns-then-same : goal.returns-then-same
-returns-then-same c = begins-small c.args.s.now _ c.part.ensures c.same.ensures c.if-same.true
+pub returns-then-eq : goal.returns-then-eq
+returns-then-eq c =
+    let front = c.part-front.result.now in
+    let other = c.as_slice.result.now in
+    c.if-eq.true ∙ begins-as_is c.args.s.now front c.part-front.ensures
+    (name-exact.to front other (sym (same-pointwise front other) ∙ sym c.eq.ensures ∙ c.if-eq.true) ∙ c.as_slice.ensures)
 
-pub loop-i-init : goal.loop-i-init
-loop-i-init c = (omega arith, ap (λ w. begins w c.args.s.now) scheme-bytes)
-
-pub returns-then-n-i : goal.returns-then-n-i
-returns-then-n-i c = begins-short scheme c.args.s.now c.loop-i.i c.loop-i.invariant.1
-    c.loop-i-test.true c.if-n-i.true
-
-pub loop-i-preserved : goal.loop-i-preserved
-loop-i-preserved c = (
-  omega arith,
-  begins-more scheme c.args.s.now c.loop-i.i c.loop-i.invariant.1
-      c.loop-i-test.true c.if-n-i.false c.lower_of-y.ensures c.if-y-x.true,
-)
-
-pub returns-else-y-x : goal.returns-else-y-x
-returns-else-y-x c = begins-less scheme c.args.s.now c.loop-i.i c.loop-i.invariant.1
-    c.loop-i-test.true c.if-n-i.false c.lower_of-y.ensures c.if-y-x.false
-
-pub returns : goal.returns
-returns c = begins-end scheme c.args.s.now c.loop-i.i c.loop-i.invariant.1 c.loop-i-test.false
+pub returns-else-eq : goal.returns-else-eq
+returns-else-eq c =
+    c.same_lowered.ensures ∙ ap (λ (t : List ℕ). same_name (lowered t) scheme) c.part-front.ensures ∙ begins-front scheme c.args.s.now

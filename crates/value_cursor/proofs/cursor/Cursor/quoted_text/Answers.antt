@@ -1,25 +1,8 @@
-use mathlib.Core.Path.{sym, ◌∙◌}
-use native.Mathlib.Omega.{arith}
-use Rattle.value_cursor.proofs.RunLaws.{peeked, byte-in}
 use Rattle.value_cursor.proofs.QuoteLaws.{quote-closed, quote-stray, quote-escape, quote-here}
 use Rattle.value_cursor.proofs.cursor.Cursor.quoted_text.Goals as goal
 
-pub overflow_add-next : goal.overflow_add-next
-overflow_add-next c = omega (
-  arith,
-  peeked c.args.s.now c.args.self.at 91
-      (sym c.peek.ensures ∙ c.if-peek-eq92.true),
-)
-
 pub returns-then-peek-eq92 : goal.returns-then-peek-eq92
 returns-then-peek-eq92 c = quote-here _ _ c.peek.ensures c.if-peek-eq92.true c.escaped.ensures
-
-pub overflow_add-after : goal.overflow_add-after
-overflow_add-after c = omega (
-  arith,
-  byte-in c.args.s.now c.run-t.result.at
-      (sym c.peek-b.ensures ∙ c.if-b-eq34.true) (omega arith),
-)
 
 pub returns-then-b-eq34 : goal.returns-then-b-eq34
 returns-then-b-eq34 c = quote-closed _ _ _ c.run-t.ensures _ c.peek-b.ensures c.if-b-eq34.true
@@ -27,13 +10,5 @@ returns-then-b-eq34 c = quote-closed _ _ _ c.run-t.ensures _ c.peek-b.ensures c.
 pub returns-then-b-ne92 : goal.returns-then-b-ne92
 returns-then-b-ne92 c = quote-stray _ _ _ c.run-t.ensures _ c.peek-b.ensures c.if-b-eq34.false c.if-b-ne92.true
 
-pub overflow_add-next-2 : goal.overflow_add-next-2
-overflow_add-next-2 c = omega (
-  arith,
-  peeked c.args.s.now
-      c.run-t.result.at 91 (sym c.peek-b.ensures ∙ c.if-b-ne92.false),
-)
-
 pub returns : goal.returns
-returns c = quote-escape _ _ _ c.run-t.ensures _ c.peek-b.ensures
-    c.if-b-eq34.false c.if-b-ne92.false c.escaped-2.ensures
+returns c = quote-escape _ _ _ c.run-t.ensures _ c.peek-b.ensures c.if-b-eq34.false c.if-b-ne92.false c.escaped-2.ensures

@@ -1,0 +1,17 @@
+use Rattle.std.proofs.Common.{◌∙◌}
+use borrow.Author.Rules.{rules}
+use borrow.Author.Tests.{tests}
+use Rattle.std.proofs.lemmas.Iterator.{YieldsList-from_slice}
+use Rattle.std.proofs.lemmas.Iterator.Consumers.{count_from_yields_List}
+use Rattle.std.proofs.lemmas.Iterator.Search.{YieldsList-from_take_while}
+use Rattle.std.proofs.lemmas.List.Folds.{length-prefix_len}
+use Rattle.base_lists.proofs.Chains.{run-prefix}
+use Rattle.urn_names.proofs.names.run.Goals as goal
+
+pub returns : goal.returns
+returns g c =
+    let s = c.args.s.now in
+    let p = g.B.LabelByte.stands in
+    count_from_yields_List c.take_while.result _ c.count.ensures.ran
+    (YieldsList-from_take_while _ p (YieldsList-from_slice s cc) c.take_while.ensures.closure c.take_while.ensures.done (λ x b q k. search (rules, tests)))
+    ∙ length-prefix_len p s ∙ run-prefix p s
