@@ -37,8 +37,8 @@ fn with(counts: Result<Counts, u8>, a: Resolution) -> Result<Counts, u8> {
     })
 }
 
-// One value more: word i. Nothing if it cannot be read. A refused one is told on standard error: the message may be answered all the
-// same.
+// One value more: word i. Nothing if it cannot be read. A refused one is told on standard error: the message may be answered
+// all the same.
 fn fed<R: Runtime>(call: &Call<R>, t: &[u8], m: Message, i: usize) -> io::Result<Option<Message>> {
     let mut value = room();
     let Some(v) = call.value(i, &mut value) else {

@@ -6,8 +6,8 @@ use std::io;
 use std::io::Write;
 use std::rt::Runtime;
 
-// A call of some words, of which the first stands before the command. Several calls may stand in one; each begins after the argument
-// `start`.
+// A call of some words, of which the first stands before the command. Several calls may stand in one; each begins after the
+// argument `start`.
 #[derive(Drop)]
 pub struct Call<'a, R: Runtime> {
     pub system: &'a System<R>,

@@ -43,7 +43,8 @@ impl Month {
     }
 }
 
-// The line that is being read, of which so many bytes are held. What does not fit is left out: such a line is longer than any value.
+// The line that is being read, of which so many bytes are held. What does not fit is left out: such a line is longer than any
+// value.
 #[derive(Drop)]
 struct Line {
     bytes: [u8; 4098],
