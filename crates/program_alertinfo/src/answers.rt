@@ -1,58 +1,54 @@
 // The commands' answers, each for a table that was read and the words after it.
-use crate::{fields, files, month, report, signals, words};
-use program_system::{System, path_room, room};
+use crate::files::Call;
+use crate::{fields, month, report, signals, words};
+use program_system::{path_room, room};
+use resolve_run::Resolution;
 use std::io;
 use std::rt::Runtime;
 
-// A form or an image goes to the file that word 3 names.
-fn written<R: Runtime>(
-    system: &System<R>,
-    call: usize,
-    refusal: u8,
-    n: usize,
-    bytes: &[u8],
-) -> io::Result<()> {
+// The first n bytes, a form or an image, go to the file that word 3 names.
+fn written<R: Runtime>(call: &Call<R>, refusal: u8, bytes: &[u8], n: usize) -> io::Result<()> {
     if refusal != 0 {
-        return words::refused(&system.rt, refusal);
+        return words::refused(&call.system.rt, refusal);
     }
-    if files::write(system, files::word(call, 3), bytes, n)? {
-        words::count(&system.rt, n as u64, " bytes written\n")?;
+    if let Some(form) = bytes.get(..n) {
+        if call.write(3, form)? {
+            words::count(&call.system.rt, n as u64, " bytes written\n")?;
+        }
     }
     Ok(())
 }
 
-pub fn build<R: Runtime>(system: &System<R>, call: usize, t: &[u8]) -> io::Result<()> {
+pub fn build<R: Runtime>(call: &Call<R>, t: &[u8]) -> io::Result<()> {
     let mut image = room();
     let b = machine_library::build(t, &mut image);
-    written(system, call, b.refusal, b.len, &image)
+    written(call, b.refusal, &image, b.len)
 }
 
 // The table with its tree written once.
-pub fn tree<R: Runtime>(system: &System<R>, call: usize, t: &[u8]) -> io::Result<()> {
+pub fn tree<R: Runtime>(call: &Call<R>, t: &[u8]) -> io::Result<()> {
     let mut form = room();
     let c = tree_library::from_signal_table(t, &mut form);
-    written(system, call, c.refusal, c.len, &form)
+    written(call, c.refusal, &form, c.len)
 }
 
 // The table of such a tree.
-pub fn untree<R: Runtime>(system: &System<R>, call: usize, t: &[u8]) -> io::Result<()> {
+pub fn untree<R: Runtime>(call: &Call<R>, t: &[u8]) -> io::Result<()> {
     let mut form = room();
     let c = tree_library::to_signal_table(t, &mut form);
-    written(system, call, c.refusal, c.len, &form)
+    written(call, c.refusal, &form, c.len)
 }
 
-pub fn check<R: Runtime>(system: &System<R>, call: usize, t: &[u8]) -> io::Result<()> {
+pub fn check<R: Runtime>(call: &Call<R>, t: &[u8]) -> io::Result<()> {
     let mut image = room();
-    let m = files::file(system, files::word(call, 3), &mut image);
-    if !m.ok {
+    let Some(m) = call.file(3, &mut image) else {
         return Ok(());
-    }
-    let n = m.n;
-    let r = machine_library::check(t, &image[..n]);
+    };
+    let r = machine_library::check(t, m);
     if r != 0 {
-        return words::refused(&system.rt, r);
+        return words::refused(&call.system.rt, r);
     }
-    system.rt.print("accepted\n")
+    call.system.rt.print("accepted\n")
 }
 
 // The plain resolver's answer, with its tries.
@@ -61,101 +57,62 @@ pub fn plain(out: &impl Print, t: &[u8], v: &[u8]) -> io::Result<()> {
     if r.refusal != 0 {
         return words::refused(out, r.refusal);
     }
-    words::resolved(out, r.signal, r.used as usize, r.skipped as usize)?;
+    words::resolved(out, r.signal, u64::from(r.used), u64::from(r.skipped))?;
     out.print(", ")?;
-    words::counted(out, r.tries as u64, " try\n", " tries\n")
+    words::counted(out, u64::from(r.tries), " try\n", " tries\n")
 }
 
-fn resolution(
-    out: &impl Print,
-    refusal: u8,
-    signal: u8,
-    used: usize,
-    skipped: usize,
-) -> io::Result<()> {
-    if refusal != 0 {
-        return words::refused(out, refusal);
+fn resolution(out: &impl Print, r: Resolution) -> io::Result<()> {
+    if r.refusal != 0 {
+        return words::refused(out, r.refusal);
     }
-    words::resolved(out, signal, used, skipped)?;
+    words::resolved(out, r.signal, u64::from(r.used), u64::from(r.skipped))?;
     out.print("\n")
 }
 
 // By the machine that word 4 names.
-pub fn walk<R: Runtime>(system: &System<R>, call: usize, t: &[u8], v: &[u8]) -> io::Result<()> {
+pub fn walk<R: Runtime>(call: &Call<R>, t: &[u8], v: &[u8]) -> io::Result<()> {
     let mut image = room();
-    let m = files::file(system, files::word(call, 4), &mut image);
-    if !m.ok {
-        return Ok(());
+    match call.file(4, &mut image) {
+        Some(m) => resolution(&call.system.rt, resolve_library::machine(t, m, v)),
+        None => Ok(()),
     }
-    let n = m.n;
-    let r = resolve_library::machine(t, &image[..n], v);
-    resolution(
-        &system.rt,
-        r.refusal,
-        r.signal,
-        r.used as usize,
-        r.skipped as usize,
-    )
 }
 
 // By the small machine that word 3 names.
-pub fn small<R: Runtime>(system: &System<R>, call: usize, t: &[u8], v: &[u8]) -> io::Result<()> {
+pub fn small<R: Runtime>(call: &Call<R>, t: &[u8], v: &[u8]) -> io::Result<()> {
     let mut image = room();
-    let m = files::file(system, files::word(call, 3), &mut image);
-    if !m.ok {
-        return Ok(());
+    match call.file(3, &mut image) {
+        Some(m) => resolution(&call.system.rt, resolve_small::resolve(t, m, v)),
+        None => Ok(()),
     }
-    let n = m.n;
-    let r = resolve_small::resolve(t, &image[..n], v);
-    resolution(
-        &system.rt,
-        r.refusal,
-        r.signal,
-        r.used as usize,
-        r.skipped as usize,
-    )
 }
 
 // With only the signals that word 3 lists.
-pub fn available<R: Runtime>(
-    system: &System<R>,
-    call: usize,
-    t: &[u8],
-    v: &[u8],
-) -> io::Result<()> {
+pub fn available<R: Runtime>(call: &Call<R>, t: &[u8], v: &[u8]) -> io::Result<()> {
     let mut text = path_room();
-    let n = system.arg(files::word(call, 3), &mut text);
-    let s = signals::read(&text[..n]);
-    if !s.ok {
-        return system
+    match signals::read(call.word(3, &mut text)) {
+        Some(set) => resolution(&call.system.rt, resolve_available::resolve(t, set, v)),
+        None => call
+            .system
             .err
-            .print("SIGNALS are numbers from 0 to 31 with commas between\n");
+            .print("SIGNALS are numbers from 0 to 31 with commas between\n"),
     }
-    let r = resolve_available::resolve(t, s.bits, v);
-    resolution(
-        &system.rt,
-        r.refusal,
-        r.signal,
-        r.used as usize,
-        r.skipped as usize,
-    )
 }
 
 // A ring by this table, and a lamp by the one that word 3 names.
-pub fn pair<R: Runtime>(system: &System<R>, call: usize, t: &[u8], v: &[u8]) -> io::Result<()> {
-    let mut lamps = room();
-    let l = files::file(system, files::word(call, 3), &mut lamps);
-    if !l.ok {
+pub fn pair<R: Runtime>(call: &Call<R>, t: &[u8], v: &[u8]) -> io::Result<()> {
+    let mut table = room();
+    let Some(lamps) = call.file(3, &mut table) else {
         return Ok(());
-    }
-    let n = l.n;
-    let r = resolve_pair::resolve(t, &lamps[..n], v);
+    };
+    let r = resolve_pair::resolve(t, lamps, v);
     if r.refusal != 0 {
-        return words::refused(&system.rt, r.refusal);
+        return words::refused(&call.system.rt, r.refusal);
     }
-    system.rt.print("ring ")?;
-    words::count(&system.rt, r.ring as u64, ", lamp ")?;
-    words::count(&system.rt, r.lamp as u64, "\n")
+    let ring = r.ring;
+    let lamp = r.lamp;
+    print!(&call.system.rt; "ring {ring}, lamp {lamp}\n")
 }
 
 // The signal, and how many entries it needed.
@@ -165,18 +122,15 @@ pub fn early(out: &impl Print, t: &[u8], v: &[u8]) -> io::Result<()> {
         return words::refused(out, r.refusal);
     }
     out.print("signal ")?;
-    words::count(out, r.signal as u64, " after ")?;
-    words::counted(out, r.entries as u64, " entry\n", " entries\n")
+    words::count(out, u64::from(r.signal), " after ")?;
+    words::counted(out, u64::from(r.entries), " entry\n", " entries\n")
 }
 
 fn found(out: &impl Print, m: machine_library::Match) -> io::Result<()> {
-    out.print("category ")?;
-    words::count(out, m.category as u64, ", node ")?;
-    if m.whole == 1 {
-        words::count(out, m.node as u64, ", whole, ")?;
-    } else {
-        words::count(out, m.node as u64, ", not whole, ")?;
-    }
+    let category = m.category;
+    let node = m.node;
+    let whole = if m.whole == 1 { "whole" } else { "not whole" };
+    print!(out; "category {category}, node {node}, {whole}, ")?;
     words::counted(
         out,
         m.compared as u64,
@@ -186,66 +140,73 @@ fn found(out: &impl Print, m: machine_library::Match) -> io::Result<()> {
 }
 
 // What the URI that word 3 is means to the table.
-pub fn match_uri<R: Runtime>(system: &System<R>, call: usize, t: &[u8]) -> io::Result<()> {
+pub fn match_uri<R: Runtime>(call: &Call<R>, t: &[u8]) -> io::Result<()> {
     let mut uri = room();
-    let n = system.arg(files::word(call, 3), &mut uri);
-    let m = machine_library::match_urn(t, &uri[..n]);
+    let m = machine_library::match_urn(t, call.word(3, &mut uri));
     if m.refusal != 0 {
-        return words::refused(&system.rt, m.refusal);
+        return words::refused(&call.system.rt, m.refusal);
     }
     if m.used == 0 {
-        return system.rt.print("skipped\n");
+        return call.system.rt.print("skipped\n");
     }
-    found(&system.rt, m)
+    found(&call.system.rt, m)
 }
 
 // The values of one message, from word 3 on: the signal at the end and the counts of all, or the last refusal if no
 // value is accepted.
-pub fn feed<R: Runtime>(system: &System<R>, call: usize, t: &[u8], n: usize) -> io::Result<()> {
-    let m = fields::all_of(system, call, t, n)?;
-    if !m.ok {
+pub fn feed<R: Runtime>(call: &Call<R>, t: &[u8]) -> io::Result<()> {
+    let Some(m) = fields::all_of(call, t)? else {
         return Ok(());
+    };
+    match m.counts {
+        Ok(counts) => {
+            words::resolved(
+                &call.system.rt,
+                m.carried.signal,
+                counts.used as u64,
+                counts.skipped as u64,
+            )?;
+            call.system.rt.print("\n")
+        }
+        Err(k) => words::refused(&call.system.rt, k),
     }
-    if !m.accepted {
-        return words::refused(&system.rt, m.refusal);
-    }
-    let end = m.carried;
-    resolution(&system.rt, 0, end.signal, m.used, m.skipped)
 }
 
 // The month of the values in the file that word 3 names, one a line.
-pub fn tally_file<R: Runtime>(system: &System<R>, call: usize, t: &[u8]) -> io::Result<()> {
+pub fn tally_file<R: Runtime>(call: &Call<R>, t: &[u8]) -> io::Result<()> {
     let k = machine_library::refusal(t);
     if k != 0 {
-        return words::refused(&system.rt, k);
+        return words::refused(&call.system.rt, k);
     }
-    let Some(mut from) = files::opened(system, files::word(call, 3))? else {
+    let Some(mut from) = call.opened(3)? else {
         return Ok(());
     };
-    let r = month::of_file(&mut from, t);
-    if r.failed {
-        return files::failed(system, files::word(call, 3));
+    match month::of_file(&mut from, t) {
+        Ok(m) => report::month(&call.system.rt, &m, tally_library::month::needed(t)),
+        Err(_) => call.complain(3, ": it cannot be read to its end\n"),
     }
-    let m = r.month;
-    report::month(&system.rt, m, tally_library::month::needed(t))
 }
 
 // Whether each call of the log that word 3 names has the right answer.
-pub fn log<R: Runtime>(system: &System<R>, call: usize, t: &[u8]) -> io::Result<()> {
+pub fn log<R: Runtime>(call: &Call<R>, t: &[u8]) -> io::Result<()> {
     let mut calls = room();
-    let l = files::file(system, files::word(call, 3), &mut calls);
-    if !l.ok {
+    let Some(log) = call.file(3, &mut calls) else {
         return Ok(());
-    }
-    let n = l.n;
-    let r = log_library::check(t, &calls[..n]);
+    };
+    let r = log_library::check(t, log);
     if r.refusal != 0 {
-        return words::refused(&system.rt, r.refusal);
+        return words::refused(&call.system.rt, r.refusal);
     }
     if r.agrees == 1 {
-        return system.rt.print("agrees\n");
+        return call.system.rt.print("agrees\n");
     }
-    system.rt.print("call ")?;
-    words::count(&system.rt, r.call as u64, " does not agree: right is ")?;
-    resolution(&system.rt, 0, r.signal, r.used as usize, r.skipped as usize)
+    call.system.rt.print("call ")?;
+    words::count(&call.system.rt, r.call as u64, " does not agree: right is ")?;
+    words::resolved(
+        &call.system.rt,
+        r.signal,
+        u64::from(r.used),
+        u64::from(r.skipped),
+    )?;
+    call.system.rt.print("\n")
 }

@@ -6,15 +6,17 @@ mod answers;
 mod fields;
 mod files;
 mod month;
+mod numbers;
 mod report;
 mod samples;
 mod shrink;
 mod signals;
 mod words;
 
+use files::Call;
 use program_system::{System, room};
-use std::io;
 use std::rt::Runtime;
+use std::{io, str};
 
 // What is asked of a table, which is word 2.
 #[derive(Clone, Copy)]
@@ -26,16 +28,21 @@ enum Command {
     Log,
     Tree,
     Untree,
-    Resolve,
+    Sample,
+    Shrink,
+    Feed,
+    Resolve(Resolver),
+}
+
+// How a value is resolved.
+#[derive(Clone, Copy)]
+enum Resolver {
+    Plain,
     Walk,
     Early,
     Available,
     Pair,
-    Sample,
     Small,
-    Shrink,
-    Feed,
-    None,
 }
 
 fn usage(to: &impl Print) -> io::Result<()> {
@@ -77,189 +84,121 @@ fn list(out: &impl Print, v: &[u8]) -> io::Result<()> {
     Ok(())
 }
 
-fn entries<R: Runtime>(system: &System<R>, call: usize) -> io::Result<()> {
+fn entries<R: Runtime>(call: &Call<R>) -> io::Result<()> {
     let mut value = room();
-    let v = files::value(system, files::word(call, 2), &mut value);
-    if !v.ok {
+    let Some(v) = call.value(2, &mut value) else {
         return Ok(());
-    }
-    let n = v.n;
-    let r = value_reader::refusal(&value[..n]);
+    };
+    let r = value_reader::refusal(v);
     if r != 0 {
-        return words::refused(&system.rt, r);
+        return words::refused(&call.system.rt, r);
     }
-    list(&system.rt, &value[..n])
+    list(&call.system.rt, v)
 }
 
-fn command_is<R: Runtime>(system: &System<R>, call: usize, text: &str) -> bool {
-    files::is(system, files::word(call, 1), text)
-}
-
-// A command on a table and one more word.
-fn of_one_more<R: Runtime>(system: &System<R>, call: usize) -> Command {
-    if command_is(system, call, "build") {
-        return Command::Build;
+// What a call of so many words asks of a table, by its first word after the program's name; nothing if it asks nothing of one.
+fn asked(name: &str, words: usize) -> Option<Command> {
+    if name == "feed" && 3 < words {
+        return Some(Command::Feed);
     }
-    if command_is(system, call, "check") {
-        return Command::Check;
-    }
-    if command_is(system, call, "match") {
-        return Command::Match;
-    }
-    if command_is(system, call, "tally") {
-        return Command::Tally;
-    }
-    if command_is(system, call, "log") {
-        return Command::Log;
-    }
-    if command_is(system, call, "tree") {
-        return Command::Tree;
-    }
-    if command_is(system, call, "untree") {
-        return Command::Untree;
-    }
-    if command_is(system, call, "resolve") {
-        return Command::Resolve;
-    }
-    if command_is(system, call, "early") {
-        return Command::Early;
-    }
-    Command::None
-}
-
-// A command on a table and two more words.
-fn of_two_more<R: Runtime>(system: &System<R>, call: usize) -> Command {
-    if command_is(system, call, "resolve") {
-        return Command::Walk;
-    }
-    if command_is(system, call, "available") {
-        return Command::Available;
-    }
-    if command_is(system, call, "pair") {
-        return Command::Pair;
-    }
-    if command_is(system, call, "sample") {
-        return Command::Sample;
-    }
-    if command_is(system, call, "small") {
-        return Command::Small;
-    }
-    if command_is(system, call, "shrink") {
-        return Command::Shrink;
-    }
-    Command::None
-}
-
-fn asked<R: Runtime>(system: &System<R>, call: usize, n: usize) -> Command {
-    if n == 4 {
-        return of_one_more(system, call);
-    }
-    if n == 5 {
-        return of_two_more(system, call);
-    }
-    Command::None
-}
-
-// Which word the value is.
-fn value_at(c: Command) -> usize {
-    match c {
-        Command::Available => 4,
-        Command::Pair => 4,
-        Command::Small => 4,
-        _ => 3,
+    match (name, words) {
+        ("build", 4) => Some(Command::Build),
+        ("check", 4) => Some(Command::Check),
+        ("match", 4) => Some(Command::Match),
+        ("tally", 4) => Some(Command::Tally),
+        ("log", 4) => Some(Command::Log),
+        ("tree", 4) => Some(Command::Tree),
+        ("untree", 4) => Some(Command::Untree),
+        ("resolve", 4) => Some(Command::Resolve(Resolver::Plain)),
+        ("early", 4) => Some(Command::Resolve(Resolver::Early)),
+        ("resolve", 5) => Some(Command::Resolve(Resolver::Walk)),
+        ("available", 5) => Some(Command::Resolve(Resolver::Available)),
+        ("pair", 5) => Some(Command::Resolve(Resolver::Pair)),
+        ("small", 5) => Some(Command::Resolve(Resolver::Small)),
+        ("sample", 5) => Some(Command::Sample),
+        ("shrink", 5) => Some(Command::Shrink),
+        _ => None,
     }
 }
 
-// The commands with a value.
-fn by_value<R: Runtime>(system: &System<R>, call: usize, c: Command, t: &[u8]) -> io::Result<()> {
+fn resolve<R: Runtime>(call: &Call<R>, how: Resolver, t: &[u8]) -> io::Result<()> {
+    // the other file, or the signals, stands before the value
+    let at = match how {
+        Resolver::Available | Resolver::Pair | Resolver::Small => 4,
+        Resolver::Plain | Resolver::Walk | Resolver::Early => 3,
+    };
     let mut value = room();
-    let v = files::value(system, files::word(call, value_at(c)), &mut value);
-    if !v.ok {
+    let Some(v) = call.value(at, &mut value) else {
         return Ok(());
-    }
-    let n = v.n;
-    match c {
-        Command::Walk => answers::walk(system, call, t, &value[..n]),
-        Command::Early => answers::early(&system.rt, t, &value[..n]),
-        Command::Available => answers::available(system, call, t, &value[..n]),
-        Command::Pair => answers::pair(system, call, t, &value[..n]),
-        Command::Small => answers::small(system, call, t, &value[..n]),
-        _ => answers::plain(&system.rt, t, &value[..n]),
+    };
+    match how {
+        Resolver::Plain => answers::plain(&call.system.rt, t, v),
+        Resolver::Walk => answers::walk(call, t, v),
+        Resolver::Early => answers::early(&call.system.rt, t, v),
+        Resolver::Available => answers::available(call, t, v),
+        Resolver::Pair => answers::pair(call, t, v),
+        Resolver::Small => answers::small(call, t, v),
     }
 }
 
-fn by_table<R: Runtime>(system: &System<R>, call: usize, c: Command, n: usize) -> io::Result<()> {
+fn by_table<R: Runtime>(call: &Call<R>, command: Command) -> io::Result<()> {
     let mut table = room();
-    let t = files::file(system, files::word(call, 2), &mut table);
-    if !t.ok {
+    let Some(t) = call.file(2, &mut table) else {
         return Ok(());
-    }
-    let k = t.n;
-    match c {
-        Command::Build => answers::build(system, call, &table[..k]),
-        Command::Check => answers::check(system, call, &table[..k]),
-        Command::Match => answers::match_uri(system, call, &table[..k]),
-        Command::Tally => answers::tally_file(system, call, &table[..k]),
-        Command::Log => answers::log(system, call, &table[..k]),
-        Command::Tree => answers::tree(system, call, &table[..k]),
-        Command::Untree => answers::untree(system, call, &table[..k]),
-        Command::Shrink => shrink::shrink(system, call, &table[..k]),
-        Command::Feed => answers::feed(system, call, &table[..k], n),
-        Command::Sample => samples::print(system, call, &table[..k]),
-        _ => by_value(system, call, c, &table[..k]),
-    }
-}
-
-// A call that asks nothing of a table.
-fn without_table<R: Runtime>(system: &System<R>, call: usize, n: usize) -> io::Result<()> {
-    if n == 3 {
-        if command_is(system, call, "entries") {
-            return entries(system, call);
-        }
-    }
-    if command_is(system, call, "--help") {
-        return usage(&system.rt);
-    }
-    usage(&system.err)
-}
-
-// A call of n words, of which the first stands before the command.
-fn answer<R: Runtime>(system: &System<R>, call: usize, n: usize) -> io::Result<()> {
-    if 3 < n {
-        if command_is(system, call, "feed") {
-            return by_table(system, call, Command::Feed, n);
-        }
-    }
-    let c = asked(system, call, n);
-    match c {
-        Command::None => without_table(system, call, n),
-        _ => by_table(system, call, c, n),
+    };
+    match command {
+        Command::Build => answers::build(call, t),
+        Command::Check => answers::check(call, t),
+        Command::Match => answers::match_uri(call, t),
+        Command::Tally => answers::tally_file(call, t),
+        Command::Log => answers::log(call, t),
+        Command::Tree => answers::tree(call, t),
+        Command::Untree => answers::untree(call, t),
+        Command::Sample => samples::print(call, t),
+        Command::Shrink => shrink::shrink(call, t),
+        Command::Feed => answers::feed(call, t),
+        Command::Resolve(how) => resolve(call, how, t),
     }
 }
 
-// The call that begins after argument `call`, if it ends before argument i; where the next one begins.
-fn until<R: Runtime>(system: &System<R>, call: usize, i: usize, ends: bool) -> io::Result<usize> {
-    if ends {
-        if call < i {
-            answer(system, call, i - call)?;
-        }
-        return Ok(i);
+fn answer<R: Runtime>(call: &Call<R>) -> io::Result<()> {
+    let mut room = [0u8; 16];
+    let name = str::from_utf8(call.word(1, &mut room)).unwrap_or("");
+    match (asked(name, call.words), name, call.words) {
+        (Some(command), _, _) => by_table(call, command),
+        (None, "entries", 3) => entries(call),
+        (None, "--help", _) => usage(&call.system.rt),
+        (None, _, _) => usage(&call.system.err),
     }
-    Ok(call)
 }
 
-// The same where the word `then` ends a call.
-fn past<R: Runtime>(system: &System<R>, call: usize, i: usize) -> io::Result<usize> {
-    until(system, call, i, files::is(system, i, "then"))
+// Argument i is the word that ends a call.
+fn is_then<R: Runtime>(system: &System<R>, i: usize) -> bool {
+    let mut buf = [0u8; 16];
+    let n = system.arg(i, &mut buf);
+    &buf[..n] == b"then".as_slice()
 }
 
 fn main(rt: HostRuntime) -> io::Result<()> {
     let system = System::new(rt, rt.stderr());
     let n = system.arg_count();
-    let mut call = 0;
+    let mut start = 0;
     for i in 1..n {
-        call = past(&system, call, i)?;
+        if is_then(&system, i) {
+            answer(&Call {
+                system: &system,
+                start,
+                words: i.saturating_sub(start),
+            })?;
+            start = i;
+        }
     }
-    until(&system, call, n, true)?;
+    if start < n {
+        answer(&Call {
+            system: &system,
+            start,
+            words: n - start,
+        })?;
+    }
     Ok(())
 }

@@ -8,17 +8,13 @@ pub fn count(out: &impl Print, n: u64, after: &str) -> io::Result<()> {
 
 // A number and the word for one, or for another number.
 pub fn counted(out: &impl Print, n: u64, one: &str, many: &str) -> io::Result<()> {
-    if n == 1 {
-        count(out, n, one)
-    } else {
-        count(out, n, many)
-    }
+    count(out, n, if n == 1 { one } else { many })
 }
 
-// A resolution without the line's end.
-pub fn resolved(out: &impl Print, signal: u8, used: usize, skipped: usize) -> io::Result<()> {
+// A signal with its counts.
+pub fn resolved(out: &impl Print, signal: u8, used: u64, skipped: u64) -> io::Result<()> {
     print!(out; "signal {signal}, ")?;
-    used_skipped(out, used as u64, skipped as u64)
+    used_skipped(out, used, skipped)
 }
 
 pub fn used_skipped(out: &impl Print, used: u64, skipped: u64) -> io::Result<()> {
@@ -27,18 +23,13 @@ pub fn used_skipped(out: &impl Print, used: u64, skipped: u64) -> io::Result<()>
 
 // A refusal number with what it says.
 pub fn refused(out: &impl Print, k: u8) -> io::Result<()> {
-    refusal(out, k)
-}
-
-// The same, to any stream.
-pub fn refusal(to: &impl Print, k: u8) -> io::Result<()> {
-    print!(to; "refused {k}: ")?;
-    reason(to, k)?;
-    to.print("\n")
+    print!(out; "refused {k}: ")?;
+    reason(out, usize::from(k))?;
+    out.print("\n")
 }
 
 // What a refusal number says: its line of these, counted from 0.
-pub fn reason(to: &impl Print, k: u8) -> io::Result<()> {
+pub fn reason(out: &impl Print, k: usize) -> io::Result<()> {
     let lines = b"nothing is wrong
 the value is longer than 4,096 bytes
 the value is not of the field's form
@@ -68,5 +59,5 @@ the log is longer than 32,768 bytes, stops early, or goes on after its last call
 the buffer is shorter than 4,096 bytes
 the classes do not make a smaller machine of this one, or none do
 ";
-    to.write_all(program_lines::part(lines, b'\n', k as usize))
+    out.write_all(program_lines::part(lines, b'\n', k))
 }

@@ -19,16 +19,15 @@
 //   sample T SEED ROOM  refusal number, length, seed after it, the value; the bytes after it are told only if one has changed
 //   match T URI      refusal number, category (-1 if the URI is skipped), node, whole, bytes compared
 use crate::{numbers, print};
-use machine_library::Match;
 use resolve_run::Resolution;
-use sample_library::Made;
+use sample_seed::Seed;
 use std::io;
 use value_cursor::{Cursor, Found, Span};
 
 fn span(out: &impl Print, p: Span) -> io::Result<()> {
-    print::next(out, p.start)?;
-    print::text(out, ":")?;
-    print::number(out, p.len)
+    let start = p.start;
+    let len = p.len;
+    print!(out; " {start}:{len}")
 }
 
 // The entry at the cursor, and the cursor after it.
@@ -46,9 +45,9 @@ fn entry_at(out: &impl Print, v: &[u8], c: Cursor) -> io::Result<Cursor> {
     }
 }
 
-fn entries_of(out: &impl Print, v: &[u8]) -> io::Result<()> {
+pub fn value(out: &impl Print, v: &[u8]) -> io::Result<()> {
     let n = value_reader::entries(v);
-    print::number(out, value_reader::refusal(v) as usize)?;
+    print::number(out, usize::from(value_reader::refusal(v)))?;
     print::next(out, n)?;
     let mut c = Cursor { at: 0 };
     for _ in 0..n {
@@ -57,50 +56,43 @@ fn entries_of(out: &impl Print, v: &[u8]) -> io::Result<()> {
     Ok(())
 }
 
-pub fn value(out: &impl Print, v: &[u8]) -> io::Result<()> {
-    entries_of(out, v)
-}
-
 pub fn entry(out: &impl Print, line: &[u8], v: &[u8]) -> io::Result<()> {
     let k = program_lines::number(program_lines::word(line, 2));
-    print::number(out, value_reader::entry_refusal(v, k) as usize)?;
+    print::number(out, usize::from(value_reader::entry_refusal(v, k)))?;
     print::bytes(out, value_reader::entry(v, k))
 }
 
 pub fn table(out: &impl Print, t: &[u8]) -> io::Result<()> {
-    print::number(out, machine_library::refusal(t) as usize)
+    print::number(out, usize::from(machine_library::refusal(t)))
 }
 
 pub fn tree(out: &impl Print, t: &[u8]) -> io::Result<()> {
-    print::number(out, tree_library::refusal(t) as usize)
-}
-
-fn matched(out: &impl Print, m: Match) -> io::Result<()> {
-    print::number(out, m.refusal as usize)?;
-    if m.used == 0 {
-        print::text(out, " -1")?;
-    } else {
-        print::next(out, m.category as usize)?;
-    }
-    print::next(out, m.node as usize)?;
-    print::next(out, m.whole as usize)?;
-    print::next(out, m.compared as usize)
+    print::number(out, usize::from(tree_library::refusal(t)))
 }
 
 pub fn match_urn(out: &impl Print, t: &[u8], uri: &[u8]) -> io::Result<()> {
-    matched(out, machine_library::match_urn(t, uri))
+    let m = machine_library::match_urn(t, uri);
+    print::number(out, usize::from(m.refusal))?;
+    if m.used == 0 {
+        print::text(out, " -1")?;
+    } else {
+        print::next(out, usize::from(m.category))?;
+    }
+    print::next(out, usize::from(m.node))?;
+    print::next(out, usize::from(m.whole))?;
+    print::next(out, m.compared as usize)
 }
 
 pub fn resolution(out: &impl Print, r: Resolution) -> io::Result<()> {
     print::three(out, r.refusal, r.signal, r.used)?;
-    print::next(out, r.skipped as usize)
+    print::next(out, usize::from(r.skipped))
 }
 
 pub fn plain(out: &impl Print, t: &[u8], v: &[u8]) -> io::Result<()> {
     let r = resolve_library::plain(t, v);
     print::three(out, r.refusal, r.signal, r.used)?;
-    print::next(out, r.skipped as usize)?;
-    print::next(out, r.tries as usize)
+    print::next(out, usize::from(r.skipped))?;
+    print::next(out, usize::from(r.tries))
 }
 
 pub fn early(out: &impl Print, t: &[u8], v: &[u8]) -> io::Result<()> {
@@ -123,16 +115,16 @@ pub fn keeps(out: &impl Print, line: &[u8], t: &[u8]) -> io::Result<()> {
     let r = table_kept::kept::keeps(t, set, small_number(line, 3));
     print::three(out, r.refusal, r.kept, r.rings)?;
     let marks = r.marks;
-    print::bytes(out, base_text::cut::part(&marks, 0, r.len as usize))
+    print::bytes(out, marks.get(..usize::from(r.len)).unwrap_or(&marks))
 }
 
 pub fn rings(out: &impl Print, line: &[u8], t: &[u8]) -> io::Result<()> {
     let set = numbers::number(program_lines::word(line, 2));
     let r = table_kept::rung::rings(t, set, small_number(line, 3));
-    print::number(out, r.refusal as usize)?;
-    print::next(out, r.rings as usize)?;
+    print::number(out, usize::from(r.refusal))?;
+    print::next(out, usize::from(r.rings))?;
     let marks = r.marks;
-    print::bytes(out, base_text::cut::part(&marks, 0, r.len as usize))
+    print::bytes(out, marks.get(..usize::from(r.len)).unwrap_or(&marks))
 }
 
 pub fn pair(out: &impl Print, rings: &[u8], lamps: &[u8], v: &[u8]) -> io::Result<()> {
@@ -142,12 +134,12 @@ pub fn pair(out: &impl Print, rings: &[u8], lamps: &[u8], v: &[u8]) -> io::Resul
 
 pub fn log(out: &impl Print, t: &[u8], calls: &[u8]) -> io::Result<()> {
     let r = log_library::check(t, calls);
-    print::number(out, r.refusal as usize)?;
-    print::next(out, r.agrees as usize)?;
+    print::number(out, usize::from(r.refusal))?;
+    print::next(out, usize::from(r.agrees))?;
     print::next(out, r.call as usize)?;
-    print::next(out, r.signal as usize)?;
-    print::next(out, r.used as usize)?;
-    print::next(out, r.skipped as usize)
+    print::next(out, usize::from(r.signal))?;
+    print::next(out, usize::from(r.used))?;
+    print::next(out, usize::from(r.skipped))
 }
 
 pub fn walk(out: &impl Print, t: &[u8], m: &[u8], v: &[u8]) -> io::Result<()> {
@@ -159,99 +151,79 @@ pub fn small_walk(out: &impl Print, t: &[u8], m: &[u8], v: &[u8]) -> io::Result<
 }
 
 pub fn check(out: &impl Print, t: &[u8], m: &[u8]) -> io::Result<()> {
-    print::number(out, machine_library::check(t, m) as usize)
+    print::number(out, usize::from(machine_library::check(t, m)))
 }
 
-fn all_zero(s: &[u8]) -> bool {
-    s.iter().all(|b| *b == 0)
-}
-
-// What was written to a buffer: the refusal number, the length, so many bytes, and whether the others are 0.
-pub fn written(out: &impl Print, refusal: u8, n: usize, buf: &[u8]) -> io::Result<()> {
-    print::number(out, refusal as usize)?;
-    print::next(out, n)?;
-    if buf.len() < n {
+// So many bytes of a buffer, and what is wrong if the others are not what stood there.
+fn written(out: &impl Print, n: usize, buf: &[u8], before: u8, wrong: &str) -> io::Result<()> {
+    let (Some(bytes), Some(rest)) = (buf.get(..n), buf.get(n..)) else {
         return print::text(out, " longer than the buffer");
-    }
-    print::bytes(out, &buf[..n])?;
-    if !all_zero(&buf[n..]) {
-        print::text(out, " and then not 0")?;
+    };
+    print::bytes(out, bytes)?;
+    if !rest.iter().all(|b| *b == before) {
+        print::text(out, wrong)?;
     }
     Ok(())
 }
 
 // Room for any form or image, and not zero before.
-pub fn room() -> [u8; 70000] {
+fn room() -> [u8; 70000] {
     [170u8; 70000]
 }
 
-fn built(out: &impl Print, t: &[u8], buf: &mut [u8]) -> io::Result<()> {
-    let b = machine_library::build(t, buf);
-    written(out, b.refusal, b.len, buf)
-}
-
-fn in_tree_form(out: &impl Print, t: &[u8], buf: &mut [u8]) -> io::Result<()> {
-    let c = tree_library::from_signal_table(t, buf);
-    written(out, c.refusal, c.len, buf)
-}
-
-fn in_old_form(out: &impl Print, t: &[u8], buf: &mut [u8]) -> io::Result<()> {
-    let c = tree_library::to_signal_table(t, buf);
-    written(out, c.refusal, c.len, buf)
-}
-
-// A build, or a conversion to the new form or the old one, by its letter.
-fn filled(out: &impl Print, t: &[u8], buf: &mut [u8], what: u8) -> io::Result<()> {
-    match what {
-        b'b' => built(out, t, buf),
-        b'n' => in_tree_form(out, t, buf),
-        _ => in_old_form(out, t, buf),
-    }
-}
-
-// The same into a buffer with so much room as the line's word 2 says.
-pub fn fill(out: &impl Print, line: &[u8], t: &[u8], what: u8) -> io::Result<()> {
+// What is written to a buffer with so much room as the word says: the refusal number, the length, so many bytes, and whether the
+// others are 0.
+pub fn fill<W: FnOnce(&mut [u8]) -> (u8, usize)>(
+    out: &impl Print,
+    word: &[u8],
+    write: W,
+) -> io::Result<()>
+    requires { W.IsAlwaysCallable write }
+{
     let mut buf = room();
-    let n = program_lines::number(program_lines::word(line, 2));
-    if 70000 < n {
+    let Some(part) = buf.get_mut(..program_lines::number(word)) else {
         return print::text(out, "no such room");
-    }
-    filled(out, t, &mut buf[..n], what)
-}
-
-// Every byte is as it was in the room.
-fn as_before(s: &[u8]) -> bool {
-    s.iter().all(|b| *b == 170)
-}
-
-// A value that was made in a buffer: the refusal number, the length, the seed, so many bytes, and whether the others stayed.
-fn sampled(out: &impl Print, m: Made, buf: &[u8]) -> io::Result<()> {
-    let n = m.len;
-    print::number(out, m.refusal as usize)?;
+    };
+    let (refusal, n) = write(part);
+    print::number(out, usize::from(refusal))?;
     print::next(out, n)?;
-    print::next(out, m.seed as usize)?;
-    if buf.len() < n {
-        return print::text(out, " longer than the buffer");
-    }
-    print::bytes(out, &buf[..n])?;
-    if !as_before(&buf[n..]) {
-        print::text(out, " and then changed")?;
-    }
-    Ok(())
+    written(out, n, part, 0, " and then not 0")
 }
 
-fn sample_in(out: &impl Print, t: &[u8], x: u32, buf: &mut [u8]) -> io::Result<()> {
-    let m = sample_library::make_from(t, x, buf);
-    sampled(out, m, buf)
+pub fn build(out: &impl Print, line: &[u8], t: &[u8]) -> io::Result<()> {
+    fill(out, program_lines::word(line, 2), |buf| {
+        let b = machine_library::build(t, buf);
+        (b.refusal, b.len)
+    })
 }
 
-// From the seed that the line's word 2 is, with so much room as its word 3 says.
+pub fn to_new(out: &impl Print, line: &[u8], t: &[u8]) -> io::Result<()> {
+    fill(out, program_lines::word(line, 2), |buf| {
+        let c = tree_library::from_signal_table(t, buf);
+        (c.refusal, c.len)
+    })
+}
+
+pub fn to_old(out: &impl Print, line: &[u8], t: &[u8]) -> io::Result<()> {
+    fill(out, program_lines::word(line, 2), |buf| {
+        let c = tree_library::to_signal_table(t, buf);
+        (c.refusal, c.len)
+    })
+}
+
+// From the seed that the line's word 2 is, with so much room as its word 3 says: the refusal number, the length, the seed, so many
+// bytes, and whether the others stayed.
 pub fn sample(out: &impl Print, line: &[u8], t: &[u8]) -> io::Result<()> {
-    let x = numbers::number(program_lines::word(line, 2));
-    let n = program_lines::number(program_lines::word(line, 3));
+    let mut seed = Seed {
+        x: numbers::number(program_lines::word(line, 2)),
+    };
     let mut buf = room();
-    if 70000 < n {
+    let Some(part) = buf.get_mut(..program_lines::number(program_lines::word(line, 3))) else {
         return print::text(out, "no such room");
-    }
-    sample_in(out, t, x, &mut buf[..n])
+    };
+    let made = sample_library::sample_value_make(t, &mut seed, part);
+    print::number(out, usize::from(made.refusal))?;
+    print::next(out, made.len)?;
+    print::next(out, seed.x as usize)?;
+    written(out, made.len, part, 170, " and then changed")
 }

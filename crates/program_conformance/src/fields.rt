@@ -5,61 +5,31 @@ use resolve_record::Carried;
 use std::io;
 
 fn byte(s: &[u8]) -> u8 {
-    let n = program_lines::number(s);
-    if n < 256 { n as u8 } else { 255 }
-}
-
-fn first(s: &[u8]) -> u8 {
-    byte(program_lines::before(s, b','))
-}
-
-fn statuses(a: &[u8]) -> [u8; 8] {
-    let b = program_lines::after(a, b',');
-    let c = program_lines::after(b, b',');
-    let d = program_lines::after(c, b',');
-    let e = program_lines::after(d, b',');
-    let f = program_lines::after(e, b',');
-    let g = program_lines::after(f, b',');
-    let h = program_lines::after(g, b',');
-    [
-        first(a),
-        first(b),
-        first(c),
-        first(d),
-        first(e),
-        first(f),
-        first(g),
-        first(h),
-    ]
+    u8::try_from(program_lines::number(s)).unwrap_or(255)
 }
 
 fn record(word: &[u8]) -> Carried {
     let rest = program_lines::after(word, b'/');
+    let statuses = program_lines::before(rest, b'/');
+    let mut status = [0u8; 8];
+    for (c, place) in status.iter_mut().enumerate() {
+        *place = byte(program_lines::part(statuses, b',', c));
+    }
     Carried {
         signal: byte(program_lines::before(word, b'/')),
-        status: statuses(program_lines::before(rest, b'/')),
+        status,
         values: byte(program_lines::after(rest, b'/')),
     }
 }
 
-// What stands before status c: a comma between statuses.
-fn between(out: &impl Print, c: usize) -> io::Result<()> {
-    if c == 0 {
-        print::text(out, "/")
-    } else {
-        print::text(out, ",")
-    }
-}
-
 fn print_record(out: &impl Print, r: Carried) -> io::Result<()> {
-    print::next(out, r.signal as usize)?;
-    let status = r.status;
-    for c in 0..8 {
-        between(out, c)?;
-        print::number(out, status[c] as usize)?;
+    print::next(out, usize::from(r.signal))?;
+    for (c, status) in r.status.iter().enumerate() {
+        print::text(out, if c == 0 { "/" } else { "," })?;
+        print::number(out, usize::from(*status))?;
     }
     print::text(out, "/")?;
-    print::number(out, r.values as usize)
+    print::number(out, usize::from(r.values))
 }
 
 pub fn feed(out: &impl Print, line: &[u8], t: &[u8], v: &[u8]) -> io::Result<()> {

@@ -14,90 +14,98 @@ use program_system::{System, path_room, read_full};
 use std::io;
 use std::rt::Runtime;
 
-// `table` and `tally_library` begin alike.
-fn table_or_tally(out: &impl Print, line: &[u8], a: &[u8]) -> io::Result<()> {
-    let third = program_lines::first(program_lines::after(line, b'a'));
-    if third == b'l' {
-        return tally_cases::tally(out, line, a);
-    }
-    commands::table(out, a)
+// What a line asks.
+#[derive(Clone, Copy)]
+enum Command {
+    Value,
+    Entry,
+    Table,
+    Plain,
+    Build,
+    NewTable,
+    ToNew,
+    ToOld,
+    Check,
+    Walk,
+    SmallWalk,
+    Early,
+    Available,
+    Pair,
+    Keeps,
+    Rings,
+    Log,
+    Sample,
+    Match,
+    Feed,
+    Tally,
+    Classes,
+    Small,
+    Propose,
 }
 
-// So do `tonew` and `toold`.
-fn with_t(out: &impl Print, line: &[u8], a: &[u8]) -> io::Result<()> {
-    let second = program_lines::first(program_lines::after(line, b't'));
-    if second == b'o' {
-        return commands::fill(
-            out,
-            line,
-            a,
-            program_lines::first(program_lines::after(line, b'o')),
-        );
+// The command of a line, told by the letters in which its name differs from those that begin like it.
+fn command_of(line: &[u8]) -> Option<Command> {
+    let after_a = program_lines::first(program_lines::after(line, b'a'));
+    let after_l = program_lines::after(program_lines::after(line, b'l'), b'l');
+    match line {
+        [b'v', ..] => Some(Command::Value),
+        [b'e', b'a', ..] => Some(Command::Early),
+        [b'e', ..] => Some(Command::Entry),
+        [b't', b'o', b'n', ..] => Some(Command::ToNew),
+        [b't', b'o', ..] => Some(Command::ToOld),
+        [b't', ..] if after_a == b'l' => Some(Command::Tally),
+        [b't', ..] => Some(Command::Table),
+        [b'p', b'a', ..] => Some(Command::Pair),
+        [b'p', b'r', ..] => Some(Command::Propose),
+        [b'p', ..] => Some(Command::Plain),
+        [b'b', ..] => Some(Command::Build),
+        [b'n', ..] => Some(Command::NewTable),
+        [b'c', b'l', ..] => Some(Command::Classes),
+        [b'c', ..] => Some(Command::Check),
+        [b'w', ..] => Some(Command::Walk),
+        [b'm', ..] => Some(Command::Match),
+        [b'l', ..] => Some(Command::Log),
+        [b'a', ..] => Some(Command::Available),
+        [b'f', ..] => Some(Command::Feed),
+        [b'k', ..] => Some(Command::Keeps),
+        [b'r', ..] => Some(Command::Rings),
+        [b's', b'a', ..] => Some(Command::Sample),
+        [b's', ..] if program_lines::first(after_l) == b'w' => Some(Command::SmallWalk),
+        [b's', ..] => Some(Command::Small),
+        _ => None,
     }
-    table_or_tally(out, line, a)
-}
-
-// `entry` and `resolve_early` begin alike.
-fn entry_or_early(out: &impl Print, line: &[u8], a: &[u8], b: &[u8]) -> io::Result<()> {
-    let second = program_lines::first(program_lines::after(line, b'e'));
-    if second == b'a' {
-        return commands::early(out, a, b);
-    }
-    commands::entry(out, line, a)
-}
-
-// `plain`, `resolve_pair` and `propose` begin alike.
-fn with_p(out: &impl Print, line: &[u8], a: &[u8], b: &[u8], c: &[u8]) -> io::Result<()> {
-    let second = program_lines::first(program_lines::after(line, b'p'));
-    match second {
-        b'a' => commands::pair(out, a, b, c),
-        b'r' => smaller::propose(out, line, a, b),
-        _ => commands::plain(out, a, b),
-    }
-}
-
-// `check` and `classes` begin alike.
-fn check_or_classes(out: &impl Print, line: &[u8], a: &[u8], b: &[u8], c: &[u8]) -> io::Result<()> {
-    let second = program_lines::first(program_lines::after(line, b'c'));
-    if second == b'l' {
-        return smaller::classes(out, a, b, c);
-    }
-    commands::check(out, a, b)
-}
-
-// `sample`, `small` and `smallwalk` begin alike.
-fn with_s(out: &impl Print, line: &[u8], a: &[u8], b: &[u8], c: &[u8]) -> io::Result<()> {
-    let second = program_lines::first(program_lines::after(line, b's'));
-    if second == b'a' {
-        return commands::sample(out, line, a);
-    }
-    let sixth = program_lines::first(program_lines::after(program_lines::after(line, b'l'), b'l'));
-    if sixth == b'w' {
-        return commands::small_walk(out, a, b, c);
-    }
-    smaller::small(out, line, a, b, c)
 }
 
 // The answer to one line, whose words after the first are these bytes where they are bytes.
 fn answer(out: &impl Print, line: &[u8], a: &[u8], b: &[u8], c: &[u8]) -> io::Result<()> {
-    let letter = program_lines::first(line);
-    match letter {
-        b'v' => commands::value(out, a)?,
-        b'e' => entry_or_early(out, line, a, b)?,
-        b't' => with_t(out, line, a)?,
-        b'p' => with_p(out, line, a, b, c)?,
-        b'b' => commands::fill(out, line, a, b'b')?,
-        b'n' => commands::tree(out, a)?,
-        b'c' => check_or_classes(out, line, a, b, c)?,
-        b'w' => commands::walk(out, a, b, c)?,
-        b'm' => commands::match_urn(out, a, b)?,
-        b'l' => commands::log(out, a, b)?,
-        b'a' => commands::available(out, line, a, c)?,
-        b'f' => fields::feed(out, line, a, c)?,
-        b'k' => commands::keeps(out, line, a)?,
-        b'r' => commands::rings(out, line, a)?,
-        b's' => with_s(out, line, a, b, c)?,
-        _ => return Ok(()),
+    let Some(command) = command_of(line) else {
+        return Ok(());
+    };
+    match command {
+        Command::Value => commands::value(out, a)?,
+        Command::Entry => commands::entry(out, line, a)?,
+        Command::Table => commands::table(out, a)?,
+        Command::Plain => commands::plain(out, a, b)?,
+        Command::Build => commands::build(out, line, a)?,
+        Command::NewTable => commands::tree(out, a)?,
+        Command::ToNew => commands::to_new(out, line, a)?,
+        Command::ToOld => commands::to_old(out, line, a)?,
+        Command::Check => commands::check(out, a, b)?,
+        Command::Walk => commands::walk(out, a, b, c)?,
+        Command::SmallWalk => commands::small_walk(out, a, b, c)?,
+        Command::Early => commands::early(out, a, b)?,
+        Command::Available => commands::available(out, line, a, c)?,
+        Command::Pair => commands::pair(out, a, b, c)?,
+        Command::Keeps => commands::keeps(out, line, a)?,
+        Command::Rings => commands::rings(out, line, a)?,
+        Command::Log => commands::log(out, a, b)?,
+        Command::Sample => commands::sample(out, line, a)?,
+        Command::Match => commands::match_urn(out, a, b)?,
+        Command::Feed => fields::feed(out, line, a, c)?,
+        Command::Tally => tally_cases::tally(out, line, a)?,
+        Command::Classes => smaller::classes(out, a, b, c)?,
+        Command::Small => smaller::small(out, line, a, b, c)?,
+        Command::Propose => smaller::propose(out, line, a, b)?,
     }
     print::text(out, "\n")
 }
@@ -114,12 +122,8 @@ fn decoded(out: &impl Print, line: &[u8]) -> io::Result<()> {
 
 // The answers to all lines of a text.
 fn answer_all(out: &impl Print, text: &[u8]) -> io::Result<()> {
-    let end = text.len();
-    let mut at = 0;
-    while at < end {
-        let line = program_lines::before(&text[at..end], b'\n');
-        decoded(out, line)?;
-        at = at + line.len() + 1;
+    for line in text.split_inclusive(|b| *b == b'\n') {
+        decoded(out, program_lines::before(line, b'\n'))?;
     }
     Ok(())
 }

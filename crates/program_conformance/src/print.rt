@@ -19,18 +19,14 @@ pub fn three(out: &impl Print, a: u8, b: u8, c: u8) -> io::Result<()> {
     print!(out; "{a} {b} {c}")
 }
 
-fn byte(out: &impl Print, b: u8) -> io::Result<()> {
-    print!(out; "{b:02x}")
-}
-
 // Bytes in hex after a space, `-` for none.
 pub fn bytes(out: &impl Print, s: &[u8]) -> io::Result<()> {
     text(out, " ")?;
-    if s.len() == 0 {
+    if s.is_empty() {
         text(out, "-")?;
     }
     for b in s {
-        byte(out, *b)?;
+        print!(out; "{b:02x}")?;
     }
     Ok(())
 }

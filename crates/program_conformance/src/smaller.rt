@@ -2,39 +2,24 @@
 //   classes T M P     refusal number of a proposal, one class for each state of the image
 //   small T M P ROOM  refusal number, length, small image; the bytes after it are told only if one is not 0
 //   propose T M ROOM  refusal number, length, classes; the same
-use crate::commands::{room, written};
-use crate::print;
+use crate::{commands, print};
 use std::io;
 
 pub fn classes(out: &impl Print, t: &[u8], m: &[u8], p: &[u8]) -> io::Result<()> {
-    print::number(out, small_library::check(t, m, p) as usize)
-}
-
-fn small_in(out: &impl Print, t: &[u8], m: &[u8], p: &[u8], buf: &mut [u8]) -> io::Result<()> {
-    let b = small_library::write(t, m, p, buf);
-    written(out, b.refusal, b.len, buf)
-}
-
-fn propose_in(out: &impl Print, t: &[u8], m: &[u8], buf: &mut [u8]) -> io::Result<()> {
-    let b = small_library::propose(t, m, buf);
-    written(out, b.refusal, b.len, buf)
+    print::number(out, usize::from(small_library::check(t, m, p)))
 }
 
 // Both with so much room as the line's last word says.
 pub fn small(out: &impl Print, line: &[u8], t: &[u8], m: &[u8], p: &[u8]) -> io::Result<()> {
-    let mut buf = room();
-    let n = program_lines::number(program_lines::word(line, 4));
-    if 70000 < n {
-        return print::text(out, "no such room");
-    }
-    small_in(out, t, m, p, &mut buf[..n])
+    commands::fill(out, program_lines::word(line, 4), |buf| {
+        let b = small_library::write(t, m, p, buf);
+        (b.refusal, b.len)
+    })
 }
 
 pub fn propose(out: &impl Print, line: &[u8], t: &[u8], m: &[u8]) -> io::Result<()> {
-    let mut buf = room();
-    let n = program_lines::number(program_lines::word(line, 3));
-    if 70000 < n {
-        return print::text(out, "no such room");
-    }
-    propose_in(out, t, m, &mut buf[..n])
+    commands::fill(out, program_lines::word(line, 3), |buf| {
+        let b = small_library::propose(t, m, buf);
+        (b.refusal, b.len)
+    })
 }
