@@ -57,22 +57,19 @@ pub(crate) fn run(t: &[u8], d: &Decoded, v: &[u8]) -> Option<Reached>
         if MOST_ENTRIES <= n {
             return None;
         }
-        let e = entry_at(v, at);
-        if !e.fits {
-            return None;
-        }
+        let e = entry_at(v, at)?;
         let start = e.span.start;
         let end = start + e.span.len;
         let u = uses(t, d, &v[start..end]);
         let next = taken(d, st, u);
-        if e.last {
+        let Some(after) = e.next else {
             return Some(signal_at(next, n + 1));
-        }
+        };
         if st != next {
             ends = settled(d, next);
         }
         st = next;
         n += 1;
-        at = e.next;
+        at = after;
     }
 }

@@ -1,7 +1,7 @@
 -- One turn of a run.
 use Prim.Native.Nat.{ℕ, ◌+◌, ◌-◌, ◌*◌, ◌≤◌, ◌<◌}
 use mathlib.Core.Path.{◌≡◌, refl, sym, ap, ◌∙◌, subst}
-use mathlib.Core.Bool.{Bool, true, false, true≢false}
+use mathlib.Core.Bool.{Bool, true, false}
 use mathlib.Core.List.{List, [], ◌∷◌}
 use lib.ListN.{length, take, drop}
 use native.Mathlib.Omega.{arith}
@@ -60,31 +60,43 @@ after-few t d p uri e h = subst (λ (x : Point). tries_of x.current ≤ 10 * x.u
     few None = h
     few (Some u) = omega (arith, moved-few d.rows d.parent d.inner d.signals p.current u.category u.node u.whole h)
 
--- what stands at a place of a value: no entry, the last entry, or one with the place of the next
+-- an entry that stands at a place of a value: the last one, or one with the place of the next
 pub record Met (v : List ℕ) (at : ℕ) (e : Entry) : Type 0 where
-  pub none : e.fits ≡ false → reading_from v at ≡ unfit
-  pub last : e.fits ≡ true → e.last ≡ true → reading_from v at ≡ spans (e.span ∷ [])
-  pub more : e.fits ≡ true → e.last ≡ false → (reading_from v at ≡ add e.span (reading_from v e.next)) × (at < e.next) × (e.next ≤ length v)
+  pub last : e.next ≡ None → reading_from v at ≡ spans (e.span ∷ [])
+  pub more : (n : ℕ) → e.next ≡ Some n → (reading_from v at ≡ add e.span (reading_from v n)) × (at < n) × (n ≤ length v)
   pub inside : e.span.start + e.span.len ≤ length v
 
 -- what the reader's cursor finds at a place, as the run takes it
-pub met : (v : List ℕ) (at : ℕ) {e : Entry} → e ≡ entry_of (entry_at v at) → Met v at e
-met v at is = subst (Met v at) (sym is) (go (entry_at v at) refl)
-  where
-    go : (f : Found) → f ≡ entry_at v at → Met v at (entry_of f)
-    go (found.More p c) q =
-        let m = reading-more v at (found.More p c) q p c refl in
-        record { none = λ z. absurd (true≢false z); last = λ _ z. absurd (true≢false (sym z)); more = λ _ _. (m.0, m.1, m.2); inside = m.3 }
-    go (found.Last p) q =
-        let m = reading-last v at (found.Last p) q p refl in
-        record { none = λ z. absurd (true≢false z); last = λ _ _. m.0; more = λ _ z. absurd (true≢false z); inside = m.1 }
-    go found.None q =
-        record {
-          none = λ _. reading-none v at found.None q refl;
-          last = λ z. absurd (true≢false (sym z));
-          more = λ z. absurd (true≢false (sym z));
-          inside = omega arith;
-        }
+module _ (v : List ℕ) (at : ℕ) {o : Option Entry} (is : o ≡ entry_of (entry_at v at)) where
+  pub met : (e : Entry) → o ≡ Some e → Met v at e
+  met e t = go (entry_at v at) refl (sym t ∙ is)
+    where
+      go : (f : Option Found) → f ≡ entry_at v at → Some e ≡ entry_of f → Met v at e
+      go (Some (found.More p c)) q r =
+          let m = reading-more v at (Some (found.More p c)) q p c refl in
+          let x : record { span = p; next = Some c.at } ≡ e = cc in
+          subst (Met v at) x (record {
+            last = λ z. absurd (let y : ◌≡◌ {A = ℕ} 0 1 = cc in omega arith);
+            more = λ n z. let y : c.at ≡ n = cc in subst (λ i. (reading_from v at ≡ add p (reading_from v i)) × (at < i) × (i ≤ length v)) y (m.0, m.1, m.2);
+            inside = m.3;
+          })
+      go (Some (found.Last p)) q r =
+          let m = reading-last v at (Some (found.Last p)) q p refl in
+          let x : record { span = p; next = None } ≡ e = cc in
+          subst (Met v at) x (record {
+            last = λ _. m.0;
+            more = λ n z. absurd (let y : ◌≡◌ {A = ℕ} 0 1 = cc in omega arith);
+            inside = m.1;
+          })
+      go None q r = absurd (let y : ◌≡◌ {A = ℕ} 0 1 = cc in omega arith)
+
+  pub unmet : o ≡ None → reading_from v at ≡ unfit
+  unmet t = go (entry_at v at) refl (sym t ∙ is)
+    where
+      go : (f : Option Found) → f ≡ entry_at v at → None ≡ entry_of f → reading_from v at ≡ unfit
+      go (Some (found.More p c)) q r = absurd (let y : ◌≡◌ {A = ℕ} 0 1 = cc in omega arith)
+      go (Some (found.Last p)) q r = absurd (let y : ◌≡◌ {A = ℕ} 0 1 = cc in omega arith)
+      go None q r = reading-none v at None q refl
 
 over_add : {S : Type 0} (v : List ℕ) (f : S → List ℕ → S) (s : S) (p : Span) (r : Reading) → over v f s (add p r) ≡ over v f (f s (part_of v p)) r
 unfolding over

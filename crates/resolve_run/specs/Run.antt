@@ -1,5 +1,5 @@
 -- How a value is gone through: from entry to entry, each taken as it is met.
-use Rattle.std.specs.Prelude.{ℕ, ◌+◌, min, Bool, true, false, cond, length, replicate, ltb, Option, None, Some}
+use Rattle.std.specs.Prelude.{ℕ, ◌+◌, min, Bool, cond, length, replicate, ltb, Option, None, Some}
 use mathlib.Core.List.{List, map, foldl}
 use Rattle.base_numbers.specs.Numbers.{most_categories, most_entries, most_value_bytes, too_many_entries, value_misfit, value_too_long}
 use Rattle.value_cursor.specs.Reading.{Reading, unfit, spans, reading_from}
@@ -62,10 +62,10 @@ unfoldable pub after : List ℕ → Decoded → Point → List ℕ → Point
 after t d p uri = after_use d.rows d.parent d.inner d.signals p (use_in t d uri)
 
 -- what stands at a place of a value: an entry with the place of the next, the last entry, or no entry
-abbrev pub entry_of : Found → Entry
-entry_of (found.More p c) = record { fits = true; last = false; span = p; next = c.at }
-entry_of (found.Last p) = record { fits = true; last = true; span = p; next = 0 }
-entry_of found.None = record { fits = false; last = true; span = record { start = 0; len = 0 }; next = 0 }
+abbrev pub entry_of : Option Found → Option Entry
+entry_of (Some (found.More p c)) = Some (record { span = p; next = Some c.at })
+entry_of (Some (found.Last p)) = Some (record { span = p; next = None })
+entry_of None = None
 
 -- the whole run over a reading of v, none where the value does not fit
 unfoldable pub over : {S : Type 0} → List ℕ → (S → List ℕ → S) → S → Reading → Option S

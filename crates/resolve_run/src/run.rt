@@ -145,17 +145,14 @@ pub(crate) fn run<'a>(t: &[u8], d: &Decoded, from: Point<'a>, v: &[u8]) -> Optio
     let mut at = 0;
     let mut p = from;
     loop {
-        let e = entry_at(v, at);
-        if !e.fits {
-            return None;
-        }
+        let e = entry_at(v, at)?;
         let start = e.span.start;
         let end = start + e.span.len;
         let u = uses(t, d, &v[start..end]);
         p = taken(d, p, u);
-        if e.last {
+        let Some(next) = e.next else {
             return Some(p);
-        }
-        at = e.next;
+        };
+        at = next;
     }
 }

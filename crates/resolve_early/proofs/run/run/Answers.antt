@@ -2,7 +2,6 @@ use mathlib.Core.Path.{refl, ap, ◌∙◌}
 use Rattle.std.specs.Prelude.{Some}
 use Rattle.resolve_early.specs.declared.run.Reached.{Reached}
 use native.Mathlib.Omega.{arith}
-use borrow.Author.Tests.{not-true, not-false}
 use Rattle.resolve_run.proofs.RunLaws.{met}
 use Rattle.resolve_early.specs.SettledBy.{settled_by}
 use Rattle.resolve_early.proofs.SettledLaws.{same-settled}
@@ -24,17 +23,17 @@ pub returns-then-n-ge-MOST_ENTRIES : goal.returns-then-n-ge-MOST_ENTRIES
 returns-then-n-ge-MOST_ENTRIES c = run-full _ _ _ _ _ _ _ c.loop-ends.invariant.0 _
     c.loop-ends.invariant.1 c.if-ends.false c.if-n-ge-MOST_ENTRIES.true
 
-pub returns-then-not-e : goal.returns-then-not-e
-returns-then-not-e c = run_none _ _ _ _ _ _ _ c.loop-ends.invariant.0 _
+pub returns-in_err-e : goal.returns-in_err-e
+returns-in_err-e c = c.from_residual.ensures ∙ run_none _ _ _ _ _ _ _ c.loop-ends.invariant.0 _
     c.loop-ends.invariant.1
     c.if-ends.false c.if-n-ge-MOST_ENTRIES.false
-    c.entry_at-e.ensures (not-true _ c.if-not-e.true)
+    c.entry_at.ensures c.in_err-e.was
 
 pub overflow_add-end : goal.overflow_add-end
-overflow_add-end c = omega (arith, (met _ _ c.entry_at-e.ensures).inside)
+overflow_add-end c = omega (arith, (met _ _ c.entry_at.ensures _ c.in_ok-e.was).inside)
 
 pub slice_bounds-uses-end : goal.slice_bounds-uses-end
-slice_bounds-uses-end c = omega (arith, (met _ _ c.entry_at-e.ensures).inside)
+slice_bounds-uses-end c = omega (arith, (met _ _ c.entry_at.ensures _ c.in_ok-e.was).inside)
 
 pub overflow_add-n : goal.overflow_add-n
 overflow_add-n c = omega (
@@ -42,18 +41,17 @@ overflow_add-n c = omega (
   c.if-n-ge-MOST_ENTRIES.false,
 )
 
-pub signal_at-requires-then-e : goal.signal_at-requires-then-e
-signal_at-requires-then-e c = omega (arith, c.if-n-ge-MOST_ENTRIES.false)
+pub signal_at-requires-in_default : goal.signal_at-requires-in_default
+signal_at-requires-in_default c = omega (arith, c.if-n-ge-MOST_ENTRIES.false)
 
-pub returns-then-e : goal.returns-then-e
-returns-then-e c = let l = c.loop-ends.invariant in
-    let u = after-uri _ _ _ _ c.entry_at-e.result.span
+pub returns-in_default : goal.returns-in_default
+returns-in_default c = let l = c.loop-ends.invariant in
+    let u = after-uri _ _ _ _ c.in_ok-e.e.span
     c.uses-u.ensures c.taken-next.ensures in
-    ap (λ (r : Reached). Some r) c.signal_at-then-e.ensures ∙ run-last _ _ _ _ _ _ _ l.0 _ l.1
+    ap (λ (r : Reached). Some r) c.signal_at-in_default.ensures ∙ run-last _ _ _ _ _ _ _ l.0 _ l.1
     c.if-ends.false
     c.if-n-ge-MOST_ENTRIES.false
-    c.entry_at-e.ensures
-    (not-false _ c.if-not-e.false) c.if-e.true u
+    c.entry_at.ensures _ c.in_ok-e.was c.in_default.is u
 
 pub overflow_add-n-in-loop-ends : goal.overflow_add-n-in-loop-ends
 overflow_add-n-in-loop-ends c = omega (
@@ -64,20 +62,17 @@ overflow_add-n-in-loop-ends c = omega (
 pub loop-ends-smaller : goal.loop-ends-smaller
 loop-ends-smaller c = omega (
   arith,
-  (met _ _
-      c.entry_at-e.ensures).more
-      (not-false _ c.if-not-e.false) c.if-e.false,
+  (met _ _ c.entry_at.ensures _ c.in_ok-e.was).more _ c.in-Some.is,
 )
 
 pub loop-ends-preserved : goal.loop-ends-preserved
 loop-ends-preserved c = let l = c.loop-ends.invariant in
-    let fits = not-false _ c.if-not-e.false in
-    let u = after-uri _ _ _ _ c.entry_at-e.result.span
+    let u = after-uri _ _ _ _ c.in_ok-e.e.span
     c.uses-u.ensures c.taken-next.ensures in (
       run_more _ _ _ _ _ _ _ l.0 _ l.1
           c.if-ends.false
           c.if-n-ge-MOST_ENTRIES.false
-          c.entry_at-e.ensures fits c.if-e.false u,
+          c.entry_at.ensures _ c.in_ok-e.was _ c.in-Some.is u,
       elim c.if-ne.branch [
         | then-ne w ↦ w.ends-is ∙ w.settled-ends-then-ne.ensures
         | else-ne w ↦ w.ends-is ∙ same-settled (settled_by _ _ _ _ _) _ _ l.1 c.ne.ensures w.if-ne.false
@@ -86,5 +81,5 @@ loop-ends-preserved c = let l = c.loop-ends.invariant in
         arith,
         c.if-n-ge-MOST_ENTRIES.false,
       ),
-      ((met _ _ c.entry_at-e.ensures).more fits c.if-e.false).2,
+      ((met _ _ c.entry_at.ensures _ c.in_ok-e.was).more _ c.in-Some.is).2,
     )
