@@ -1,10 +1,8 @@
-// Bytes and numbers, wherever they stand, and what a builder answers.
+// Numbers cut to bytes, and what a builder answers.
 //
-//   numbers.rt  bytes as indices and back, the lesser of two numbers, ranges
-//   lent.rt     lent bytes: one of them; all of them cleared; others copied over them
+//   numbers.rt  numbers cut to one byte or two
 #![tactic(auto)]
 
-pub mod lent;
 pub mod numbers;
 
 ghost use Rattle.std.specs.Prelude.{◌≡◌, length, replicate};
@@ -23,6 +21,6 @@ pub fn refuse(buf: &mut [u8], refusal: u8) -> Built
     ensures value { result ≡ refused refusal }
     ensures buf_after { buf.new ≡ replicate (length buf.old) 0 }
 {
-    lent::clear(buf);
+    buf.fill(0);
     Built { refusal, len: 0 }
 }

@@ -2,7 +2,7 @@
 ghost use Rattle.std.specs.Prelude.{◌≡◌, true, ◌<◌};
 ghost use Rattle.base_numbers.specs.Numbers.{most_categories};
 ghost use Rattle.node_step.specs.Step.{row_at, digit, extends};
-ghost use Rattle.node_step.specs.StatusByte.{same_packed, byte_of, status_of, step_packed, moved_packed, fits_by};
+ghost use Rattle.node_step.specs.StatusByte.{byte_of, status_of, step_packed, moved_packed, fits_by};
 
 use crate::{
     Hit, Status, digit_at, extends_of, last_taken, put_at, row_at, seek_from, status_from, takes_at,
@@ -15,14 +15,6 @@ use node_search::decoded::Decoded;
 pub struct Packed {
     pub signal: u8,
     pub statuses: u64,
-}
-
-// Two states are the same.
-#[tactic(auto, unfolding(crate::specs::StatusByte::same_packed))]
-pub fn same(a: Packed, b: Packed) -> bool
-    ensures { result ≡ same_packed a b }
-{
-    a == b
 }
 
 // The byte of a status: 0 open, 1 shut, 1 + n held at node n.

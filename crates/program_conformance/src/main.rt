@@ -52,6 +52,7 @@ fn command_of(line: &[u8]) -> Option<Command> {
         [b'e', b'a', ..] => Some(Command::Early),
         [b'e', ..] => Some(Command::Entry),
         [b't', b'o', b'n', ..] => Some(Command::ToNew),
+        [b't', b'o', b'b', ..] => Some(Command::Build),
         [b't', b'o', ..] => Some(Command::ToOld),
         [b't', ..] if after_a == b'l' => Some(Command::Tally),
         [b't', ..] => Some(Command::Table),

@@ -6,7 +6,7 @@ ghost use Rattle.resolve_pair.specs.Alone.{other_at, none_at, apart_by};
 
 use base_numbers::MOST_CATEGORIES;
 use base_text::compare::same;
-use node_search::texts::name_text;
+use node_search::texts::text_at;
 use table_decode::Decoded;
 
 // Category j of the table t has another name than x.
@@ -14,7 +14,7 @@ fn is_other(x: &[u8], t: &[u8], d: &Decoded, j: usize) -> bool
     requires { j < most_categories }
     ensures { result ≡ other_at x.now t.now d.now.name_at d.now.name_len j }
 {
-    !same(x, name_text(t, &d.name_at, &d.name_len, j))
+    !same(x, text_at(t, &d.name_at, &d.name_len, j))
 }
 
 // Each of the first n categories of the table t has another name than x.
@@ -30,7 +30,7 @@ fn none_has(ring: &[u8], r: &Decoded, lamp: &[u8], l: &Decoded, n: usize, i: usi
     requires { (n ≤ most_categories) × (i < most_categories) }
     ensures { result ≡ none_at ring.now r.now.name_at r.now.name_len lamp.now l.now.name_at l.now.name_len n i }
 {
-    none_is(name_text(ring, &r.name_at, &r.name_len, i), lamp, l, n)
+    none_is(text_at(ring, &r.name_at, &r.name_len, i), lamp, l, n)
 }
 
 // No category of the one table is one of the other's.
