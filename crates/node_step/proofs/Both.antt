@@ -64,17 +64,17 @@ module _ (rows ps : List ℕ) (inner : List Bool) (n : ℕ) (t : Table) (wf : We
       ∙ ap (coded t) (sym (symbol-at-node (env_of t) t.cats (nodes t) (table-laws t wf) st g s h))
 
 -- the start is signal 0 with every category open
-open-progress : (ns : List Urn) (k c n : ℕ) → progress_from ns (replicate k direct.Open) c n ≡ replicate n Open
+open-progress : (ns : List Urn) (k c n : ℕ) → progress_from ns (replicate k direct.Open) c n ≡ replicate n (record { status = Open })
 unfolding progress_from
 open-progress ns k c zero = refl
-open-progress ns k c (suc n) = ap₂ (λ s l. coded_status ns c s ∷ l) (every-open k c) (open-progress ns k (suc c) n)
+open-progress ns k c (suc n) = ap₂ (λ s l. record { status = coded_status ns c s } ∷ l) (every-open k c) (open-progress ns k (suc c) n)
   where
     every-open : (k c : ℕ) → get_or (replicate k direct.Open) c direct.Open ≡ direct.Open
     every-open zero c = refl
     every-open (suc k) zero = refl
     every-open (suc k) (suc c) = every-open k c
 
-pub coded-start : (t : Table) (k : ℕ) → coded t (start k) ≡ record { signal = 0; categories = replicate 8 Open }
+pub coded-start : (t : Table) (k : ℕ) → coded t (start k) ≡ record { signal = 0; categories = replicate 8 (record { status = Open }) }
 coded-start t k = ap (λ z. record { signal = 0; categories = z }) (open-progress (nodes t) k 0 8)
 
 -- statuses that fit are told by their codes
@@ -98,7 +98,7 @@ status-same t c p q direct.Shut direct.Shut f g e = refl
 -- the code's status of category c
 pub coded-at : (t : Table) (st : direct.State) (c : ℕ) → c < 8 → status_in (coded t st).categories c ≡ coded_status (nodes t) c (get_or st.status c direct.Open)
 coded-at t st c h =
-    progress-at (nodes t) st.status 0 8 c Open h
+    ap (λ x. x.status) (progress-at (nodes t) st.status 0 8 c (record { status = Open }) h)
     ∙ ap (λ z. coded_status (nodes t) z (get_or st.status z direct.Open)) (zero-add c)
 
 -- two states of a table are one exactly if their codes are

@@ -14,6 +14,7 @@ use native.Mathlib.Decide.{ℕ_discrete}
 use native.Mathlib.Omega.{arith}
 use Rattle.base_numbers.specs.Numbers.{most_signals, most_tries}
 use Rattle.base_lists.proofs.Lists.{Exact}
+use Rattle.node_step.specs.declared.Progress.{Progress}
 use Rattle.node_step.specs.declared.Status.{Status}
 use Rattle.node_step.specs.declared.Status.TheVariants.{Open}
 use Rattle.std.specs.Prelude.{Option, Some, None}
@@ -44,7 +45,7 @@ packed-exact = record {
         λ i. record { signal = p i; statuses = q i }
 
 -- the digits of x from c on make up what is above them
-digits : (l : List Status) (x : ℕ) → ((k : ℕ) → k < 8 → byte_of (status_in l k) ≡ digit x k) → (n c : ℕ) → c + n ≤ 8 → packed l c n ≡ x / 2 ^ (8 * c) % 256 ^ n
+digits : (l : List Progress) (x : ℕ) → ((k : ℕ) → k < 8 → byte_of (status_in l k) ≡ digit x k) → (n c : ℕ) → c + n ≤ 8 → packed l c n ≡ x / 2 ^ (8 * c) % 256 ^ n
 unfolding packed
 digits l x h zero c k = omega arith
 digits l x h (suc n) c k =
@@ -59,11 +60,11 @@ digits l x h (suc n) c k =
 -- packing gives back what was unpacked
 pub unpack-again : (x : ℕ) → x < 2 ^ 64 → packed (unpacked x 8) 0 8 ≡ x
 unpack-again x h = digits (unpacked x 8) x
-    (λ k i. ap byte_of (unpacked-at x 8 k Open i (omega arith))
+    (λ k i. ap byte_of (ap (λ p. p.status) (unpacked-at x 8 k (record { status = Open }) i (omega arith)))
     ∙ byte-status (digit x k) (omega arith)) 8 0 (omega arith) ∙ omega arith
 
 -- a status set is its byte put
-pub packed-set : (l : List Status) (c : ℕ) (s : Status) → length l ≡ 8 → c < 8 → packed (set l c s) 0 8
+pub packed-set : (l : List Progress) (c : ℕ) (s : Status) → length l ≡ 8 → c < 8 → packed (set l c (record { status = s })) 0 8
     ≡ put (packed l 0 8) c (byte_of s)
 packed-set l c s e h =
     bytes-pack l' 0 8
@@ -72,8 +73,8 @@ packed-set l c s e h =
     ∙ sym (pack-set (bytes_from l 0 8) c (byte_of s) (bytes_small l 0 8) (omega (arith, bytes-long l 0 8)))
     ∙ ap (λ z. put z c (byte_of s)) (sym (bytes-pack l 0 8))
   where
-    l' : List Status
-    l' = set l c s
+    l' : List Progress
+    l' = set l c (record { status = s })
 
     at : (k : ℕ) → k < 8 → get_or (bytes_from l' 0 8) k 0 ≡ get_or (set (bytes_from l 0 8) c (byte_of s)) k 0
     at k i = bytes-at l' 0 8 k i ∙ ap (λ z. byte_of (status_in l' z)) (zero-add k) ∙ go (ℕ_discrete k c)
@@ -81,10 +82,10 @@ packed-set l c s e h =
         go : Dec (k ≡ c) → byte_of (status_in l' k) ≡ get_or (set (bytes_from l 0 8) c (byte_of s)) k 0
         go (yes z) =
             rw z
-            (ap byte_of (get_or-set_same l c s Open (omega arith))
+            (ap (λ p. byte_of p.status) (get_or-set_same l c (record { status = s }) (record { status = Open }) (omega arith))
             ∙ sym (get_or-set_same (bytes_from l 0 8) c (byte_of s) 0 (omega (arith, bytes-long l 0 8))))
         go (no z) =
-            ap byte_of (get_or-set_other l c k s Open z)
+            ap (λ p. byte_of p.status) (get_or-set_other l c k (record { status = s }) (record { status = Open }) z)
             ∙ ap (λ z. byte_of (status_in l z)) (sym (zero-add k)) ∙ sym (bytes-at l 0 8 k i)
             ∙ sym (get_or-set_other (bytes_from l 0 8) c k (byte_of s) 0 z)
 
@@ -109,7 +110,7 @@ module _ (rows ps : List ℕ) (inner : List Bool) (n : ℕ) (st : Packed) (c d :
       (f : x ≡ digit st.statuses c) (g : o ≡ status_of x)
       (t : b ≡ takes ps o q d whole) where
     status-is : o ≡ status_in (unpacked st.statuses 8) c
-    status-is = g ∙ ap status_of f ∙ sym (unpacked-at st.statuses 8 c Open h (omega arith))
+    status-is = g ∙ ap status_of f ∙ sym (ap (λ p. p.status) (unpacked-at st.statuses 8 c (record { status = Open }) h (omega arith)))
 
     q-is : q ≡ digit (row_at rows st.signal) c
     q-is = e ∙ ap (λ z. digit z c) r

@@ -178,7 +178,7 @@ module _ (table ps : List ℕ) (inner : List Bool) (n : ℕ) (t : Table) (wf : W
       low-c : c < 8
       low-c = let k = nu.few-cats in omega arith
 
-      put-status : (s : direct.Status) → set (progress_from (nodes t) st.status 0 8) c (coded_status (nodes t) c s)
+      put-status : (s : direct.Status) → set (progress_from (nodes t) st.status 0 8) c (record { status = coded_status (nodes t) c s })
           ≡ progress_from (nodes t) (set st.status c s) 0 8
       put-status s = rw (zero-add c) at (progress-set (nodes t) st.status 0 8 c s low-c (omega (arith, g.sized)))
 
@@ -188,7 +188,7 @@ module _ (table ps : List ℕ) (inner : List Bool) (n : ℕ) (t : Table) (wf : W
       go (some h) e =
           let w = search-hit env (row_of t st.signal) c (candidates here r) h e in
           let a = hit-node env t.cats (nodes t) laws (row_of t st.signal) c h.at h.signal (wide t nu.few-nodes c known st.signal) w.0 in
-          ap (λ z. record { signal = h.signal; categories = set (progress_from (nodes t) st.status 0 8) c z }) (status-right h a)
+          ap (λ z. record { signal = h.signal; categories = set (progress_from (nodes t) st.status 0 8) c (record { status = z }) }) (status-right h a)
           ∙ ap (λ z. record { signal = h.signal; categories = z })
           (put-status (open_or (whole && same_parts h.at d) (held_if (whole && is_inner (nodes t) c d) d)))
 
@@ -212,7 +212,7 @@ module _ (table ps : List ℕ) (inner : List Bool) (n : ℕ) (t : Table) (wf : W
 
   status-is : status_in (progress_from (nodes t) st.status 0 8) c ≡ coded_status (nodes t) c now
   status-is =
-      progress-at (nodes t) st.status 0 8 c Open (let k = nu.few-cats in omega arith)
+      ap (λ p. p.status) (progress-at (nodes t) st.status 0 8 c (record { status = Open }) (let k = nu.few-cats in omega arith))
       ∙ ap (λ z. coded_status (nodes t) z (get_or st.status z direct.Open)) (zero-add c)
 
   -- the hit by numbers, by the theory's test

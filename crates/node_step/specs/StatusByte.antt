@@ -1,6 +1,7 @@
 -- Statuses as the image of a machine stores them, and all of a state's in one number.
 use Rattle.std.specs.Prelude.{ℕ, zero, suc, ◌+◌, ◌-◌, ◌*◌, min, Bool, true, false, cond, ◌&&◌, List, Option, Some, None, get_or, set, replicate, eqb, ltb, leb}
 use Rattle.base_numbers.specs.Numbers.{most_categories, most_nodes}
+use Rattle.node_step.specs.declared.Progress.{Progress}
 use Rattle.node_step.specs.declared.Status.{Status}
 use Rattle.node_step.specs.declared.Status.TheVariants.{Open, Held, Shut}
 use Rattle.node_step.specs.declared.State.{State}
@@ -19,14 +20,14 @@ abbrev pub status_of : ℕ → Status
 status_of b = cond (eqb b 0) Open (cond (eqb b 1) Shut (Held (b - 1)))
 
 -- the bytes of the n categories from c on as digits to the base 256, the first lowest
-unfoldable pub packed : List Status → ℕ → ℕ → ℕ
+unfoldable pub packed : List Progress → ℕ → ℕ → ℕ
 packed l c zero = 0
 packed l c (suc n) = byte_of (status_in l c) + 256 * packed l (suc c) n
 
 -- eight categories, the first n by their bytes in x
-unfoldable pub unpacked : ℕ → ℕ → List Status
-unpacked x zero = replicate most_categories Open
-unpacked x (suc n) = set (unpacked x n) n (status_of (digit x n))
+unfoldable pub unpacked : ℕ → ℕ → List Progress
+unpacked x zero = replicate most_categories (record { status = Open })
+unpacked x (suc n) = set (unpacked x n) n (record { status = status_of (digit x n) })
 
 -- a state with its categories' bytes in one number
 abbrev pub packed_of : State → Packed

@@ -29,11 +29,17 @@ pub enum Status {
     Shut,
 }
 
-// The current signal, and each category's status; those past the table's are open.
+// One category's progress.
+#[derive(Clone, Copy, PartialEq, Eq)]
+pub struct Progress {
+    pub status: Status,
+}
+
+// The current signal, and each category's progress; those past the table's are open.
 #[derive(Clone, Copy)]
 pub struct State {
     pub signal: u8,
-    pub categories: [Status; MOST_CATEGORIES],
+    pub categories: [Progress; MOST_CATEGORIES],
 }
 
 // A signal that was found, with the node at which it was.
@@ -202,7 +208,9 @@ fn moved_by(d: &Decoded, st: State, c: usize, k: u8, whole: bool, found: Option<
     match found {
         Some(h) => {
             let mut categories = st.categories;
-            categories[c] = status_from(&d.inner, k, whole, h.node);
+            categories[c] = Progress {
+                status: status_from(&d.inner, k, whole, h.node),
+            };
             State {
                 signal: h.signal,
                 categories,
@@ -220,7 +228,7 @@ fn hit_for(d: &Decoded, st: State, c: usize, k: u8, whole: bool) -> Option<Hit>
 {
     let row = row_at(&d.rows, st.signal);
     let q = digit_at(row, c);
-    let status = st.categories[c];
+    let status = st.categories[c].status;
     let last = last_taken(status, q);
     if takes_at(&d.parent, status, last, k, whole) {
         seek_from(d, row, c, q, k)

@@ -51,11 +51,11 @@ module _ (T : Table) (few : T.cats ≤ 8) where
     pub state-coded : state_with r ≡ coded T (state_in T r)
     state-coded =
         ap (λ l. record { signal = r.signal; categories = l })
-        (tabulate-entries node.Open (coded T (state_in T r)).categories (progress_at r.status) 8
+        (tabulate-entries (record { status = node.Open }) (coded T (state_in T r)).categories (progress_at r.status) 8
         (progress-length (nodes T) (state_in T r).status 0 8)
-        (λ c h. at-category c h
-        ∙ sym (progress-at (nodes T) (state_in T r).status 0 8 c node.Open h
-        ∙ ap (λ z. coded_status (nodes T) z (get_or (state_in T r).status z Open)) (zero-add c))))
+        (λ c h. ap (λ s. record { status = s }) (at-category c h)
+        ∙ sym (progress-at (nodes T) (state_in T r).status 0 8 c (record { status = node.Open }) h
+        ∙ ap (λ z. record { status = coded_status (nodes T) z (get_or (state_in T r).status z Open) }) (zero-add c))))
 
     -- it is a state of the table
     pub carried-state : ((i j : ℕ) → i < length T.signals → j < length T.signals → row_of T i ≡ row_of T j → i ≡ j) → StateOf T (state_in T r)

@@ -4,7 +4,7 @@ use Rattle.std.specs.Prelude.{ℕ, ◌≤◌, ◌<◌, ◌≡◌, Bool, true, co
 use Rattle.base_numbers.specs.Numbers.{most_categories, most_values}
 use Rattle.base_lists.specs.Lists.{tabulate, all_below}
 use Rattle.theory_resolution.specs.Table.{Table}
-use Rattle.node_step.specs.declared.Status.{Status}
+use Rattle.node_step.specs.declared.Progress.{Progress}
 use Rattle.node_step.specs.declared.State.{State}
 use Rattle.node_step.specs.Step.{status_in}
 use Rattle.node_step.specs.StatusByte.{byte_of, status_of}
@@ -31,11 +31,11 @@ pub record Fits (T : Table) (r : Carried) : Type 0 where
   pub values : r.values ≤ most_values
   pub statuses : (c : ℕ) → c < length r.status → status_fits T r c ≡ true
 
--- the status that a byte says, and the byte of a category
-abbrev pub progress_at : List ℕ → ℕ → Status
-progress_at l c = status_of (get_or l c 0)
+-- the progress that a byte says, and the byte of a category
+abbrev pub progress_at : List ℕ → ℕ → Progress
+progress_at l c = record { status = status_of (get_or l c 0) }
 
-abbrev pub byte_at : List Status → ℕ → ℕ
+abbrev pub byte_at : List Progress → ℕ → ℕ
 byte_at l c = byte_of (status_in l c)
 
 -- the state that a record carries, and a state as it is carried after n values

@@ -7,12 +7,13 @@ ghost use Rattle.std.specs.Prelude.{◌≡◌, length, IsTrue, ◌↔◌, ◌<�
 ghost use Rattle.base_numbers.specs.Numbers.{most_categories};
 ghost use Rattle.base_lists.specs.Lists.{all_below};
 ghost use Rattle.resolve_record.specs.Record.{fresh as fresh_record, carried_in, carried_bytes};
+ghost use Rattle.node_step.specs.StatusByte.{byte_of, status_of};
 ghost use Rattle.resolve_record.specs.Coded.{status_by, status_at, fits_by, state_with, carried_with};
 
 use base_numbers::{MOST_CATEGORIES, MOST_VALUES};
 use node_search::decoded::Decoded;
-use node_step::State;
 use node_step::stored::{byte_of, status_of};
+use node_step::{Progress, State};
 
 // The signal, a status for each of 8 categories (0 open, 1 shut, 1 + n held at node n), and how many values there were. All
 // zero before the first.
@@ -65,13 +66,28 @@ pub fn fits(d: &Decoded, carried: Carried) -> bool
         && statuses_fit(d, carried.signal, &carried.status)
 }
 
+// A category's progress from its byte, and the byte of its progress.
+fn progress_of(b: u8) -> Progress
+    ensures { result ≡ record { status = status_of b } }
+{
+    Progress {
+        status: status_of(b),
+    }
+}
+
+fn byte_for(progress: Progress) -> u8
+    ensures { result ≡ byte_of progress.status }
+{
+    byte_of(progress.status)
+}
+
 // The state that a record carries.
 pub fn state(carried: Carried) -> State
     ensures { result ≡ state_with carried }
 {
     State {
         signal: carried.signal,
-        categories: carried.status.map(status_of),
+        categories: carried.status.map(progress_of),
     }
 }
 
@@ -81,7 +97,7 @@ pub fn after(st: State, values: u8) -> Carried
 {
     Carried {
         signal: st.signal,
-        status: st.categories.map(byte_of),
+        status: st.categories.map(byte_for),
         values,
     }
 }

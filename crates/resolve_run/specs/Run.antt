@@ -30,7 +30,7 @@ use_in t d uri = uses_of t d.name_at d.name_len d.categories d.category d.at d.l
 
 -- signal 0, and every category open
 abbrev pub start_now : State
-start_now = record { signal = 0; categories = replicate most_categories Open }
+start_now = record { signal = 0; categories = replicate most_categories (record { status = Open }) }
 
 -- the target that the row of state j holds for a URN's symbol
 abbrev pub target_now : List Bool → Walk → ℕ → ℕ → ℕ → Bool → ℕ

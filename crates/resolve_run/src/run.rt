@@ -8,7 +8,7 @@ use crate::entry::entry_at;
 use base_numbers::MOST_CATEGORIES;
 use machine_symbols::Symbols;
 use node_search::uses::{Used, uses};
-use node_step::{State, Status};
+use node_step::{Progress, State, Status};
 use table_decode::Decoded;
 
 // What a walk goes by: a table's symbols, and an image whose states have a byte for each of so many categories:
@@ -80,7 +80,9 @@ pub(crate) fn start() -> State
 {
     State {
         signal: 0,
-        categories: [Status::Open; MOST_CATEGORIES],
+        categories: [Progress {
+            status: Status::Open,
+        }; MOST_CATEGORIES],
     }
 }
 

@@ -3,7 +3,7 @@
 // In: the seed, which is lent, or one of its numbers. Out: the next number, or what a number chooses among n.
 #![tactic(auto)]
 
-ghost use Rattle.std.specs.Prelude.{◌≡◌};
+ghost use Rattle.std.specs.Prelude.{◌≡◌, ◌*◌, ◌%◌};
 ghost use Rattle.sample_seed.specs.Numbers.{next_of, choice_of};
 
 // The seed as it is lent.
@@ -19,9 +19,16 @@ impl Seed {
     pub fn draw(&mut self) -> u32
         ensures { (result ≡ next_of self.old.x) × (self.new.x ≡ next_of self.old.x) }
     {
-        self.x = self.x.wrapping_mul(1664525).wrapping_add(1013904223);
+        self.x = wrapping_mul(self.x, 1664525).wrapping_add(1013904223);
         self.x
     }
+}
+
+// a times b, modulo two to the thirty-second. An own product stands here for the library's: the rules name it so.
+fn wrapping_mul(a: u32, b: u32) -> u32
+    ensures { result ≡ (a * b) % 4294967296 }
+{
+    (u64::from(a) * u64::from(b) % 4294967296) as u32
 }
 
 // Which of n the number x chooses, from 0 on; 0 if there is none to choose from.

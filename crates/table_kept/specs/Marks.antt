@@ -38,7 +38,7 @@ loss_at rows n l c d = first_below (λ j. not (ltb (with_node rows n (get_or l j
 
 -- signal s, with every category open
 abbrev pub open_state : ℕ → State
-open_state s = record { signal = s; categories = replicate most_categories Open }
+open_state s = record { signal = s; categories = replicate most_categories (record { status = Open }) }
 
 -- the signal of direct resolution after node d of category c, given at signal s with every category open
 unfoldable pub rings_at : List ℕ → List ℕ → List Bool → ℕ → ℕ → ℕ → ℕ → ℕ

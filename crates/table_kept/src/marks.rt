@@ -6,7 +6,7 @@ ghost use Rattle.table_kept.specs.Marks.{with_node, after_node, precedes as prec
 
 use base_numbers::{MOST_CATEGORIES, MOST_NODES};
 use node_step::rows::{place_in, with_place};
-use node_step::{State, Status, extends_of, find_signal, reaches_of, row_at, step};
+use node_step::{Progress, State, Status, extends_of, find_signal, reaches_of, row_at, step};
 use table_decode::Decoded;
 
 // The signal with this node for its place in category c and the places of signal s in every other.
@@ -86,7 +86,9 @@ fn open_at(s: u8) -> State
 {
     State {
         signal: s,
-        categories: [Status::Open; MOST_CATEGORIES],
+        categories: [Progress {
+            status: Status::Open,
+        }; MOST_CATEGORIES],
     }
 }
 

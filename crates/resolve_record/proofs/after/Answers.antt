@@ -8,4 +8,4 @@ pub returns : goal.returns
 returns c =
     ap (λ l. record { signal = c.args.st.signal; status = l; values = c.args.values })
     (sym (tabulate-entries 0 c.map.result (byte_at c.args.st.categories) 8 c.map.ensures.items.long
-    (λ k h. let e = c.map.ensures.items.at k Open 0 h in grind (arith, e.2))))
+    (λ k h. let e = c.map.ensures.items.at k (record { status = Open }) 0 h in grind (arith, e.2))))
