@@ -28,7 +28,7 @@ use Rattle.node_search.specs.Arrays.{NodesIn, InnerIn}
 use Rattle.node_step.specs.Rows.{Numbers}
 use Rattle.node_step.specs.Step.{coded, coded_status, status_in}
 use Rattle.node_step.specs.StatusByte.{byte_of, packed, same_packed, fits_by}
-use Rattle.node_step.specs.declared.Status.{Status}
+use Rattle.node_step.specs.declared.Progress.{Progress}
 use Rattle.node_step.specs.declared.stored.Packed.{Packed}
 use Rattle.node_step.proofs.Both.{packed-test, coded-at}
 use Rattle.machine_image.specs.Image.{symbol_count, state_count, place_of, signal_in, byte_in, target_in, machine_in}
@@ -45,7 +45,7 @@ use Rattle.theory_resolution.specs.Direct as direct
 use Rattle.machine_image.specs.Image as image
 
 -- categories that are all open have no byte
-packed_none : (l : List Status) (n c : ℕ) → ((k : ℕ) → k < n → byte_of (status_in l (c + k)) ≡ 0) → 0 ≡ packed l c n
+packed_none : (l : List Progress) (n c : ℕ) → ((k : ℕ) → k < n → byte_of (status_in l (c + k)) ≡ 0) → 0 ≡ packed l c n
 unfolding packed
 packed_none l zero c h = refl
 packed_none l (suc n) c h =
@@ -59,7 +59,7 @@ packed_none l (suc n) c h =
     the A x = x
 
 -- m bytes are those of the first m categories, where the others are open
-packed-from : (im : List ℕ) (l : List Status) (m n i c : ℕ) → m ≤ n → ((k : ℕ) → k < m → get_or im (i + k) 0 ≡ byte_of (status_in l (c + k)))
+packed-from : (im : List ℕ) (l : List Progress) (m n i c : ℕ) → m ≤ n → ((k : ℕ) → k < m → get_or im (i + k) 0 ≡ byte_of (status_in l (c + k)))
     → ((k : ℕ) → m ≤ k → k < n → byte_of (status_in l (c + k)) ≡ 0) → word_of im i m ≡ packed l c n
 unfolding packed
 packed-from im l zero n i c a h o = packed_none l n c (λ k j. o k (omega arith) j)
