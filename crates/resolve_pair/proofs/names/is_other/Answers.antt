@@ -6,4 +6,4 @@ use Rattle.resolve_pair.proofs.names.is_other.Goals as goal
 
 pub returns : goal.returns
 unfolding other_at
-returns c = ap not (c.same.ensures ∙ ap (same_name c.args.x.now) (text_in_lem _ _ _ _ _ c.name_text.ensures.result_value c.requires))
+returns c = ap not (c.same.ensures ∙ ap (same_name c.args.x.now) (text_in_lem _ _ _ _ _ c.text_at.ensures.result_value c.requires))
