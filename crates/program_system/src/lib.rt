@@ -134,6 +134,7 @@ pub fn read_full<F: Read>(from: &mut F, buf: &mut [u8]) -> io::Result<usize>
     ensures err { OnErr result (Keeps (F.remaining from.old) (F.remaining from.new)) }
 {
     let mut done = 0;
+    // How much comes is known only when it is read, so no chain goes over it.
     while done < buf.len() {
         match from.read(&mut buf[done..]) {
             Ok(0) => break,

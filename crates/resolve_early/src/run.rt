@@ -50,6 +50,7 @@ pub(crate) fn run(t: &[u8], d: &Decoded, v: &[u8]) -> Option<Reached>
         statuses: 0,
     };
     let mut ends = settled(d, st);
+    // Where the next entry begins is known only when one is read, so no range or chain goes over them.
     loop {
         if ends {
             return Some(signal_at(st, n));

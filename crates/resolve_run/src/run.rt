@@ -146,6 +146,7 @@ pub(crate) fn run<'a>(t: &[u8], d: &Decoded, from: Point<'a>, v: &[u8]) -> Optio
 {
     let mut at = 0;
     let mut p = from;
+    // Where the next entry begins is known only when one is read, so no range or chain goes over them.
     loop {
         let e = entry_at(v, at)?;
         let start = e.span.start;

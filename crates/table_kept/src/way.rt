@@ -56,6 +56,7 @@ pub(crate) fn way_to(all: &[u8; 2048], nodes: usize, h: Found, j: usize) -> Way
     let mut at = j;
     let mut way = Way::none();
     let mut left = j;
+    // The steps are counted only so that it is known to end; what ends it is signal 0.
     while 0 < left && at != 0 {
         (at, way) = step_back(all, nodes, h, at, way);
         left -= 1;

@@ -116,6 +116,7 @@ impl Nodes {
         let e = w.len();
         let mut i = base_text::cut::find(w, b':');
         let mut r = self.add(t, c, from, i, 0, i == e)?;
+        // Each step goes to the next colon, under the node that the one before made.
         while i < e {
             let start = i + 1;
             i = start + base_text::cut::find(&w[start..], b':');

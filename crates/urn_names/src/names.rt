@@ -104,6 +104,7 @@ pub(crate) fn names<B: LabelByte>(s: &[u8]) -> Option<usize>
 {
     let mut rest = s;
     let mut count: usize = 0;
+    // How long a name is is known only when it is read, so no chain goes over them.
     loop {
         let k = name_end::<B>(rest)?;
         count += 1;

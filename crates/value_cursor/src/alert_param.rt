@@ -89,6 +89,7 @@ impl Cursor {
         ensures { result ≡ ending_at s.now self.at }
     {
         let mut c = self;
+        // Where the next parameter begins is known only when one is passed.
         loop {
             match c.following(classes, s)? {
                 Following::Param(n) => c = n,

@@ -61,6 +61,7 @@ impl Cursor {
         ensures { result.at ≡ run_at (in_class class) s.now self.at }
     {
         let mut c = self.run_fours(classes, s, class);
+        // By the cursor itself, as above.
         while c.at < s.len() && has(classes, s[c.at], class) {
             c.at += 1;
         }
@@ -91,6 +92,7 @@ impl Cursor {
         ensures { result.at ≡ white_at s.now self.at }
     {
         let mut c = self;
+        // A fold takes three bytes at once, so no chain goes byte by byte.
         while c.at < s.len() {
             if s[c.at] == b' ' {
                 c.at += 1;
@@ -175,6 +177,7 @@ impl Cursor {
             return None;
         }
         let mut c = Cursor { at: self.at + 1 };
+        // Where the text goes on is known only when an escaped byte is passed.
         loop {
             match c.quoted_text(classes, s)? {
                 Quote::Escaped(n) => c = n,

@@ -37,6 +37,7 @@ fn scan_with(classes: &[u8; 256], v: &[u8], k: usize) -> Option<Scan>
         entries: 0,
         span: Span { start: 0, len: 0 },
     };
+    // Where the next entry begins is known only when one is passed, so no range or chain goes over them.
     loop {
         let found = c.entry_with(classes, v)?;
         match found {
