@@ -1,8 +1,10 @@
-// Numbers cut to bytes, and what a builder answers.
+// Numbers cut to bytes, lent bytes, and what a builder answers.
 //
 //   numbers.rt  numbers cut to one byte or two
+//   lent.rt     others copied over lent bytes
 #![tactic(auto)]
 
+pub mod lent;
 pub mod numbers;
 
 ghost use Rattle.std.specs.Prelude.{◌≡◌, length, replicate};

@@ -110,7 +110,7 @@ fn judge(t: &[u8], d: &Decoded, log: &[u8]) -> Verdict
     for k in 0..calls {
         let n = word(log, at);
         let end = at + 2 + n;
-        let r = resolve_library::by::plain(t, d, part(log, at + 2, n));
+        let r = resolve_library::by::accepted(t, d, part(log, at + 2, n));
         if !says(log, end, r) {
             return differs(k as u16, r);
         }

@@ -275,14 +275,22 @@ index-first sy (suc n) k j a b l = go (ℕ_discrete (slot_at sy j) (slot_at sy k
         later (yes q) = absurd (z (ap (slot_at sy) q))
         later (no q) = omega arith
 
+-- what the index has at a slot
+module _ (ix : List ℕ) (s : ℕ) where
+  pub entry_in : {r : ℕ} → s < 136 → r ≡ get_or ix s 0 → r ≡ entry_at ix s
+  entry_in h e = e ∙ sym (ap (λ b. cond b (get_or ix s 0) 0) (lt-ltb s 136 h))
+
+  pub entry-out : 136 ≤ s → 0 ≡ entry_at ix s
+  entry-out h = sym (ap (λ b. cond b (get_or ix s 0) 0) (le-ltb s 136 h))
+
 -- the number: what the index names, if that is it, else by the search
 module _ (ix sy : List ℕ) (count : ℕ) (inner : List Bool) (c d : ℕ) (whole : Bool) {n kind x k : ℕ} (en : n ≡ min count most_symbols)
-    (ek : kind ≡ kind_for inner d whole) (es : x ≡ slot c d kind) (e : k ≡ get_or ix x 0) where
+    (ek : kind ≡ kind_for inner d whole) (es : x ≡ slot c d kind) (e : k ≡ entry_at ix x) where
   number_is : {r : ℕ} → r ≡ number_from sy n c d kind k → r ≡ symbol_number ix sy count inner c d whole
   unfolding symbol_number
   number_is f =
-      f ∙ ap₂ (λ z q. number_from sy z c d kind q) en (e ∙ ap (λ z. get_or ix z 0) es)
-      ∙ ap (λ z. number_from sy (min count most_symbols) c d z (get_or ix (slot c d z) 0)) ek
+      f ∙ ap₂ (λ z q. number_from sy z c d kind q) en (e ∙ ap (entry_at ix) es)
+      ∙ ap (λ z. number_from sy (min count most_symbols) c d z (entry_at ix (slot c d z))) ek
 
   pub number-named : k < n → {b : Bool} → b ≡ is_triple sy c d kind k → b ≡ true → k ≡ symbol_number ix sy count inner c d whole
   unfolding number_from
@@ -342,11 +350,12 @@ module _ (sy : List ℕ) (c d kind : ℕ) where
           by : Dec (slot c d kind < 136) → k ≤ j
           by (yes l) = omega (
             arith,
+            entry_in ix (slot c d kind) l refl,
             ap (λ s. get_or ix s 0) (slot_of j e),
             ap (λ x. get_or x (slot_at sy j) 0) v,
             index-first sy m 0 j (omega arith) (omega arith) (omega (arith, slot_of j e)),
           )
-          by (no l) = omega (arith, get_or-eq_default ix 0 {n = slot c d kind} (omega (arith, ap length v, index-wide sy m 0)))
+          by (no l) = omega (arith, entry-out ix (slot c d kind) (omega arith))
 
       go : (a : Bool) → ltb k m ≡ a → (b : Bool) → is_triple sy c d kind k ≡ b → cond (a && b) k (triple_index sy c d kind 0 m) ≡ triple_index sy c d kind 0 m
       go false e b f = refl

@@ -87,7 +87,7 @@ symbols_of l = record {
 
 -- what the index has at a slot, 0 if there is no such slot
 abbrev pub entry_at : List ℕ → ℕ → ℕ
-entry_at ix s = get_or ix s 0
+entry_at ix s = cond (ltb s 136) (get_or ix s 0) 0
 
 -- the number of the symbol c, d and kind among the first m: k if that is it, else by the search
 unfoldable pub number_from : List ℕ → ℕ → ℕ → ℕ → ℕ → ℕ → ℕ

@@ -8,10 +8,10 @@
 
 pub mod steps;
 
-ghost use Rattle.std.specs.Prelude.{◌≡◌, List, ◌++◌, ℕ, ◌≤◌, ◌<◌, min};
+ghost use Rattle.std.specs.Prelude.{◌≡◌, List, ◌++◌, ℕ, ◌≤◌, ◌<◌, min, get_or};
 ghost use Rattle.base_numbers.specs.Numbers.{most_categories, most_nodes, most_symbols};
 ghost use Rattle.machine_symbols.specs.Listed.{triple, node_triples, category_triples, triple_lists, symbols_of, symbol_in, Listed};
-ghost use Rattle.machine_symbols.specs.Listed.{is_triple, triple_index, kind_for, slot, index_from, symbol_number};
+ghost use Rattle.machine_symbols.specs.Listed.{is_triple, triple_index, kind_for, slot, index_from, entry_at, symbol_number};
 
 use base_numbers::{MOST_CATEGORIES, MOST_NODES, MOST_SYMBOL_BYTES, MOST_SYMBOLS};
 use node_search::decoded::Decoded;
@@ -52,7 +52,7 @@ impl Symbol {
 
 impl Symbols {
     // Symbol k.
-    pub fn get(&self, k: usize) -> Symbol
+    pub(crate) fn get(&self, k: usize) -> Symbol
         requires { k < most_symbols }
         ensures { result ≡ symbol_in self.now.bytes k }
     {
@@ -135,17 +135,62 @@ impl Symbols {
         index
     }
 
+    // The number of the symbol of a used URN.
+    pub fn number(&self, d: &Decoded, category: u8, node: u8, whole: bool) -> u8
+        ensures { result ≡ symbol_number self.now.index self.now.bytes self.now.count d.now.inner category node whole }
+    {
+        number(
+            &self.index,
+            &self.bytes,
+            self.count,
+            &d.inner,
+            category,
+            node,
+            whole,
+        )
+    }
+}
+
+// Symbols that are lent, with an index: any bytes, which are 0 past their end.
+#[derive(Clone, Copy)]
+struct Lent<'a> {
+    count: usize,
+    bytes: &'a [u8],
+    index: &'a [u8],
+}
+
+impl Lent<'_> {
+    // The byte at a place.
+    fn byte(&self, at: usize) -> u8
+        ensures { result ≡ get_or self.now.bytes.now at 0 }
+    {
+        self.bytes.get(at).copied().unwrap_or(0)
+    }
+
+    // Symbol k.
+    fn symbol(&self, k: usize) -> Symbol
+        requires { k < most_symbols }
+        ensures { result ≡ symbol_in self.now.bytes.now k }
+    {
+        let at = 3 * k;
+        Symbol {
+            category: self.byte(at),
+            node: self.byte(at + 1),
+            kind: self.byte(at + 2),
+        }
+    }
+
     // Symbol k is s.
     fn is(&self, k: usize, s: Symbol) -> bool
         requires { k < most_symbols }
-        ensures { result ≡ is_triple self.now.bytes s.category s.node s.kind k }
+        ensures { result ≡ is_triple self.now.bytes.now s.category s.node s.kind k }
     {
-        self.get(k) == s
+        self.symbol(k) == s
     }
 
     // The number of the first symbol that is s, or how many there are.
     fn find(&self, s: Symbol) -> u8
-        ensures { result ≡ triple_index self.now.bytes s.category s.node s.kind 0 (min self.now.count most_symbols) }
+        ensures { result ≡ triple_index self.now.bytes.now s.category s.node s.kind 0 (min self.now.count most_symbols) }
     {
         let n = self.count.min(MOST_SYMBOLS);
         for k in 0..n {
@@ -156,32 +201,69 @@ impl Symbols {
         n as u8
     }
 
-    // The number of the symbol of a used URN, by its category, the deepest node above it, and whether it is that node; how many
-    // there are if there is no such symbol.
-    pub fn number(&self, d: &Decoded, category: u8, node: u8, whole: bool) -> u8
-        ensures { result ≡ symbol_number self.now.index self.now.bytes self.now.count d.now.inner category node whole }
+    // What the index has at a slot, 0 if there is no such slot.
+    #[tactic(auto, unfolding(crate::specs::Listed::entry_at))]
+    fn entry(&self, slot: usize) -> usize
+        ensures { result ≡ entry_at self.now.index.now slot }
     {
-        let kind = kind_for(d, node, whole);
-        let s = Symbol {
-            category,
-            node,
-            kind,
-        };
-        let n = self.count.min(MOST_SYMBOLS);
-        let k = usize::from(self.index.get(s.slot()).copied().unwrap_or(0));
-        if k < n && self.is(k, s) {
-            return k as u8;
+        if slot < SLOTS {
+            usize::from(self.index.get(slot).copied().unwrap_or(0))
+        } else {
+            0
         }
-        self.find(s)
     }
+}
+
+// The number of the symbol of a used URN, by its category, the deepest node above it, and whether it is that node; how many there
+// are if there is no such symbol. Symbols and index may be any bytes.
+pub fn number(
+    index: &[u8],
+    bytes: &[u8],
+    count: usize,
+    inner: &[bool; MOST_NODES],
+    category: u8,
+    node: u8,
+    whole: bool,
+) -> u8
+    ensures { result ≡ symbol_number index.now bytes.now count inner.now category node whole }
+{
+    let kind = kind_for(inner, node, whole);
+    let s = Symbol {
+        category,
+        node,
+        kind,
+    };
+    let lent = Lent {
+        count,
+        bytes,
+        index,
+    };
+    let n = count.min(MOST_SYMBOLS);
+    let k = lent.entry(s.slot());
+    if k < n && lent.is(k, s) {
+        return k as u8;
+    }
+    lent.find(s)
 }
 
 // The kind of the symbol of a URN under a node: 0 if it is the node itself or the node is a leaf, else 1.
 #[tactic(auto, unfolding(crate::specs::Listed::kind_for))]
-fn kind_for(d: &Decoded, node: u8, whole: bool) -> u8
-    ensures { result ≡ kind_for d.now.inner node whole }
+fn kind_for(inner: &[bool; MOST_NODES], node: u8, whole: bool) -> u8
+    ensures { result ≡ kind_for inner.now node whole }
 {
-    u8::from(!whole && (node == 0 || inner_at(&d.inner, node)))
+    u8::from(!whole && (node == 0 || inner_at(inner, node)))
+}
+
+// The index of any symbols: of the first ones, at each one's slot the number of the first that has it.
+pub fn index(bytes: &[u8; MOST_SYMBOL_BYTES], count: usize) -> [u8; SLOTS]
+    ensures { result ≡ index_from bytes.now 0 (min count most_symbols) }
+{
+    Symbols {
+        count,
+        bytes: *bytes,
+        index: [0; SLOTS],
+    }
+    .slots()
 }
 
 // The symbols of a table, at most 128 of them.

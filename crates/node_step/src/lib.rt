@@ -57,7 +57,7 @@ pub fn row_at(rows: &[u64; MOST_SIGNALS], s: u8) -> u64
 }
 
 // The place in category c.
-pub fn digit_at(row: u64, c: usize) -> u8
+pub(crate) fn digit_at(row: u64, c: usize) -> u8
     requires { c < most_categories }
     ensures { result ≡ digit row c }
 {

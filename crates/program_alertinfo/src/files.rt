@@ -1,4 +1,5 @@
 // A call of the program: its words, and the files that they name. `-` names standard input.
+ghost use Rattle.std.specs.Prelude.{◌≡◌, length, take};
 ghost use Rattle.std.specs.Io.{ReadsAtMost};
 
 use program_system::{Source, System, path_room, read_full};
@@ -122,7 +123,10 @@ fn read<R: Runtime>(system: &System<R>, path: &[u8], buf: &mut [u8]) -> io::Resu
     read_full(&mut from, buf)
 }
 
-fn without_line_end(text: &[u8]) -> &[u8] {
+// The text without a line end, LF or CR LF, behind it: a front part of it.
+fn without_line_end(text: &[u8]) -> &[u8]
+    ensures { result.now ≡ take (length result.now) text.now }
+{
     match text {
         [line @ .., b'\r', b'\n'] => line,
         [line @ .., b'\n'] => line,

@@ -10,8 +10,8 @@ use std::rt::Runtime;
 // The next value from the seed, with a line end.
 fn next(out: &impl Print, t: &[u8], seed: &mut Seed) -> io::Result<()> {
     let mut buf = [0u8; 4096];
-    let made = sample_library::sample_value_make(t, seed, &mut buf);
-    match buf.get(..made.len) {
+    let n = sample_library::make(t, seed, &mut buf).unwrap_or(0);
+    match buf.get(..n) {
         Some(value) => {
             out.write_all(value)?;
             out.print("\n")

@@ -221,9 +221,12 @@ pub fn sample(out: &impl Print, line: &[u8], t: &[u8]) -> io::Result<()> {
     let Some(part) = buf.get_mut(..program_lines::number(program_lines::word(line, 3))) else {
         return print::text(out, "no such room");
     };
-    let made = sample_library::sample_value_make(t, &mut seed, part);
-    print::number(out, usize::from(made.refusal))?;
-    print::next(out, made.len)?;
+    let (refusal, n) = match sample_library::make(t, &mut seed, part) {
+        Ok(n) => (0, n),
+        Err(r) => (u8::from(r), 0),
+    };
+    print::number(out, usize::from(refusal))?;
+    print::next(out, n)?;
     print::next(out, seed.x as usize)?;
-    written(out, made.len, part, 170, " and then changed")
+    written(out, n, part, 170, " and then changed")
 }

@@ -17,6 +17,7 @@ ghost use Rattle.resolve_available.specs.Rows.{rows_among, among as among_of};
 use base_numbers::{MOST_SIGNALS, Refusal};
 use resolve_run::Resolution;
 use resolve_run::answer::{direct, value_first};
+use resolve_run::run::at_start;
 use table_decode::Decoded;
 
 // Each bit of the set is one of so many signals, of which there are at most 32.
@@ -41,9 +42,9 @@ fn by(t: &[u8], d: Decoded, set: u32, v: &[u8]) -> Resolution
     ensures { DecodedAs t.now d → result ≡ available_of t.now set v.now }
 {
     if !is_known(set, d.signals) {
-        return value_first(v, Refusal::UnknownAvailable);
+        return value_first(v, u8::from(Refusal::UnknownAvailable));
     }
-    direct(t, &among(d, set), v).answer
+    direct(t, &among(d, set), at_start(), v).answer
 }
 
 // The value v with the table t and the signals of the set, bit s for signal s.
@@ -52,6 +53,6 @@ pub fn resolve(t: &[u8], set: u32, v: &[u8]) -> Resolution
 {
     match table_decode::decode(t) {
         Ok(d) => by(t, d, set, v),
-        Err(r) => value_first(v, r),
+        Err(r) => value_first(v, u8::from(r)),
     }
 }

@@ -57,11 +57,14 @@ fn by(t: &[u8], d: &Decoded, v: &[u8]) -> Early
 pub fn resolve(t: &[u8], v: &[u8]) -> Early
     ensures { result ≡ early_of t.now v.now }
 {
-    if MOST_VALUE_BYTES < v.len() {
-        return refused(u8::from(Refusal::ValueTooLong));
-    }
     match table_decode::decode(t) {
-        Ok(d) => by(t, &d, v),
-        Err(r) => refused(first_number(v, r)),
+        Ok(d) => {
+            if MOST_VALUE_BYTES < v.len() {
+                refused(u8::from(Refusal::ValueTooLong))
+            } else {
+                by(t, &d, v)
+            }
+        }
+        Err(r) => refused(first_number(v, u8::from(r))),
     }
 }

@@ -21,7 +21,7 @@ pub(crate) fn unchanged(r: Refusal, carried: Carried) -> Fed
     ensures { result ≡ unchanged_with (refusal_number r) carried }
 {
     Fed {
-        answer: refused(r),
+        answer: refused(u8::from(r)),
         carried,
     }
 }

@@ -15,6 +15,7 @@ ghost use Rattle.resolve_pair.specs.Alone.{paired};
 
 use base_numbers::Refusal;
 use resolve_run::answer::direct;
+use resolve_run::run::at_start;
 use table_decode::Decoded;
 
 // A refusal number, 0 if nothing is refused; the ring table's signal; and the lamp table's.
@@ -41,7 +42,7 @@ fn refused(k: u8) -> Pair
 fn alone(t: &[u8], d: &Decoded, v: &[u8]) -> u8
     ensures { DecodedAs t.now d.now → refusal_of v.now ≡ 0 → result ≡ signal_in t.now v.now }
 {
-    direct(t, d, v).answer.signal
+    direct(t, d, at_start(), v).answer.signal
 }
 
 // The signals of an accepted value with the ring table and with the lamp table.

@@ -67,6 +67,15 @@ pub refused-first : (t v : List ℕ) (r : Resolution) (k : Refusal) → refusal_
     → refused (cond (eqb (refusal_of v) 0) (refusal_number k) (refusal_of v)) ≡ unless_refused t v r
 refused-first t v r k e = first-number t v r e (λ z. omega (arith, refusal-some k, z))
 
+-- an answer that is refused with k, where k is m
+pub first-by : (v : List ℕ) {k m : ℕ} {r : Resolution} → r ≡ refused (cond (eqb (refusal_of v) 0) k (refusal_of v)) → k ≡ m
+    → r ≡ refused (cond (eqb (refusal_of v) 0) m (refusal_of v))
+first-by v e f = e ∙ ap (λ n. refused (cond (eqb (refusal_of v) 0) n (refusal_of v))) f
+
+-- an end that began at x, where x is y
+pub ended-by : (t : List ℕ) (d : Decoded) (v : List ℕ) {x y : Current} {e : Ended} → e ≡ ended_from t d x v → x ≡ y → e ≡ ended_from t d y v
+ended-by t d v e f = e ∙ ap (λ (x : Current). ended_from t d x v) f
+
 -- how a resolver can end: the value is refused and so is the answer, or it is accepted, and the answer is the signal at x with the counts
 pub data End (t v : List ℕ) (x : Current) (e : Ended) : Type 0 where
   not_taken : (refusal_of v ≡ 0 → ⊥) → e.answer ≡ refused (refusal_of v) → End t v x e

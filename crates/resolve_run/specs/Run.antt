@@ -35,7 +35,7 @@ start_now = record { signal = 0; categories = replicate most_categories (record 
 -- the target that the row of state j holds for a URN's symbol
 abbrev pub target_now : List Bool → Walk → ℕ → ℕ → ℕ → Bool → ℕ
 target_now inner w j c k whole =
-    target_in (min w.categories most_categories) w.image.now j (symbol_number w.symbols.now.index w.symbols.now.bytes w.symbols.now.count inner c k whole)
+    target_in (min w.categories most_categories) w.image.now j (symbol_number w.index.now w.symbols.now w.count inner c k whole)
 
 -- the state of direct resolution where a resolver is, and the candidates tried: the start and none where it walks
 abbrev pub state_of : Current → State

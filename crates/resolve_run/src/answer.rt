@@ -1,14 +1,12 @@
 // Answers: a refusal number, or the signal at the end of a value.
 ghost use Rattle.std.specs.Prelude.{◌≡◌, cond, ◌+◌, ◌≤◌, suc, eqb};
 ghost use Rattle.base_numbers.specs.Numbers.{most_value_bytes};
-ghost use Rattle.base_numbers.specs.Refusals.{refusal_number};
 ghost use Rattle.value_reader.specs.Value.{refusal_of};
 ghost use Rattle.resolve_run.specs.Answers.{refused as refused_with};
-ghost use Rattle.resolve_run.specs.declared.run.Current.TheVariants.{Direct};
-ghost use Rattle.resolve_run.specs.Run.{start_now, signal_now, answer_of, ended_from};
+ghost use Rattle.resolve_run.specs.Run.{signal_now, answer_of, ended_from};
 
 use crate::Resolution;
-use crate::run::{Current, Point, begin_at, run, start};
+use crate::run::{Current, Point, begin_at, run};
 use base_numbers::{MOST_ENTRIES, MOST_VALUE_BYTES, Refusal};
 use table_decode::Decoded;
 
@@ -20,37 +18,30 @@ pub struct Ended<'a> {
 }
 
 // Refused: all zero but the number.
-pub fn refused(r: Refusal) -> Resolution
-    ensures { result ≡ refused_with (refusal_number r) }
-{
-    numbered(u8::from(r))
-}
-
-// Refused with that number.
-fn numbered(n: u8) -> Resolution
-    ensures { result ≡ refused_with n }
+pub fn refused(k: u8) -> Resolution
+    ensures { result ≡ refused_with k }
 {
     Resolution {
-        refusal: n,
+        refusal: k,
         signal: 0,
         used: 0,
         skipped: 0,
     }
 }
 
-// The value's number if it is refused, else that of r.
-pub fn first_number(v: &[u8], r: Refusal) -> u8
-    ensures { result ≡ cond (eqb (refusal_of v.now) 0) (refusal_number r) (refusal_of v.now) }
+// The value's number if it is refused, else k.
+pub fn first_number(v: &[u8], k: u8) -> u8
+    ensures { result ≡ cond (eqb (refusal_of v.now) 0) k (refusal_of v.now) }
 {
     let n = value_reader::refusal(v);
-    if n == 0 { u8::from(r) } else { n }
+    if n == 0 { k } else { n }
 }
 
 // Refused with that number.
-pub fn value_first(v: &[u8], r: Refusal) -> Resolution
-    ensures { result ≡ refused_with (cond (eqb (refusal_of v.now) 0) (refusal_number r) (refusal_of v.now)) }
+pub fn value_first(v: &[u8], k: u8) -> Resolution
+    ensures { result ≡ refused_with (cond (eqb (refusal_of v.now) 0) k (refusal_of v.now)) }
 {
-    numbered(first_number(v, r))
+    refused(first_number(v, k))
 }
 
 // The signal where a resolver is.
@@ -71,7 +62,7 @@ fn answer(p: Point) -> Resolution
     ensures { result ≡ answer_of p.entry (signal_now p.entry.current) }
 {
     if MOST_ENTRIES < p.used + p.skipped {
-        return refused(Refusal::TooManyEntries);
+        return refused(u8::from(Refusal::TooManyEntries));
     }
     Resolution {
         refusal: 0,
@@ -88,7 +79,7 @@ pub fn resolved<'a>(t: &[u8], d: &Decoded, from: Current<'a>, v: &[u8]) -> Ended
 {
     if MOST_VALUE_BYTES < v.len() {
         return Ended {
-            answer: refused(Refusal::ValueTooLong),
+            answer: refused(u8::from(Refusal::ValueTooLong)),
             last: from,
         };
     }
@@ -99,19 +90,15 @@ pub fn resolved<'a>(t: &[u8], d: &Decoded, from: Current<'a>, v: &[u8]) -> Ended
             last: p.current,
         },
         None => Ended {
-            answer: refused(Refusal::ValueMisfit),
+            answer: refused(u8::from(Refusal::ValueMisfit)),
             last: first.current,
         },
     }
 }
 
-// The same by direct resolution, from signal 0 with every category open.
-pub fn direct<'a>(t: &[u8], d: &Decoded, v: &[u8]) -> Ended<'a>
-    ensures { result ≡ ended_from t.now d.now (Direct start_now 0) v.now }
+// The same by direct resolution, from wherever it is.
+pub fn direct<'a>(t: &[u8], d: &Decoded, from: Current<'a>, v: &[u8]) -> Ended<'a>
+    ensures { result ≡ ended_from t.now d.now from.entry v.now }
 {
-    let from = Current::Direct {
-        state: start(),
-        tries: 0,
-    };
     resolved(t, d, from, v)
 }

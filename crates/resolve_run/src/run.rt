@@ -2,20 +2,22 @@
 ghost use Rattle.std.specs.Prelude.{◌≡◌, ◌+◌, ◌*◌, ◌≤◌, suc, min, length, IfSome};
 ghost use Rattle.base_numbers.specs.Numbers.{most_categories, most_value_bytes};
 ghost use Rattle.machine_image.specs.Image.{signal_in};
+ghost use Rattle.resolve_run.specs.declared.run.Current.TheVariants.{Direct};
 ghost use Rattle.resolve_run.specs.Run.{start_now, target_now, state_of, tries_of, begin, moved, after_use, run_from};
 
 use crate::entry::entry_at;
 use base_numbers::MOST_CATEGORIES;
-use machine_symbols::Symbols;
 use node_search::uses::{Used, uses};
 use node_step::{Progress, State, Status};
 use table_decode::Decoded;
 
-// What a walk goes by: a table's symbols, and an image whose states have a byte for each of so many categories:
-// the table's, or none in a small image.
+// What a walk goes by: symbols with their index and count, as a table's, and an image whose states have a byte for each of so
+// many categories: the table's, or none in a small image.
 #[derive(Clone, Copy)]
 pub struct Walk<'a> {
-    pub symbols: &'a Symbols,
+    pub index: &'a [u8],
+    pub symbols: &'a [u8],
+    pub count: usize,
     pub categories: usize,
     pub image: &'a [u8],
 }
@@ -25,7 +27,15 @@ impl Walk<'_> {
     fn target(&self, d: &Decoded, j: u8, c: u8, k: u8, whole: bool) -> u8
         ensures { result ≡ target_now d.now.inner self.now j c k whole }
     {
-        let n = self.symbols.number(d, c, k, whole);
+        let n = machine_symbols::number(
+            self.index,
+            self.symbols,
+            self.count,
+            &d.inner,
+            c,
+            k,
+            whole,
+        );
         machine_check::image::target(self.image, self.categories, j, n)
     }
 
@@ -83,6 +93,16 @@ pub(crate) fn start() -> State
         categories: [Progress {
             status: Status::Open,
         }; MOST_CATEGORIES],
+    }
+}
+
+// At the start of direct resolution.
+pub fn at_start<'a>() -> Current<'a>
+    ensures { result ≡ Direct start_now 0 }
+{
+    Current::Direct {
+        state: start(),
+        tries: 0,
     }
 }
 

@@ -78,19 +78,23 @@ module _ (t : List ℕ) (d : Decoded) (means : DecodedAs t d) (n : ℕ) (within 
   unformed im v e q = over-form n t im v means.refusal (sym (form-listed im e) ∙ q)
 
 -- an image of right form, walked from state 0
-module _ (t : List ℕ) (d : Decoded) (means : DecodedAs t d) (w : Walk) (within : w.categories ≤ d.categories)
-    (listed : w.symbols.now ≡ symbols_of (triple_lists d.category d.inner (min d.nodes most_nodes) (min d.categories 8))) where
+module _ (t : List ℕ) (d : Decoded) (means : DecodedAs t d) (w : Walk) (within : w.categories ≤ d.categories) {symbols : Symbols}
+    (listed : symbols ≡ symbols_of (triple_lists d.category d.inner (min d.nodes most_nodes) (min d.categories 8)))
+    (lent : (w.count ≡ symbols.count) × (w.symbols.now ≡ symbols.bytes) × (w.index.now ≡ symbols.index)) where
   abbrev n : ℕ
   n = w.categories
 
   abbrev im : List ℕ
   im = w.image.now
 
-  abbrev symbols : Symbols
-  symbols = w.symbols.now
-
   few : min n 8 ≡ n
   few = sym (min-le n 8 (omega (arith, within, means.holds.categories, means.holds.numbers.few-cats)))
+
+  walk-listed : SymbolsIn (table_of t) w.symbols.now w.count
+  walk-listed = rw (lent.0, lent.1) (symbols-listed t d means n within listed)
+
+  walk-indexed : w.index.now ≡ index_from w.symbols.now 0 (min w.count most_symbols)
+  walk-indexed = rw (lent.0, lent.1, lent.2) (lists-indexed _ listed)
 
   walk_steps : Steps t (table_of t) d (holds-reads t (table_of t) d means.holds) (λ j. Unit) (step_over n (table_of t) im) (Walking w)
   unfolding moved
@@ -100,8 +104,7 @@ module _ (t : List ℕ) (d : Decoded) (means : DecodedAs t d) (w : Walk) (within
         moves = λ j u v x. ap₂ (λ a k. Walking w (target_in a im j k)) few
             (number-right t d.category d.at d.len d.nodes (table_of t) held.nodes d.rows d.parent d.signals
             held.numbers d.inner held.inner
-            held.well-formed symbols.bytes symbols.count (symbols-listed t d means n within listed) symbols.index
-            (lists-indexed _ listed) u);
+            held.well-formed w.symbols.now w.count walk-listed w.index.now walk-indexed u);
         stays = λ j u v x. tt;
       }
 

@@ -23,10 +23,12 @@ fn walk(t: &[u8], d: &Decoded, cats: usize, image: &[u8], v: &[u8]) -> Resolutio
 {
     let symbols = machine_symbols::list(d);
     if !machine_check::form::formed(d, &symbols, cats, image) {
-        return value_first(v, Refusal::ImageBadForm);
+        return value_first(v, u8::from(Refusal::ImageBadForm));
     }
     let by = Walk {
-        symbols: &symbols,
+        index: &symbols.index,
+        symbols: &symbols.bytes,
+        count: symbols.count,
         categories: cats,
         image,
     };
@@ -39,7 +41,7 @@ pub fn by_image(t: &[u8], image: &[u8], v: &[u8]) -> Resolution
 {
     match table_decode::decode(t) {
         Ok(d) => walk(t, &d, d.categories, image, v),
-        Err(r) => value_first(v, r),
+        Err(r) => value_first(v, u8::from(r)),
     }
 }
 
@@ -49,6 +51,6 @@ pub fn resolve(t: &[u8], small: &[u8], v: &[u8]) -> Resolution
 {
     match table_decode::decode(t) {
         Ok(d) => walk(t, &d, 0, small, v),
-        Err(r) => value_first(v, r),
+        Err(r) => value_first(v, u8::from(r)),
     }
 }

@@ -16,7 +16,7 @@ fn put_one(buf: &mut [u8], at: usize, s: &[u8]) -> usize
     ensures { (result ≡ at + length s.now) × (buf.new ≡ sets buf.old at s.now) }
 {
     let end = at + s.len();
-    buf[at..end].copy_from_slice(s);
+    base_bytes::lent::copy(s, &mut buf[at..end]);
     end
 }
 

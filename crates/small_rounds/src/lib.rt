@@ -19,10 +19,11 @@ pub use stored::{Machine, Rows};
 // The machine in the rows, with for each state the first one that behaves as it does in p, if there is one and both lists have as many
 // bytes as it has states; else p stays. q is to work in: which bytes are left in it is open, only that there are as many.
 pub fn first_alike<'a>(rows: Rows<'a>, p: &mut [u8], q: &mut [u8]) -> Option<Machine<'a>>
-    ensures { MatchOption result
+    ensures alike { MatchOption result
         (((has_machine rows.entry && (eqb (length p.old) rows.entry.states && eqb (length q.old) rows.entry.states)) ≡ false) × (p.new ≡ p.old))
         (λ m. ((has_machine rows.entry && (eqb (length p.old) rows.entry.states && eqb (length q.old) rows.entry.states)) ≡ true)
         × (m.rows ≡ rows.entry) × (p.new ≡ blocks (machine_in rows.entry))) }
+    ensures q_after { length q.new ≡ length q.old }
 {
     let m = rows.machine()?;
     if p.len() != rows.states || q.len() != rows.states {

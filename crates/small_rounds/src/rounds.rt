@@ -1,34 +1,44 @@
 // The rounds of refinement: the partition by signals, then by the classes of the targets, until nothing changes.
 ghost use Rattle.std.specs.Prelude.{◌≡◌, ◌≤◌, ◌<◌, length, slice_index};
 ghost use Rattle.base_lists.specs.Lists.{tabulate, all_below};
+ghost use Rattle.theory_minimal.specs.Proposal.{class_of};
 ghost use Rattle.theory_minimal.specs.Refine.{leader, same_row, same_target, refine, blocks};
 ghost use Rattle.small_rounds.specs.Rows.{machine_in};
 
 use crate::stored::Machine;
 
 impl Machine<'_> {
-    // The signal of state j.
+    // The signal of state j, for any j: the byte at its place, 0 past the rows.
     pub fn signal(self, j: usize) -> u8
-        requires { j < self.rows.states }
         ensures { result ≡ (machine_in self.entry.rows).signal j }
     {
-        self.rows.bytes[j * (self.rows.head + self.rows.symbols)]
+        let at = j.saturating_mul(self.rows.head + self.rows.symbols);
+        self.rows.bytes.get(at).copied().unwrap_or(0)
     }
 
-    // Where state j goes on symbol s.
+    // Where state j goes on symbol s, for any two: the byte at that place, 0 past the rows.
     pub fn target(self, j: usize, s: usize) -> u8
-        requires { (j < self.rows.states) × (s < self.rows.symbols) }
-        ensures { (result ≡ (machine_in self.entry.rows).target j s) × (result < self.entry.rows.states) }
+        ensures { result ≡ (machine_in self.entry.rows).target j s }
     {
-        self.rows.bytes[j * (self.rows.head + self.rows.symbols) + self.rows.head + s]
+        let row = j.saturating_mul(self.rows.head + self.rows.symbols);
+        let at = row.saturating_add(self.rows.head).saturating_add(s);
+        self.rows.bytes.get(at).copied().unwrap_or(0)
     }
 
-    // The class of where state j goes on symbol s.
+    // The class of where state j goes on symbol s, for any two and any classes: 0 where p has none for it.
     pub fn class_after(self, p: &[u8], j: usize, s: usize) -> u8
+        ensures { result ≡ class_of p.now ((machine_in self.entry.rows).target j s) }
+    {
+        p.get(usize::from(self.target(j, s))).copied().unwrap_or(0)
+    }
+
+    // The class of where a state goes on symbol s, by where its targets begin.
+    fn class_at(self, p: &[u8], j: usize, s: usize) -> u8
         requires { (length p.now ≡ self.rows.states) × (j < self.rows.states) × (s < self.rows.symbols) }
         ensures { result ≡ slice_index p.now ((machine_in self.entry.rows).target j s) }
     {
-        p[usize::from(self.target(j, s))]
+        let target = self.rows.bytes[j * (self.rows.head + self.rows.symbols) + self.rows.head + s];
+        p[usize::from(target)]
     }
 
     // States i and j have one class, and so have their targets for each symbol.
@@ -44,7 +54,7 @@ impl Machine<'_> {
         requires { (length p.now ≡ self.rows.states) × (i < self.rows.states) × (j < self.rows.states) }
         ensures { result ≡ all_below self.entry.rows.symbols (same_target (machine_in self.entry.rows) p.now i j) }
     {
-        (0..self.rows.symbols).all(|s| self.class_after(p, i, s) == self.class_after(p, j, s))
+        (0..self.rows.symbols).all(|s| self.class_at(p, i, s) == self.class_at(p, j, s))
     }
 
     // The first state that the classes do not tell from state i.
@@ -86,7 +96,7 @@ impl Machine<'_> {
             if *p == *q {
                 return;
             }
-            p.copy_from_slice(q);
+            base_bytes::lent::copy(q, p);
         }
     }
 }

@@ -1,12 +1,12 @@
 -- Laws of the answer where bytes are asked for in a lent buffer.
-use Prim.Native.Nat.{ℕ, ◌-◌, ◌≤◌, ◌<◌}
+use Prim.Native.Nat.{ℕ, ◌+◌, ◌-◌, ◌≤◌, ◌<◌, ◌/◌, ◌%◌}
 use mathlib.Core.Path.{◌≡◌, refl, sym, ap, ◌∙◌}
-use mathlib.Core.List.{List, ◌++◌}
-use lib.ListN.{length, take, drop, replicate, length-append, length-take, length-drop, length-replicate}
+use mathlib.Core.List.{List, [], ◌∷◌, ◌++◌, append_assoc}
+use lib.ListN.{length, set, take, drop, replicate, length-append, length-take, length-drop, length-replicate}
 use borrow.Author.Tests.{ne_eqb, lt-ltb, le-ltb}
 use native.Mathlib.Omega.{arith}
 use Rattle.base_bytes.specs.Built.{refused, accepted}
-use Rattle.base_lists.proofs.Over.{over-all, over-front, length_over, over-lend}
+use Rattle.base_lists.proofs.Over.{over-all, over-set, over-front, length_over, over-lend}
 use Rattle.base_lists.specs.Lists.{over}
 use Rattle.small_write.specs.Answer.{refusal_in, answer_in, buffer_in}
 
@@ -43,3 +43,14 @@ two-parts bytes b h z n n-is fit h-is b₁ b₂ z-is e₁ e₂ =
     ∙ over-lend bytes b n rest zeros (sym n-is) z-long in
     o₂ ∙ over-all (bytes ++ zeros) b (length-append bytes zeros ∙ omega (arith, n-is, z-long, b-long))
     ∙ ap (λ x. bytes ++ replicate (length b₁ - x) 0) n-is ∙ ap (λ x. bytes ++ replicate (x - length bytes) 0) b-long
+
+-- the two bytes of a count behind what stands in front
+pub head-written : (front head₀ head : List ℕ) (count : ℕ) → length head₀ ≡ length front + 2 → head ≡ over front head₀
+    → set (set head (length front) (count % 256)) (length front + 1) (count / 256) ≡ front ++ count % 256 ∷ count / 256 ∷ []
+head-written front head₀ head count l g =
+    ap (λ x. set (set x (length front) (count % 256)) (length front + 1) (count / 256)) g
+    ∙ ap (λ x. set x (length front + 1) (count / 256)) (over-set front head₀ (length front) (count % 256) refl (omega arith))
+    ∙ over-set (front ++ count % 256 ∷ []) head₀ (length front + 1) (count / 256) (length-append front (count % 256 ∷ [])) (omega arith)
+    ∙ over-all ((front ++ count % 256 ∷ []) ++ count / 256 ∷ []) head₀
+    (length-append (front ++ count % 256 ∷ []) (count / 256 ∷ []) ∙ omega (arith, length-append front (count % 256 ∷ [])))
+    ∙ append_assoc front (count % 256 ∷ []) (count / 256 ∷ [])

@@ -40,7 +40,7 @@ fn put_head(front: &[u8], count: usize, head: &mut [u8])
     ensures { head.new ≡ front.now ++ count % 256 ∷ count / 256 ∷ [] }
 {
     let z = front.len();
-    head[..z].copy_from_slice(front);
+    base_bytes::lent::copy(front, &mut head[..z]);
     head[z] = (count % 256) as u8;
     head[z + 1] = (count / 256) as u8;
 }

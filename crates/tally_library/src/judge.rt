@@ -24,7 +24,7 @@ fn counted(refusals: &mut [u32], r: Resolution) -> Resolution
             refusals[place] = n;
             r
         }
-        None => refused(Refusal::NotCounted),
+        None => refused(u8::from(Refusal::NotCounted)),
     }
 }
 
@@ -37,10 +37,10 @@ fn resolved(t: &[u8], n: usize, v: &[u8]) -> Option<Resolution>
             if n < d.signals {
                 None
             } else {
-                Some(resolve_library::by::plain(t, &d, v))
+                Some(resolve_library::by::accepted(t, &d, v))
             }
         }
-        Err(r) => Some(value_first(v, r)),
+        Err(r) => Some(value_first(v, u8::from(r))),
     }
 }
 
@@ -51,10 +51,10 @@ pub(crate) fn judge(t: &[u8], n: usize, refusals: &mut [u32], v: &[u8]) -> Resol
         × (refusals.new ≡ judged_counts t.now n refusals.old v.now) }
 {
     if refusals.len() < TALLY_COUNTS {
-        return refused(Refusal::NotCounted);
+        return refused(u8::from(Refusal::NotCounted));
     }
     match resolved(t, n, v) {
         Some(r) => counted(refusals, r),
-        None => refused(Refusal::NotCounted),
+        None => refused(u8::from(Refusal::NotCounted)),
     }
 }

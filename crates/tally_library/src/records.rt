@@ -42,6 +42,6 @@ pub(crate) fn add(records: &mut [Tally], s: usize, r: Resolution) -> Resolution
             records[s] = after;
             r
         }
-        None => refused(Refusal::NotCounted),
+        None => refused(u8::from(Refusal::NotCounted)),
     }
 }

@@ -4,7 +4,7 @@ use native.Mathlib.Omega.{arith}
 use Rattle.log_library.specs.Log.{calls_from}
 use Rattle.log_library.specs.Verdict.{judged}
 use Rattle.log_library.proofs.JudgeLaws.{turn_on, turn-wrong, turn_end}
-use Rattle.resolve_library.proofs.ByTableLaws.{plain-means}
+use Rattle.resolve_library.proofs.ByTableLaws.{accepted-means}
 use Rattle.log_library.proofs.judge.Goals as goal
 
 pub loop-k-init : goal.loop-k-init
@@ -31,7 +31,7 @@ pub returns-then-not-says : goal.returns-then-not-says
 returns-then-not-says c =
     let l = c.loop-k in
     turn-wrong c.args.t.now c.args.log.now (c.word-calls.result - l.k) l.at l.k l.invariant.0 (c.word-calls.result - (l.k + 1))
-    (omega (arith, c.loop-k-test.true)) c.word-n.ensures.0 c.part.ensures (c.plain-r.ensures ∙ plain-means _ _ _ c.requires)
+    (omega (arith, c.loop-k-test.true)) c.word-n.ensures.0 c.part.ensures (c.accepted-r.ensures ∙ accepted-means _ _ _ c.requires)
     c.says.ensures c.if-not-says.true c.differs.ensures
 
 pub overflow_add-at-in-loop-k : goal.overflow_add-at-in-loop-k
@@ -41,7 +41,7 @@ pub loop-k-preserved : goal.loop-k-preserved
 loop-k-preserved c =
     let l = c.loop-k in (
       turn_on c.args.t.now c.args.log.now (c.word-calls.result - l.k) l.at l.k l.invariant.0 (c.word-calls.result - (l.k + 1))
-          (omega (arith, c.loop-k-test.true)) c.word-n.ensures.0 c.part.ensures (c.plain-r.ensures ∙ plain-means _ _ _ c.requires)
+          (omega (arith, c.loop-k-test.true)) c.word-n.ensures.0 c.part.ensures (c.accepted-r.ensures ∙ accepted-means _ _ _ c.requires)
           c.says.ensures c.if-not-says.false,
       omega (arith, l.invariant.1, c.word-n.ensures.1),
     )

@@ -1,5 +1,6 @@
 use mathlib.Core.Path.{◌∙◌}
 use native.Mathlib.Omega.{arith}
+use Rattle.resolve_run.proofs.AnswerLaws.{first-by}
 use Rattle.resolve_small.proofs.WalkLaws.{over-table}
 use Rattle.resolve_small.proofs.resolve.Goals as goal
 
@@ -10,4 +11,4 @@ pub returns-in-Ok : goal.returns-in-Ok
 returns-in-Ok c = c.walk.ensures
 
 pub returns-in-Err : goal.returns-in-Err
-returns-in-Err c = c.value_first.ensures ∙ over-table _ _ _ _ _ c.in-Err.ensures
+returns-in-Err c = first-by _ c.value_first.ensures c.from.ensures ∙ over-table _ _ _ _ _ c.in-Err.ensures

@@ -1,4 +1,5 @@
-use Rattle.std.proofs.Common.{rules, ◌≡◌, arith}
+use Rattle.std.proofs.Common.{rules, ◌≡◌, ◌∙◌, arith}
+use Rattle.base_lists.proofs.Over.{laid-all}
 use Rattle.small_rounds.specs.Rows.{machine_in}
 use Rattle.small_rounds.proofs.RoundLaws.{rounds-begin, rounds-end, rounds-more, rounds-all}
 use Rattle.small_rounds.proofs.stored.Machine.blocks.Goals as goal
@@ -13,7 +14,8 @@ returns-then-eq c =
 
 pub loop-preserved : goal.loop-preserved
 loop-preserved c =
-    rounds-more (machine_in c.args.self.rows) c.loop.p c.refine.new.q _ c.loop.counter c.loop.invariant c.refine.ensures (search rules)
+    rounds-more (machine_in c.args.self.rows) c.loop.p c.refine.new.q _ c.loop.counter c.loop.invariant c.refine.ensures
+    (c.copy.ensures ∙ laid-all _ _ (omega (arith, c.requires.0, c.requires.1, c.loop.auto.p, c.loop.auto.q, c.refine.auto.q)))
 
 pub returns : goal.returns
 returns c = rounds-all (machine_in c.args.self.rows) c.loop.p c.loop.counter (omega arith) (omega arith) c.loop.invariant

@@ -3,7 +3,7 @@ use native.Mathlib.Nat.{sub-zero}
 use mathlib.Core.Path.{ap, sym, ◌∙◌}
 use Rattle.machine_symbols.specs.Listed.{triple_index}
 use Rattle.machine_symbols.proofs.SymbolLaws.{index-found, index-more, index-end}
-use Rattle.machine_symbols.proofs.Symbols.find.Goals as goal
+use Rattle.machine_symbols.proofs.Lent.find.Goals as goal
 
 pub loop-k-init : goal.loop-k-init
 loop-k-init c = ap (triple_index _ _ _ _ 0) (sym (sub-zero _))

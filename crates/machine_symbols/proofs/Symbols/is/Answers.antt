@@ -1,5 +1,0 @@
-use Rattle.machine_symbols.proofs.SymbolLaws.{triple-is}
-use Rattle.machine_symbols.proofs.Symbols.is.Goals as goal
-
-pub returns : goal.returns
-returns c = triple-is _ c.args.s c.args.k c.get.ensures c.eq.ensures
