@@ -69,9 +69,9 @@ module _ (im : List ℕ) (cats j : ℕ) {i : ℕ} (e : i ≡ place_of cats im j)
       → r ≡ status_formed_by fits cats im j c
   test-is fits g c f t = t ∙ ap₂ (λ x y. fits x c y) g (status-is c f)
 
--- the first n states are read
-abbrev pub ReadTo : ℕ → List ℕ → List Packed → ℕ → Type 0
-ReadTo cats im states n = (j : ℕ) → j < n → get_or states j begin ≡ packed_in cats im j
+-- the statuses of the first n states are read
+abbrev pub ReadTo : ℕ → List ℕ → List ℕ → ℕ → Type 0
+ReadTo cats im statuses n = (j : ℕ) → j < n → get_or statuses j 0 ≡ (packed_in cats im j).statuses
 
 -- every byte is one of 256 states
 pub below_all : (im : List ℕ) (cats j : ℕ) {n : ℕ} → ((k : ℕ) → get_or im k 0 < 256) → most_states ≤ n → n ≡ state_count im

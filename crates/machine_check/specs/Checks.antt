@@ -21,9 +21,9 @@ image_bound = 18000000
 abbrev pub packed_in : ℕ → List ℕ → ℕ → Packed
 packed_in cats im j = record { signal = signal_in cats im j; statuses = word_of im (place_of cats im j + 1) cats }
 
--- some states of an image, from the first on
-pub record Read (cats : ℕ) (im : List ℕ) (states : List Packed) : Type 0 where
-  pub held : (j : ℕ) → j < length states → get_or states j begin ≡ packed_in cats im j
+-- the statuses of some states of an image, from the first on
+pub record Read (cats : ℕ) (im : List ℕ) (statuses : List ℕ) : Type 0 where
+  pub held : (j : ℕ) → j < length statuses → get_or statuses j 0 ≡ (packed_in cats im j).statuses
 
 -- the byte of category c in state j is one that it can have there, by a test of signal, category and byte
 abbrev pub status_formed_by : (ℕ → ℕ → ℕ → Bool) → ℕ → List ℕ → ℕ → ℕ → Bool

@@ -247,6 +247,9 @@ module _ {A : Type 0} (s : ℕ) (f : ℕ → Tagged A) where
   unfolding of_signal tabulate
   none-counted = refl
 
+  pub counted-end : {n : ℕ} (i m : ℕ) → i ≤ m → m ≤ i → n ≡ length (of_signal s (tabulate f i)) → n ≡ length (of_signal s (tabulate f m))
+  counted-end i m h k v = v ∙ ap (λ (l : List (Tagged A)). length (of_signal s l)) (tab-same-end f i m h k)
+
 -- how many of a signal's front pass
 pub counted_front : (signal number : List ℕ) (s m : ℕ) → m ≤ length signal
     → count_by (λ x. eqb x s) (take m signal) ≡ length (of_signal s (tabulate (number_at signal number) m))

@@ -41,5 +41,12 @@ pub fn count_of(
     if MOST_TABLE_URNS < m {
         return 0;
     }
-    signal[..m].iter().filter(|x| usize::from(**x) == s).count()
+    let mut n: usize = 0;
+    // By the index and not by a filter: so the compiler looks at many at once.
+    for i in 0..m {
+        if usize::from(signal[i]) == s {
+            n += 1;
+        }
+    }
+    n
 }

@@ -72,6 +72,7 @@ fn judge_sizes(
 }
 
 // A stored tree, decoded.
+#[inline(always)]
 pub fn decode(t: &[u8]) -> Result<Decoded, Refusal>
     ensures { Means t.now result }
 {

@@ -66,6 +66,7 @@ fn read_rest(
 }
 
 // The whole table: the three sections, and nothing after them.
+#[inline(always)]
 pub fn read(t: &[u8]) -> Result<Sections, Refusal>
     ensures { Reads t.now result }
 {

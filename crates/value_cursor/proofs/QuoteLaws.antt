@@ -73,6 +73,13 @@ module _ (s : List ℕ) (at : ℕ) where
       let l = subst (QuoteLands s at) (sym e ∙ f) (quote-lands s at) in
       (walk-move (quoted_step s) None s at (λ p. p) c.at (ap quote_move (sym e ∙ f)) l.0 l.1, l.0, l.1)
 
+  -- an escaped byte is passed
+  pub escaped-more : get_or s at 0 ≡ 92 → at + 1 < length s → {x : Bool} → x ≡ is_escapable (get_or s (at + 1) 0) → x ≡ true
+      → quoted_from s at ≡ quoted_from s (at + 2)
+  escaped-more e h f g =
+      let z : at + 1 + 1 ≡ at + 2 = omega arith in
+      (quoted-more _ (record { at = at + 1 + 1 }) (quote-here s at refl e refl) (sym (escape-passed s (at + 1) h f g))).0 ∙ ap (quoted_from s) z
+
   -- a byte of text is passed
   module _ (h : at < length s) (t : is_text (get_or s at 0) ≡ true) where
     same_step : quoted_step s at ≡ quoted_step s (at + 1)

@@ -2,4 +2,4 @@ use Rattle.machine_check.proofs.ImageLaws.{ReadTo}
 use Rattle.machine_check.proofs.rows.read_states.Given as goal
 
 abbrev pub invariant-loop-j : goal.invariant-loop-j
-invariant-loop-j l = ReadTo l.categories l.im l.states l.j
+invariant-loop-j l = ReadTo l.categories l.im l.statuses l.j

@@ -9,13 +9,13 @@ pub returns-then-peek-ne34 : goal.returns-then-peek-ne34
 returns-then-peek-ne34 c = unopened _ _ _ c.peek.ensures c.if-peek-ne34.true
 
 pub returns-in_err-n : goal.returns-in_err-n
-returns-in_err-n c = c.from_residual.ensures ∙ sym (opened c.args.s.now c.args.self.at (sym c.peek.ensures ∙ c.if-peek-ne34.false) ∙ c.loop-n.invariant ∙ quoted-halt _ _ _ _ _ c.quoted_text.ensures c.in_err-n.was refl)
+returns-in_err-n c = c.from_residual.ensures ∙ sym (opened c.args.s.now c.args.self.at (sym c.peek.ensures ∙ c.if-peek-ne34.false) ∙ c.loop-n.invariant ∙ c.escapes.ensures.0 ∙ quoted-halt _ _ _ _ _ c.quoted_text.ensures c.in_err-n.was refl)
 
 pub loop-n-smaller : goal.loop-n-smaller
-loop-n-smaller c = omega (arith, quoted-more c.args.s.now c.loop-n.c.at _ _ c.quoted_text.ensures (c.in_ok-n.was ∙ ap Some c.in-Escaped.is))
+loop-n-smaller c = omega (arith, c.escapes.ensures.1, quoted-more c.args.s.now c.escapes.result.at _ _ c.quoted_text.ensures (c.in_ok-n.was ∙ ap Some c.in-Escaped.is))
 
 pub loop-n-preserved : goal.loop-n-preserved
-loop-n-preserved c = c.loop-n.invariant ∙ (quoted-more c.args.s.now c.loop-n.c.at _ _ c.quoted_text.ensures (c.in_ok-n.was ∙ ap Some c.in-Escaped.is)).0
+loop-n-preserved c = c.loop-n.invariant ∙ c.escapes.ensures.0 ∙ (quoted-more c.args.s.now c.escapes.result.at _ _ c.quoted_text.ensures (c.in_ok-n.was ∙ ap Some c.in-Escaped.is)).0
 
 pub returns-in-Closed : goal.returns-in-Closed
-returns-in-Closed c = sym (opened c.args.s.now c.args.self.at (sym c.peek.ensures ∙ c.if-peek-ne34.false) ∙ c.loop-n.invariant ∙ quoted-halt _ _ _ _ _ c.quoted_text.ensures (c.in_ok-n.was ∙ ap Some c.in-Closed.is) refl)
+returns-in-Closed c = sym (opened c.args.s.now c.args.self.at (sym c.peek.ensures ∙ c.if-peek-ne34.false) ∙ c.loop-n.invariant ∙ c.escapes.ensures.0 ∙ quoted-halt _ _ _ _ _ c.quoted_text.ensures (c.in_ok-n.was ∙ ap Some c.in-Closed.is) refl)
