@@ -1,6 +1,6 @@
 -- Laws of reading and checking an image at a turn of a loop, over plain variables.
 use Prim.Native.Nat.{ℕ, suc, ◌+◌, ◌-◌, ◌*◌, ◌^◌, ◌≤◌, ◌<◌, max}
-use mathlib.Core.Path.{◌≡◌, refl, sym, ap, ap₂, ◌∙◌}
+use mathlib.Core.Path.{◌≡◌, refl, sym, ap, ap₂, ◌∙◌, subst}
 use mathlib.Core.Bool.{Bool, true, false, ◌&&◌, true≢false}
 use mathlib.Core.List.{List}
 use lib.Dec.{ltb, leb}
@@ -15,12 +15,13 @@ use Rattle.base_numbers.specs.Numbers.{most_states, most_symbols}
 use Rattle.base_lists.specs.Numbers.{word_of}
 use Rattle.base_lists.proofs.Below.{all-to, all_of}
 use Rattle.base_lists.proofs.Bools.{same_test}
+use Rattle.base_lists.proofs.Tabulated.{tabulate-length, tabulate-at}
 use Rattle.base_lists.specs.Lists.{all_below}
 use Rattle.node_step.specs.StatusByte.{same_packed}
 use Rattle.node_step.specs.declared.stored.Packed.{Packed}
 use Rattle.machine_image.specs.Image.{symbol_count, state_count, place_of, signal_in, byte_in, target_in}
 use Rattle.machine_symbols.specs.Steps.{begin}
-use Rattle.machine_check.specs.Checks.{packed_in, status_formed_by, below_by, form_by, target_right_by}
+use Rattle.machine_check.specs.Checks.{packed_in, Read, ReadStatuses, states_with, status_formed_by, below_by, form_by, target_right_by}
 
 pub count-is : (im : List ℕ) {m low high : ℕ} → m ≡ get_or im 0 0 → low ≡ get_or im (3 * m + 1) 0 → high ≡ get_or im (3 * m + 2) 0 → low + 256 * high ≡ state_count im
 count-is im e f g =
@@ -69,9 +70,26 @@ module _ (im : List ℕ) (cats j : ℕ) {i : ℕ} (e : i ≡ place_of cats im j)
       → r ≡ status_formed_by fits cats im j c
   test-is fits g c f t = t ∙ ap₂ (λ x y. fits x c y) g (status-is c f)
 
+-- the first n states are read
+abbrev pub ReadTo : ℕ → List ℕ → List Packed → ℕ → Type 0
+ReadTo cats im states n = (j : ℕ) → j < n → get_or states j begin ≡ packed_in cats im j
+
 -- the statuses of the first n states are read
-abbrev pub ReadTo : ℕ → List ℕ → List ℕ → ℕ → Type 0
-ReadTo cats im statuses n = (j : ℕ) → j < n → get_or statuses j 0 ≡ (packed_in cats im j).statuses
+abbrev pub StatusesTo : ℕ → List ℕ → List ℕ → ℕ → Type 0
+StatusesTo cats im statuses n = (j : ℕ) → j < n → get_or statuses j 0 ≡ (packed_in cats im j).statuses
+
+-- where statuses are read, so are the states that have them
+pub states-to : (cats : ℕ) (im statuses : List ℕ) {n : ℕ} → n ≤ length statuses → StatusesTo cats im statuses n → ReadTo cats im (states_with cats im statuses) n
+states-to cats im statuses h r j l =
+    let f : ℕ → Packed = λ k. record { signal = signal_in cats im k; statuses = get_or statuses k 0 } in
+    tabulate-at f (length statuses) j begin (omega (arith, h, l)) ∙ ap (λ (x : ℕ). record { signal = signal_in cats im j; statuses = x }) (r j l)
+
+pub states-read : (cats : ℕ) (im statuses : List ℕ) → ReadStatuses cats im statuses → Read cats im (states_with cats im statuses)
+states-read cats im statuses r = record {
+  held = λ j h.
+      let f : ℕ → Packed = λ k. record { signal = signal_in cats im k; statuses = get_or statuses k 0 } in
+      states-to cats im statuses (omega arith) r.held j (subst (λ n. j < n) (tabulate-length f (length statuses)) h);
+}
 
 -- every byte is one of 256 states
 pub below_all : (im : List ℕ) (cats j : ℕ) {n : ℕ} → ((k : ℕ) → get_or im k 0 < 256) → most_states ≤ n → n ≡ state_count im

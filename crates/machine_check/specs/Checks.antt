@@ -6,7 +6,7 @@ use Rattle.base_numbers.specs.Refusals.{refusal_number}
 use Rattle.base_numbers.specs.declared.refusal.Refusal.{Refusal}
 use Rattle.base_numbers.specs.declared.refusal.Refusal.TheVariants.{ImageBadForm, ImageWrongStart, ImageWrongTarget}
 use Rattle.base_lists.specs.Numbers.{word_of}
-use Rattle.base_lists.specs.Lists.{all_below}
+use Rattle.base_lists.specs.Lists.{tabulate, all_below}
 use Rattle.theory_resolution.specs.Names.{same_name}
 use Rattle.node_step.specs.StatusByte.{same_packed}
 use Rattle.node_step.specs.declared.stored.Packed.{Packed}
@@ -21,8 +21,16 @@ image_bound = 18000000
 abbrev pub packed_in : ℕ → List ℕ → ℕ → Packed
 packed_in cats im j = record { signal = signal_in cats im j; statuses = word_of im (place_of cats im j + 1) cats }
 
+-- some states of an image, from the first on
+pub record Read (cats : ℕ) (im : List ℕ) (states : List Packed) : Type 0 where
+  pub held : (j : ℕ) → j < length states → get_or states j begin ≡ packed_in cats im j
+
+-- the states that have these statuses, and the signals that stand in an image
+abbrev pub states_with : ℕ → List ℕ → List ℕ → List Packed
+states_with cats im statuses = tabulate (λ j. record { signal = signal_in cats im j; statuses = get_or statuses j 0 }) (length statuses)
+
 -- the statuses of some states of an image, from the first on
-pub record Read (cats : ℕ) (im : List ℕ) (statuses : List ℕ) : Type 0 where
+pub record ReadStatuses (cats : ℕ) (im : List ℕ) (statuses : List ℕ) : Type 0 where
   pub held : (j : ℕ) → j < length statuses → get_or statuses j 0 ≡ (packed_in cats im j).statuses
 
 -- the byte of category c in state j is one that it can have there, by a test of signal, category and byte

@@ -51,8 +51,23 @@ impl Symbol {
 }
 
 impl Symbols {
-    // Symbol k.
-    pub(crate) fn get(&self, k: usize) -> Symbol
+    // Symbol k, for any k: past the last place it is of zeros.
+    pub fn get(&self, k: usize) -> Symbol
+        ensures { result ≡ symbol_in self.now.bytes k }
+    {
+        if k < MOST_SYMBOLS {
+            self.at(k)
+        } else {
+            Symbol {
+                category: 0,
+                node: 0,
+                kind: 0,
+            }
+        }
+    }
+
+    // Symbol k, for which there is a place.
+    pub(crate) fn at(&self, k: usize) -> Symbol
         requires { k < most_symbols }
         ensures { result ≡ symbol_in self.now.bytes k }
     {
@@ -127,7 +142,7 @@ impl Symbols {
     {
         let mut index = [0u8; SLOTS];
         for k in (0..self.count.min(MOST_SYMBOLS)).rev() {
-            let s = self.get(k).slot();
+            let s = self.at(k).slot();
             if s < SLOTS {
                 index[s] = k as u8;
             }
@@ -280,4 +295,39 @@ pub fn list(d: &Decoded) -> Symbols
     }
     symbols.index = symbols.slots();
     symbols
+}
+
+#[cfg(test)]
+mod tests {
+    use super::*;
+
+    #[test]
+    fn a_symbol_by_its_number(rt: HostRuntime) {
+        let mut bytes = [0; MOST_SYMBOL_BYTES];
+        bytes[3] = 2;
+        bytes[4] = 9;
+        bytes[5] = 1;
+        bytes[MOST_SYMBOL_BYTES - 1] = 1;
+        let symbols = Symbols {
+            count: 2,
+            bytes,
+            index: [0; SLOTS],
+        };
+        let zeros = Symbol {
+            category: 0,
+            node: 0,
+            kind: 0,
+        };
+        let second = Symbol {
+            category: 2,
+            node: 9,
+            kind: 1,
+        };
+        let last = Symbol { kind: 1, ..zeros };
+        assert_eq!(rt; symbols.get(0), zeros);
+        assert_eq!(rt; symbols.get(1), second);
+        assert_eq!(rt; symbols.get(MOST_SYMBOLS - 1), last);
+        assert_eq!(rt; symbols.get(MOST_SYMBOLS), zeros);
+        assert_eq!(rt; symbols.get(usize::MAX), zeros);
+    }
 }

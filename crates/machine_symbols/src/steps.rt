@@ -14,7 +14,7 @@ pub fn next(d: &Decoded, symbols: &Symbols, st: Packed, k: usize) -> Packed
     if MOST_SYMBOLS <= k {
         return st;
     }
-    let s = symbols.get(k);
+    let s = symbols.at(k);
     let whole = s.kind == 0;
     let c = usize::from(s.category);
     step_packed(d, st, c, s.node, whole)
