@@ -78,12 +78,13 @@ ReadTo cats im states n = (j : ℕ) → j < n → get_or states j begin ≡ pack
 abbrev pub StatusesTo : ℕ → List ℕ → List ℕ → ℕ → Type 0
 StatusesTo cats im statuses n = (j : ℕ) → j < n → get_or statuses j 0 ≡ (packed_in cats im j).statuses
 
--- where statuses are read, so are the states that have them
+-- where the first n statuses are read, and there are n, so are the first n states that have them
 pub states-to : (cats : ℕ) (im statuses : List ℕ) {n : ℕ} → n ≤ length statuses → StatusesTo cats im statuses n → ReadTo cats im (states_with cats im statuses) n
 states-to cats im statuses h r j l =
     let f : ℕ → Packed = λ k. record { signal = signal_in cats im k; statuses = get_or statuses k 0 } in
     tabulate-at f (length statuses) j begin (omega (arith, h, l)) ∙ ap (λ (x : ℕ). record { signal = signal_in cats im j; statuses = x }) (r j l)
 
+-- the same of all of them
 pub states-read : (cats : ℕ) (im statuses : List ℕ) → ReadStatuses cats im statuses → Read cats im (states_with cats im statuses)
 states-read cats im statuses r = record {
   held = λ j h.

@@ -102,5 +102,10 @@ mod tests {
         };
         assert!(rt; is_right(&im, 2, &first, 1, st));
         assert!(rt; !is_right(&im, 2, &first, 1, Packed { signal: 3, ..st }));
+        let other = Packed {
+            statuses: 0x0700,
+            ..st
+        };
+        assert!(rt; !is_right(&im, 2, &first, 1, other));
     }
 }
