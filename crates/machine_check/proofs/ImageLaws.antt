@@ -21,7 +21,7 @@ use Rattle.node_step.specs.StatusByte.{same_packed}
 use Rattle.node_step.specs.declared.stored.Packed.{Packed}
 use Rattle.machine_image.specs.Image.{symbol_count, state_count, place_of, signal_in, byte_in, target_in}
 use Rattle.machine_symbols.specs.Steps.{begin}
-use Rattle.machine_check.specs.Checks.{packed_in, Read, ReadStatuses, states_with, status_formed_by, below_by, form_by, target_right_by}
+use Rattle.machine_check.specs.Checks.{packed_in, Read, ReadStatuses, state_with, states_with, status_formed_by, below_by, form_by, target_right_by}
 
 pub count-is : (im : List ℕ) {m low high : ℕ} → m ≡ get_or im 0 0 → low ≡ get_or im (3 * m + 1) 0 → high ≡ get_or im (3 * m + 2) 0 → low + 256 * high ≡ state_count im
 count-is im e f g =
@@ -79,17 +79,18 @@ abbrev pub StatusesTo : ℕ → List ℕ → List ℕ → ℕ → Type 0
 StatusesTo cats im statuses n = (j : ℕ) → j < n → get_or statuses j 0 ≡ (packed_in cats im j).statuses
 
 -- where the first n statuses are read, and there are n, so are the first n states that have them
-pub states-to : (cats : ℕ) (im statuses : List ℕ) {n : ℕ} → n ≤ length statuses → StatusesTo cats im statuses n → ReadTo cats im (states_with cats im statuses) n
+pub states-to : (cats : ℕ) (im statuses : List ℕ) {n : ℕ} → n ≤ length statuses → StatusesTo cats im statuses n
+    → ReadTo cats im (states_with cats im statuses) n
 states-to cats im statuses h r j l =
-    let f : ℕ → Packed = λ k. record { signal = signal_in cats im k; statuses = get_or statuses k 0 } in
-    tabulate-at f (length statuses) j begin (omega (arith, h, l)) ∙ ap (λ (x : ℕ). record { signal = signal_in cats im j; statuses = x }) (r j l)
+    tabulate-at (state_with cats im statuses) (length statuses) j begin (omega (arith, h, l))
+    ∙ ap (λ (x : ℕ). record { signal = signal_in cats im j; statuses = x }) (r j l)
 
 -- the same of all of them
 pub states-read : (cats : ℕ) (im statuses : List ℕ) → ReadStatuses cats im statuses → Read cats im (states_with cats im statuses)
 states-read cats im statuses r = record {
   held = λ j h.
-      let f : ℕ → Packed = λ k. record { signal = signal_in cats im k; statuses = get_or statuses k 0 } in
-      states-to cats im statuses (omega arith) r.held j (subst (λ n. j < n) (tabulate-length f (length statuses)) h);
+      states-to cats im statuses (omega arith) r.held j
+      (subst (λ n. j < n) (tabulate-length (state_with cats im statuses) (length statuses)) h);
 }
 
 -- every byte is one of 256 states

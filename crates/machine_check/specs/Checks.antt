@@ -25,9 +25,13 @@ packed_in cats im j = record { signal = signal_in cats im j; statuses = word_of 
 pub record Read (cats : ℕ) (im : List ℕ) (states : List Packed) : Type 0 where
   pub held : (j : ℕ) → j < length states → get_or states j begin ≡ packed_in cats im j
 
--- the states that have these statuses, and the signals that stand in an image
+-- state j that has its statuses from a list, and its signal from an image
+abbrev pub state_with : ℕ → List ℕ → List ℕ → ℕ → Packed
+state_with cats im statuses j = record { signal = signal_in cats im j; statuses = get_or statuses j 0 }
+
+-- as many of these as the list is long
 abbrev pub states_with : ℕ → List ℕ → List ℕ → List Packed
-states_with cats im statuses = tabulate (λ j. record { signal = signal_in cats im j; statuses = get_or statuses j 0 }) (length statuses)
+states_with cats im statuses = tabulate (state_with cats im statuses) (length statuses)
 
 -- the statuses of some states of an image, from the first on
 pub record ReadStatuses (cats : ℕ) (im : List ℕ) (statuses : List ℕ) : Type 0 where

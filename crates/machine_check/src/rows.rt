@@ -39,7 +39,8 @@ fn is_right(im: &[u8], categories: usize, read: &[u64], j: usize, st: Packed) ->
 
 // The targets of state j are the right states.
 fn row_right(d: &Decoded, symbols: &Symbols, im: &[u8], read: &[u64], j: usize) -> bool
-    requires { (d.now.categories ≤ most_categories) × (symbols.now.count ≤ most_symbols) × (j < 65536) × ReadStatuses d.now.categories im.now read.now }
+    requires { (d.now.categories ≤ most_categories) × (symbols.now.count ≤ most_symbols) × (j < 65536)
+        × ReadStatuses d.now.categories im.now read.now }
     ensures { result ≡ row_right_by (next_state d.now.rows d.now.parent d.now.inner d.now.signals symbols.now.bytes) symbols.now.count d.now.categories im.now j }
 {
     let i = place(im, d.categories, j) + 1 + d.categories;
